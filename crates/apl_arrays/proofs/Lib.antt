@@ -1,0 +1,4 @@
+pub mod Places
+pub mod Order
+pub mod InTurn
+pub mod InOrder

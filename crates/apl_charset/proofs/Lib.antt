@@ -1,0 +1,4 @@
+pub mod Lines
+pub mod Members
+pub mod Unique
+pub mod Decodings

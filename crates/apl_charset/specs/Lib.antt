@@ -1,0 +1,3 @@
+pub mod Set
+pub mod Text
+pub mod Decoding

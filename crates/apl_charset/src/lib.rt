@@ -1,0 +1,12 @@
+//! The characters of the machine, texts of them, and lines of them as bytes.
+#![tactic(auto)]
+
+mod character;
+mod line;
+#[cfg(test)]
+mod tests;
+mod text;
+
+pub use character::Ch;
+pub use line::{CharFault, decode_line, encode, one_answer, one_decoding};
+pub use text::{Text, in_set, push_ascii};

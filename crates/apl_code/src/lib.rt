@@ -1,0 +1,12 @@
+//! Flat instructions, one for each phrase of a statement, and codes made of them.
+#![tactic(auto)]
+
+mod code;
+mod instr;
+mod row;
+#[cfg(test)]
+mod tests;
+
+pub use code::{Code, MOST};
+pub use instr::{Action, Arguments, Instr, Source};
+pub use row::{Ending, Function, Row, Variable};

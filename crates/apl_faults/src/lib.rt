@@ -1,0 +1,10 @@
+//! Faults and their reports.
+#![tactic(auto)]
+
+mod fault;
+mod reports;
+#[cfg(test)]
+mod tests;
+
+pub use fault::Fault;
+pub use reports::{Call, fault_line, report};

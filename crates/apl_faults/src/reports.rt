@@ -1,0 +1,81 @@
+// Reports of faults.
+ghost use Rattle.std.specs.Prelude.{◌≡◌, ◌≤◌, ◌<◌, ◌^◌, IfOk, replicate, ◌++◌, ◌∷◌, []};
+ghost use Rattle.apl_faults.specs.Report.{name_of, prefix, call_of, report};
+
+use crate::fault::Fault;
+use apl_charset::{Ch, Text, push_ascii};
+use itoa::Buffer;
+use std::alloc::{AllocError, Global};
+
+/// A standing call by its function's name and the number of its line.
+#[derive(Clone, Copy)]
+pub struct Call<'a> {
+    pub name: &'a [Ch],
+    pub line: usize,
+}
+
+/// What stands before the text of the faulty line.
+#[tactic(auto, unfolding(crate::specs::Report::prefix))]
+fn prefix(alloc: Global, call: Option<Call>) -> Result<Vec<Ch>, AllocError>
+    ensures { IfOk result (λ v. v.items ≡ prefix (call_of call.entry)) }
+{
+    let mut out = Vec::new(alloc);
+    match call {
+        None => push_ascii(&mut out, b"      ")?,
+        Some(call) => {
+            let mut digits = Buffer::new();
+            out.extend_from_slice(call.name)?;
+            push_ascii(&mut out, b"[")?;
+            push_ascii(&mut out, digits.format(call.line).as_bytes())?;
+            push_ascii(&mut out, b"] ")?;
+        }
+    }
+    Ok(out)
+}
+
+/// Blanks, and a caret after them.
+fn caret(alloc: Global, blanks: usize) -> Result<Text, AllocError>
+    ensures { IfOk result (λ t. t ≡ replicate blanks 32 ++ 94 ∷ []) }
+{
+    let mut out = Vec::new(alloc);
+    for _ in 0..blanks {
+        out.push(Ch::ascii(b' '))?;
+    }
+    out.push(Ch::ascii(b'^'))?;
+    Ok(Text::new(out))
+}
+
+/// The first line of a fault's report: its name.
+pub fn fault_line(alloc: Global, fault: Fault) -> Result<Text, AllocError>
+    ensures { IfOk result (λ t. t ≡ name_of fault) }
+{
+    let mut out = Vec::new(alloc);
+    push_ascii(&mut out, fault.name())?;
+    Ok(Text::new(out))
+}
+
+/// The lines of a fault's report: its name, the faulty line `text` behind its call, or behind six
+/// blanks where it was typed, and a caret under `column` of the text, counted from 1.
+#[tactic(auto, unfolding(crate::specs::Report::report))]
+pub fn report(
+    alloc: Global,
+    fault: Fault,
+    call: Option<Call>,
+    text: &[Ch],
+    column: usize,
+) -> Result<Vec<Text>, AllocError>
+    requires { (1 ≤ column) × (column < 2 ^ 32) }
+    ensures { IfOk result (λ v. v.items ≡ report fault (call_of call.entry) text.now column) }
+{
+    let mut lines = Vec::new(alloc);
+    lines.push(fault_line(alloc, fault)?)?;
+    if fault.is_alone() {
+        return Ok(lines);
+    }
+    let mut second = prefix(alloc, call)?;
+    let before = second.len();
+    second.extend_from_slice(text)?;
+    lines.push(Text::new(second))?;
+    lines.push(caret(alloc, before + (column - 1))?)?;
+    Ok(lines)
+}

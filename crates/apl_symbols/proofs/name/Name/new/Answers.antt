@@ -1,0 +1,6 @@
+use Rattle.std.proofs.Common.{arith}
+use Rattle.apl_symbols.proofs.Names.{laid_over}
+use Rattle.apl_symbols.proofs.name.Name.new.Goals as goal
+
+pub invariant_of-result : goal.invariant_of-result
+invariant_of-result c = laid_over _ _ _ c.copy_from_slice.ensures.after c.default-padded.ensures (omega arith)

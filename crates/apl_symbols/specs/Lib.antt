@@ -1,0 +1,4 @@
+pub mod Primitives
+pub mod Glyphs
+pub mod Padded
+pub mod SystemNames

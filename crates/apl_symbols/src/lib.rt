@@ -1,0 +1,15 @@
+//! What a statement is written with beside its constants: names, system names, primitive functions
+//! and the other symbols.
+#![tactic(auto)]
+
+mod name;
+mod primitive;
+mod symbol;
+mod system;
+#[cfg(test)]
+mod tests;
+
+pub use name::{MOST, Name};
+pub use primitive::{Operator, Primitive};
+pub use symbol::{Symbol, symbols_by_glyph};
+pub use system::SystemName;
