@@ -1,0 +1,17 @@
+pub mod Classes
+pub mod Digits
+pub mod Runs
+pub mod Bodies
+pub mod Fronts
+pub mod Sound
+pub mod Steps
+pub mod Complete
+pub mod Unique
+pub mod Pairs
+pub mod Joins
+pub mod OneAnswer
+pub mod Columns
+pub mod Progress
+pub mod Answered
+pub mod Limits
+pub mod Places

@@ -1,0 +1,79 @@
+// What a character may begin.
+ghost use Rattle.std.specs.Prelude.{◌≡◌};
+ghost use Rattle.apl_tokens.specs.Characters.{class_of, is_blank, is_digit, is_letter, is_in_name, ends_number, is_quote};
+
+use apl_charset::Ch;
+use apl_symbols::Symbol;
+
+/// What a character begins.
+#[derive(Clone, Copy, Debug)]
+pub enum Class {
+    Blank,
+    Digit,
+    /// `¯`
+    Minus,
+    Quote,
+    Letter,
+    /// `⍝`
+    Lamp,
+    Symbol(Symbol),
+    Other,
+}
+
+#[tactic(auto, unfolding(crate::specs::Characters::class_of))]
+pub fn class_of(c: Ch) -> Class
+    ensures { result ≡ class_of c }
+{
+    match c.code() {
+        ' ' => Class::Blank,
+        '0'..='9' => Class::Digit,
+        '¯' => Class::Minus,
+        '\'' => Class::Quote,
+        'A'..='Z' | 'a'..='z' | '∆' | '⍙' | '_' => Class::Letter,
+        '⍝' => Class::Lamp,
+        _ => match Symbol::new(c) {
+            Some(symbol) => Class::Symbol(symbol),
+            None => Class::Other,
+        },
+    }
+}
+
+impl Class {
+    pub fn is_blank(self) -> bool
+        ensures { result ≡ is_blank self }
+    {
+        matches!(self, Class::Blank)
+    }
+
+    pub fn is_digit(self) -> bool
+        ensures { result ≡ is_digit self }
+    {
+        matches!(self, Class::Digit)
+    }
+
+    pub fn is_letter(self) -> bool
+        ensures { result ≡ is_letter self }
+    {
+        matches!(self, Class::Letter)
+    }
+
+    /// Whether a name goes on with it.
+    pub fn is_in_name(self) -> bool
+        ensures { result ≡ is_in_name self }
+    {
+        matches!(self, Class::Letter | Class::Digit)
+    }
+
+    /// Whether it may stand directly after a number.
+    pub fn ends_number(self) -> bool
+        ensures { result ≡ ends_number self }
+    {
+        !matches!(self, Class::Digit | Class::Letter | Class::Minus)
+    }
+
+    pub fn is_quote(self) -> bool
+        ensures { result ≡ is_quote self }
+    {
+        matches!(self, Class::Quote)
+    }
+}
