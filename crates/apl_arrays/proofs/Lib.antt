@@ -2,3 +2,4 @@ pub mod Places
 pub mod Order
 pub mod InTurn
 pub mod InOrder
+pub mod Exits

@@ -1,10 +1,11 @@
 -- The index lists of a shape stand in the order of their places.
-use Rattle.std.proofs.Common.{suc, zero, ◌≡◌, ℕ, ◌+◌, ◌*◌, ◌<◌, ◌≤◌, true, ◌&&◌, List, [], ◌∷◌, ◌++◌, map, refl, ap, sym, ◌∙◌, arith, Result}
+use Rattle.std.proofs.Common.{suc, zero, ◌≡◌, ℕ, ◌+◌, ◌*◌, ◌<◌, ◌≤◌, true, ◌&&◌, List, [], ◌∷◌, ◌++◌, map, refl, ap, sym, ◌∙◌, arith, Result, Ok, Err, length}
 use Rattle.std.specs.List.{flat_map, range_with_len, AllByRecursion}
-use Rattle.std.proofs.lemmas.List.{map-append}
+use Rattle.std.proofs.lemmas.List.{map-append, length-map}
+use Rattle.std.proofs.lemmas.List.FromFn.{length-range_with_len}
 use Rattle.std.proofs.lemmas.Bool.{lt-ltb}
 use Rattle.apl_arrays.specs.Index.{size_of, indices, is_within, position_in}
-use Rattle.apl_arrays.specs.Results.{all_ok}
+use Rattle.apl_arrays.specs.Results.{all_ok, and_then, ok_map}
 use Rattle.apl_arrays.proofs.InTurn.{all_ok-map}
 
 map_map : {A B C : Type 0} (f : B → C) (g : A → B) (xs : List A) → map f (map g xs) ≡ map (λ x. f (g x)) xs
@@ -84,3 +85,23 @@ within_rows n ns h a (suc m) l =
 pub all_within : (s : List ℕ) → AllByRecursion (λ i. is_within s i ≡ true) (indices s)
 all_within [] = (refl, tt)
 all_within (n ∷ ns) = within_rows n ns (all_within ns) 0 n (omega arith)
+
+-- as many index lists as the size says
+pub length-indices : (s : List ℕ) → length (indices s) ≡ size_of s
+length-indices s = sym (length-map (indices s) (position_in s)) ∙ (ap length (places_in_order s) ∙ length-range_with_len 0 (size_of s))
+
+-- nothing goes over the index lists of an empty array
+pub all_ok-empty : {B E : Type 0} (s : List ℕ) (f : List ℕ → Result B E) → size_of s ≡ 0 → all_ok f (indices s) ≡ Ok []
+all_ok-empty s f e = ap (all_ok f) (none (indices s) (length-indices s ∙ e))
+  where
+    none : (xs : List (List ℕ)) → length xs ≡ 0 → xs ≡ []
+    none [] h = refl
+    none (x ∷ xs) h = absurd (omega arith)
+
+-- what fails at each index list fails as a whole, unless there is none
+pub all_ok-fault : {B E : Type 0} (s : List ℕ) (f : List ℕ → Result B E) (e : E) → 0 < size_of s → ((i : List ℕ) → f i ≡ Err e) → all_ok f (indices s) ≡ Err e
+all_ok-fault {B = B} {E = E} s f e h each = first (indices s) (omega (arith, length-indices s))
+  where
+    first : (xs : List (List ℕ)) → 0 < length xs → all_ok f xs ≡ Err e
+    first [] l = absurd (omega arith)
+    first (x ∷ xs) l = ap (λ (r : Result B E). and_then r (λ y. ok_map (λ ys. y ∷ ys) (all_ok f xs))) (each x)

@@ -52,6 +52,18 @@ impl Array {
         }
     }
 
+    /// The same by a slice of lengths. It is a limit fault too where there are more than [`MAX_RANK`].
+    pub fn from_shape(shape: &[usize], ravel: Ravel) -> Result<Array, Fault>
+        requires { length (cells_of (items_of ravel)) ≡ size_of shape.now }
+        ensures ok { OkIff result ((length shape.now ≤ MAX_RANK) × (bound_of shape.now ≤ MAX_ELEMENTS)) (record { shape = shape.now; items = items_of ravel }) }
+        ensures err { IfErr result (λ fault. fault ≡ Fault.Limit) }
+    {
+        match ArrayVec::try_from(shape) {
+            Ok(lengths) => Array::new(lengths, ravel),
+            Err(_) => Err(Fault::Limit),
+        }
+    }
+
     /// One element as a scalar, any other number of elements as a vector.
     pub fn from_ravel(ravel: Ravel) -> Array
         requires { length (cells_of (items_of ravel)) ≤ MAX_ELEMENTS }

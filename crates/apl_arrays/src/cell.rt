@@ -1,5 +1,5 @@
 // The elements of an array.
-ghost use Rattle.std.specs.Prelude.{◌≡◌, length, slice_get, IfOk, FitsSigned};
+ghost use Rattle.std.specs.Prelude.{◌≡◌, ◌==◌, length, slice_get, IfOk, FitsSigned};
 ghost use Rattle.std.specs.Int.{w64};
 ghost use Rattle.std.specs.List.{All};
 ghost use Rattle.apl_arrays.specs.Cells.{cells_of, AreStorable};
@@ -31,6 +31,13 @@ impl Ravel {
             Ravel::Nums(numbers) => numbers.len(),
             Ravel::Chars(characters) => characters.len(),
         }
+    }
+
+    /// Whether there is no element.
+    pub fn is_empty(&self) -> bool
+        ensures { result ≡ (length (cells_of (items_of self.now)) == 0) }
+    {
+        self.len() == 0
     }
 
     /// The element at a place, from 0.

@@ -8,11 +8,8 @@ use std::test::Fail;
 
 /// The matrix with the rows 1 2 3 and 4 5 and the least number.
 fn matrix(alloc: Global) -> Result<Array, Stop> {
-    let mut shape = ArrayVec::new();
-    shape.push(2);
-    shape.push(3);
     let numbers = Vec::from_slice(alloc, &[1, 2, 3, 4, 5, i64::MIN])?;
-    Ok(Array::new(shape, Ravel::Nums(numbers))?)
+    Ok(Array::from_shape(&[2, 3], Ravel::Nums(numbers))?)
 }
 
 #[test]
@@ -57,6 +54,7 @@ fn scalars_and_vectors(rt: HostRuntime) -> Result<(), Fail> {
     assert_eq!(rt; few.at(&[1]), Some(Cell::Num(1)));
     let none = Array::from_chars(Vec::new(alloc));
     assert!(rt; none.shape() == [0].as_slice());
+    assert!(rt; none.ravel().is_empty());
     let letter = Array::scalar(alloc, Cell::Char(Ch::ascii(b'A')))?;
     assert_eq!(rt; letter.rank(), 0);
     assert_eq!(rt; letter.at(&[]), Some(Cell::Char(Ch::ascii(b'A'))));
@@ -80,6 +78,16 @@ fn an_axis_of_length_zero_counts_as_one(rt: HostRuntime) -> Result<(), Fail> {
                 assert_eq!(rt; fault, Fault::Limit);
             }
         }
+    }
+    Ok(())
+}
+
+#[test]
+fn nine_axes_are_too_many(rt: HostRuntime) -> Result<(), Fail> {
+    let numbers = Vec::from_slice(rt.alloc(), &[7])?;
+    match Array::from_shape(&[1; 9], Ravel::Nums(numbers)) {
+        Ok(_) => assert!(rt; false),
+        Err(fault) => assert_eq!(rt; fault, Fault::Limit),
     }
     Ok(())
 }

@@ -1,6 +1,6 @@
 // Characters, texts and lines of bytes.
 use crate::character::Ch;
-use crate::line::{CharFault, decode_line, encode, one_answer};
+use crate::line::{CharFault, decode_line, encode, one_answer, one_decoding};
 use crate::text::{Text, in_set, push_ascii};
 use std::test::Fail;
 
@@ -28,6 +28,7 @@ fn members(rt: HostRuntime) {
 #[test]
 fn round_trips(rt: HostRuntime) -> Result<(), Fail> {
     one_answer();
+    one_decoding();
     for (line, count) in [("", 0), ("2+3", 3), ("A←⍳5 ⍝ note", 11), (SYMBOLS, 36)] {
         let text = decode_line(rt.alloc(), line.as_bytes())?;
         assert_eq!(rt; text.len(), count, "{line}");

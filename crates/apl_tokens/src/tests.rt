@@ -1,5 +1,5 @@
 // Lines with their tokens or faults.
-use crate::line::{TokenError, one_answer, tokens};
+use crate::line::{TokenError, one_answer, one_reading, tokens, worked_readings};
 use crate::token::{Kind, Numbers, Token};
 use apl_charset::{Text, decode_line};
 use apl_symbols::{Name, Primitive, Symbol, SystemName};
@@ -14,6 +14,8 @@ fn read(alloc: Global, line: &str) -> Result<Vec<Token>, Fail> {
 #[test]
 fn faults(rt: HostRuntime) -> Result<(), Fail> {
     one_answer();
+    one_reading();
+    worked_readings();
     let rows = [
         ("3A", TokenError::Stray { column: 2 }),
         ("'a' 5¯", TokenError::Stray { column: 6 }),

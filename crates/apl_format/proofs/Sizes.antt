@@ -1,0 +1,62 @@
+-- Sizes of a shape, and of its planes.
+use Rattle.std.proofs.Common.{◌≡◌, ℕ, ◌+◌, ◌*◌, ◌<◌, ◌≤◌, List, [], ◌∷◌, ◌++◌, length, get_or, max, drop, ap, ◌∙◌, mul-one, arith, mul-le-mul_right, mul-le-mul_left}
+use Rattle.apl_arrays.specs.Index.{size_of, bound_of}
+use Rattle.apl_arrays.proofs.Places.{bound_of-pos, mul_low, size_le_bound, size_step, size_room, size_small}
+
+-- the end of a place that lies below n
+pub place_end : (i n m : ℕ) → i < n → i * m + m ≤ n * m
+place_end i n m h = let g : (i + 1) * m ≤ n * m = mul-le-mul_right m (omega arith) in omega arith
+
+pub size_append : (s t : List ℕ) → size_of (s ++ t) ≡ size_of s * size_of t
+size_append [] t = omega arith
+size_append (n ∷ s) t = rw (size_append s t) (omega arith)
+
+pub bound_append : (s t : List ℕ) → bound_of (s ++ t) ≡ bound_of s * bound_of t
+bound_append [] t = omega arith
+bound_append (n ∷ s) t = rw (bound_append s t) (omega arith)
+
+-- a loop's product so far
+pub record SoFar (s : List ℕ) (i count : ℕ) : Type 0 where
+  pub product : count * size_of (drop i s) ≡ size_of s
+  pub room : count * bound_of (drop i s) ≤ 1000000
+
+pub step : (s : List ℕ) (i count : ℕ) → i < length s → SoFar s i count → SoFar s (i + 1) (count * get_or s i 0)
+step s i count h so = record {
+  product = size_step s i count h ∙ so.product;
+  room = size_room s i count 1000000 h so.room;
+}
+
+pub fits : (s : List ℕ) (i count : ℕ) → i < length s → SoFar s i count → count * get_or s i 0 ≤ 1000000
+fits s i count h so = size_small s i count 1000000 h so.room
+
+-- the sizes of planes of h rows of c columns within the limit
+pub record Fit (count h c : ℕ) : Type 0 where
+  pub few : count * h ≤ 1000000
+  pub plane : h * c ≤ 1000000
+  pub planes : count ≤ 1000000
+
+times : (a b m n : ℕ) → a ≤ m → b ≤ n → a * b ≤ m * n
+times a b m n h k = let g : a * b ≤ m * b = mul-le-mul_right b h in let f : m * b ≤ m * n = mul-le-mul_left m k in omega arith
+
+pub planes_fit : (s : List ℕ) (h c : ℕ) → bound_of (s ++ h ∷ c ∷ []) ≤ 1000000 → Fit (size_of s) h c
+planes_fit s h c b =
+    let e : bound_of s * (max h 1 * (max c 1 * 1)) ≤ 1000000 = rw bound_append at b in
+    let two : max h 1 * (max c 1 * 1) ≤ 1000000 = omega (arith, e, times 1 (max h 1 * (max c 1 * 1)) (bound_of s) (max h 1 * (max c 1 * 1)) (bound_of-pos s) (omega arith)) in
+    let one : 1 ≤ max c 1 * 1 = omega arith in
+    let low : max h 1 * 1 ≤ max h 1 * (max c 1 * 1) = times (max h 1) 1 (max h 1) (max c 1 * 1) (omega arith) one in
+    let three : bound_of s * (max h 1 * 1) ≤ bound_of s * (max h 1 * (max c 1 * 1)) = times (bound_of s) (max h 1 * 1) (bound_of s) (max h 1 * (max c 1 * 1)) (omega arith) low in
+    let four : bound_of s * 1 ≤ bound_of s * (max h 1 * 1) = times (bound_of s) 1 (bound_of s) (max h 1 * 1) (omega arith) (omega arith) in
+    record {
+      few = let g = times (size_of s) h (bound_of s) (max h 1 * 1) (size_le_bound s) (omega arith) in omega (arith, g, three, e);
+      plane = let g = times h c (max h 1) (max c 1 * 1) (omega arith) (omega arith) in omega (arith, g, two);
+      planes = omega (arith, size_le_bound s, four, three, e);
+    }
+
+pub outer_fits : (s : List ℕ) (h c : ℕ) → bound_of (s ++ h ∷ c ∷ []) ≤ 1000000 → bound_of s ≤ 1000000
+outer_fits s h c b =
+    let e : bound_of s * bound_of (h ∷ c ∷ []) ≤ 1000000 = rw bound_append at b in
+    omega (arith, e, mul_low (bound_of s) (bound_of (h ∷ c ∷ [])) (bound_of-pos (h ∷ c ∷ [])))
+
+-- the elements of planes of h rows of c columns
+pub planes_size : (s : List ℕ) (h c : ℕ) → size_of (s ++ h ∷ c ∷ []) ≡ size_of s * (h * c)
+planes_size s h c = size_append s (h ∷ c ∷ []) ∙ ap (λ n. size_of s * (h * n)) (mul-one c)

@@ -1,0 +1,58 @@
+// The widths of columns.
+ghost use Rattle.std.specs.Prelude.{◌≡◌, ◌*◌, ◌≤◌, length, map, max, IfOk};
+ghost use Rattle.std.specs.Simd.Lanes.{zip2};
+ghost use Rattle.apl_arrays.specs.Cells.{Numbers, cells_of};
+ghost use Rattle.apl_arrays.specs.Ravels.{items_of};
+ghost use Rattle.apl_format.specs.Display.{number_text, rows, widths};
+ghost use Rattle.apl_format.specs.Parts.{AreWidths, HaveWidths};
+
+use crate::number::number_width;
+use apl_arrays::Ravel;
+use std::alloc::{AllocError, Global};
+
+/// Makes each column as wide as its number.
+fn widen(widths: &mut [usize], row: &[i64])
+    requires { length widths.old ≡ length row.now }
+    ensures { widths.new ≡ zip2 max widths.old (map (λ z. length (number_text z)) row.now) }
+{
+    for (column, number) in row.iter().enumerate() {
+        widths[column] = widths[column].max(number_width(*number));
+    }
+}
+
+fn number_widths(
+    alloc: Global,
+    numbers: &[i64],
+    count: usize,
+    columns: usize,
+) -> Result<Vec<usize>, AllocError>
+    requires { count * columns ≤ length numbers.now }
+    ensures value { IfOk result (λ made. made.items ≡ widths columns (rows count columns (Numbers numbers.now))) }
+    ensures wide { IfOk result (λ made. length made.items ≡ columns) }
+{
+    let mut widths = vec![in alloc; 0usize; columns]?;
+    let mut rest = numbers;
+    for _ in 0..count {
+        let (row, after) = rest.split_at(columns);
+        widen(&mut widths, row);
+        rest = after;
+    }
+    Ok(widths)
+}
+
+/// The widths of the columns of so many rows of numbers. Characters have no need of any.
+pub(crate) fn widths_of(
+    alloc: Global,
+    ravel: &Ravel,
+    count: usize,
+    columns: usize,
+) -> Result<Vec<usize>, AllocError>
+    requires { count * columns ≤ length (cells_of (items_of ravel.now)) }
+    ensures value { IfOk result (λ made. AreWidths count columns (items_of ravel.now) made.items) }
+    ensures wide { IfOk result (λ made. HaveWidths columns (items_of ravel.now) made.items) }
+{
+    match ravel {
+        Ravel::Nums(numbers) => number_widths(alloc, numbers.as_slice(), count, columns),
+        Ravel::Chars(_) => Ok(Vec::new(alloc)),
+    }
+}

@@ -1,0 +1,84 @@
+// A line of an array.
+ghost use Rattle.std.specs.Prelude.{◌≡◌, ◌+◌, ◌≤◌, ◌++◌, length, map, IfOk, OnOk};
+ghost use Rattle.std.specs.Simd.Lanes.{zip2};
+ghost use Rattle.apl_arrays.specs.Cells.{cells_of};
+ghost use Rattle.apl_arrays.specs.Ravels.{items_of};
+ghost use Rattle.apl_format.specs.Display.{number_text, padded, joined, vector_line, row_line, taken, dropped};
+ghost use Rattle.apl_format.specs.Parts.{HaveWidths};
+
+use crate::number::{push_between, push_number, push_padded};
+use apl_arrays::Ravel;
+use apl_charset::{Ch, Text};
+use std::alloc::{AllocError, Global};
+
+/// Numbers with one blank between.
+fn push_numbers(line: &mut Vec<Ch>, numbers: &[i64]) -> Result<(), AllocError>
+    ensures { OnOk result (line.new.items ≡ line.old.items ++ joined 32 (map number_text numbers.now)) }
+{
+    for (place, number) in numbers.iter().enumerate() {
+        push_between(line, place)?;
+        push_number(line, *number)?;
+    }
+    Ok(())
+}
+
+/// Numbers, each right-aligned to its width, with one blank between.
+fn push_aligned(line: &mut Vec<Ch>, widths: &[usize], numbers: &[i64]) -> Result<(), AllocError>
+    requires { length widths.now ≡ length numbers.now }
+    ensures { OnOk result (line.new.items ≡ line.old.items ++ joined 32 (zip2 padded widths.now (map number_text numbers.now))) }
+{
+    for (place, number) in numbers.iter().enumerate() {
+        push_between(line, place)?;
+        push_padded(line, widths[place], *number)?;
+    }
+    Ok(())
+}
+
+/// The line of a scalar or a vector.
+#[tactic(auto, unfolding(crate::specs::Display::vector_line))]
+pub(crate) fn vector_line(alloc: Global, ravel: &Ravel) -> Result<Text, AllocError>
+    ensures { IfOk result (λ line. line ≡ vector_line (items_of ravel.now)) }
+{
+    match ravel {
+        Ravel::Nums(numbers) => {
+            let mut line = Vec::with_capacity(alloc, numbers.len())?;
+            push_numbers(&mut line, numbers.as_slice())?;
+            Ok(Text::new(line))
+        }
+        Ravel::Chars(characters) => {
+            Ok(Text::new(Vec::from_slice(alloc, characters.as_slice())?))
+        }
+    }
+}
+
+/// The line of the row that begins at a place of the ravel.
+#[tactic(auto, unfolding(crate::specs::Display::row_line))]
+pub(crate) fn row_line(
+    alloc: Global,
+    ravel: &Ravel,
+    widths: &[usize],
+    columns: usize,
+    place: usize,
+) -> Result<Text, AllocError>
+    requires within { place + columns ≤ length (cells_of (items_of ravel.now)) }
+    requires wide { HaveWidths columns (items_of ravel.now) widths.now }
+    ensures { IfOk result (λ line. line ≡ row_line widths.now (taken columns (dropped place (items_of ravel.now)))) }
+{
+    match ravel {
+        Ravel::Nums(numbers) => {
+            let room = widths
+                .iter()
+                .fold(columns, |room, width| room.saturating_add(*width));
+            let (_, after) = numbers.as_slice().split_at(place);
+            let (row, _) = after.split_at(columns);
+            let mut line = Vec::with_capacity(alloc, room)?;
+            push_aligned(&mut line, widths, row)?;
+            Ok(Text::new(line))
+        }
+        Ravel::Chars(characters) => {
+            let (_, after) = characters.as_slice().split_at(place);
+            let (row, _) = after.split_at(columns);
+            Ok(Text::new(Vec::from_slice(alloc, row)?))
+        }
+    }
+}

@@ -1,0 +1,9 @@
+pub mod Definitions
+pub mod Items
+pub mod Environment
+pub mod Frames
+pub mod Outcomes
+pub mod Reports
+pub mod Changes
+pub mod State
+pub mod Beginning

@@ -1,0 +1,11 @@
+//! The state of a machine: what its definitions speak of, and the types that both the machine and
+//! its definitions use.
+#![tactic(auto)]
+
+mod operand;
+mod output;
+#[cfg(test)]
+mod tests;
+
+pub use operand::{Operand, Slots};
+pub use output::{OutLine, Progress};

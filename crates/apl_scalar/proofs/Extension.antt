@@ -1,0 +1,153 @@
+-- What extension does to places.
+use Rattle.std.proofs.Common.{get_or, pos, map, ◌≡◌, ◌≢◌, ℕ, ℤ, ◌+◌, ◌<◌, ◌≤◌, Bool, true, false, nat_lt, nat_eq, cond, List, [], ◌∷◌, length, Option, Some, None, Result, Ok, Err, refl, ap, sym, ◌∙◌, arith}
+use Rattle.std.specs.Prelude.{slice_get}
+use Rattle.std.specs.List.{range_with_len}
+use Rattle.std.specs.Option.{option_map}
+use Rattle.std.proofs.lemmas.Bool.{eqb-true, eqb-false, eq-eqb}
+use Rattle.std.proofs.lemmas.Option.{slice_get-map, slice_get-get_or}
+use Rattle.std.proofs.lemmas.List.{length-map}
+use Rattle.apl_faults.specs.declared.fault.Fault.{Fault}
+use Rattle.apl_faults.specs.declared.fault.Fault.TheVariants.{Domain, Length, Rank}
+use Rattle.apl_arrays.specs.declared.cell.Cell.{Cell}
+use Rattle.apl_arrays.specs.declared.cell.Cell.TheVariants.{Num, Char}
+use Rattle.apl_arrays.specs.Index.{size_of, indices, is_within, position_in}
+use Rattle.apl_arrays.specs.Cells.{Arr, Items, Numbers, Characters, cells_of, cell_at}
+use Rattle.apl_arrays.specs.Results.{all_ok, and_then, ok_map}
+use Rattle.apl_arrays.proofs.InTurn.{all_ok-same}
+use Rattle.apl_arrays.proofs.Order.{by_places, all_within, all_ok-fault}
+use Rattle.apl_arrays.proofs.Places.{both, position_in-lt}
+use Rattle.apl_scalar.specs.declared.function.Monadic.{Monadic}
+use Rattle.apl_scalar.specs.declared.function.Dyadic.{Dyadic}
+use Rattle.apl_scalar.specs.declared.operand.Operand.{Operand}
+use Rattle.apl_scalar.specs.declared.operand.Operand.TheVariants.{One, Many}
+use Rattle.apl_scalar.specs.Functions.{monadic_of, dyadic_of}
+use Rattle.apl_scalar.specs.Operands.{number_at, Shows, AreCharacters}
+use Rattle.apl_scalar.specs.Extension.{is_single, same_shape, extended, operand_at, monadic_at, dyadic_at, numbers_in, dyadic}
+
+num_at : (zs : List ℤ) (k : ℕ) → k < length zs → slice_get (map Num zs) k ≡ Some (Num (get_or zs k (pos 0)))
+num_at zs k h = slice_get-map Num zs k ∙ ap (option_map Num) (slice_get-get_or zs k (pos 0) h)
+
+not_one : (n : ℕ) → n ≢ 1 → nat_eq n 1 ≡ false
+not_one n h = cases (nat_eq n 1) (λ e. h (eqb-true n 1 e))
+  where
+    cases : (b : Bool) → b ≢ true → b ≡ false
+    cases true g = absurd (g refl)
+    cases false g = refl
+
+many_cells : (items : Items) (zs : List ℤ) (n : ℕ) → length (cells_of items) ≡ n → items ≡ Numbers zs → length zs ≡ n
+many_cells items zs n full e = sym (length-map zs Num) ∙ (sym (ap (λ (t : Items). length (cells_of t)) e) ∙ full)
+
+-- an operand's number for the place of each index list of the result
+pub shown : (a : Arr) (s i : List ℕ) (x : Operand) → length (cells_of a.items) ≡ size_of a.shape → (is_single a.shape ≡ false → a.shape ≡ s) → Shows x a.items → is_within s i ≡ true →
+    operand_at a i ≡ Some (Num (number_at x (position_in s i)))
+shown a s i (One z) full fits e w =
+    ap (λ (b : Bool). cond b (slice_get (cells_of a.items) 0) (cell_at a i)) (eq-eqb (size_of a.shape) 1 (sym full ∙ ap (λ (t : Items). length (cells_of t)) e))
+    ∙ ap (λ (t : Items). slice_get (cells_of t) 0) e
+shown a s i (Many zs) full fits e w =
+    let size : length zs.now ≡ size_of a.shape = many_cells a.items zs.now (size_of a.shape) full e.0 in
+    let many : is_single a.shape ≡ false = not_one (size_of a.shape) (λ h. e.1 (size ∙ h)) in
+    let same : length zs.now ≡ size_of s = size ∙ ap size_of (fits many) in
+    ap (λ (b : Bool). cond b (slice_get (cells_of a.items) 0) (cell_at a i)) many
+    ∙ ap (λ (t : List ℕ). cond (is_within t i) (slice_get (cells_of a.items) (position_in t i)) None) (fits many)
+    ∙ ap (λ (b : Bool). cond b (slice_get (cells_of a.items) (position_in s i)) None) w
+    ∙ ap (λ (t : Items). slice_get (cells_of t) (position_in s i)) e.0
+    ∙ num_at zs.now (position_in s i) (omega (arith, position_in-lt s i w))
+
+-- two operands of numbers
+pub by_operands : (f : Dyadic) (a b : Arr) (s : List ℕ) (x y : Operand) → length (cells_of a.items) ≡ size_of a.shape → length (cells_of b.items) ≡ size_of b.shape →
+    (is_single a.shape ≡ false → a.shape ≡ s) → (is_single b.shape ≡ false → b.shape ≡ s) → Shows x a.items → Shows y b.items →
+    all_ok (λ i. dyadic_at f (operand_at a i) (operand_at b i)) (indices s) ≡ all_ok (λ k. dyadic_of f (number_at x k) (number_at y k)) (range_with_len 0 (size_of s))
+by_operands f a b s x y full_a full_b fits_a fits_b shows_a shows_b =
+    all_ok-same (λ i. is_within s i ≡ true) (λ i. dyadic_at f (operand_at a i) (operand_at b i)) (λ i. dyadic_of f (number_at x (position_in s i)) (number_at y (position_in s i)))
+    (λ i w. ap (λ (o : Option Cell). dyadic_at f o (operand_at b i)) (shown a s i x full_a fits_a shows_a w)
+    ∙ ap (dyadic_at f (Some (Num (number_at x (position_in s i))))) (shown b s i y full_b fits_b shows_b w))
+    (indices s) (all_within s)
+    ∙ by_places s (λ k. dyadic_of f (number_at x k) (number_at y k))
+
+-- one operand of numbers
+pub by_numbers : (f : Monadic) (b : Arr) (zs : List ℤ) (n : ℕ) → length (cells_of b.items) ≡ size_of b.shape → b.items ≡ Numbers zs → n ≡ length zs →
+    all_ok (λ i. monadic_at f (cell_at b i)) (indices b.shape) ≡ all_ok (λ k. monadic_of f (get_or zs k (pos 0))) (range_with_len 0 n)
+by_numbers f b zs n full e count =
+    all_ok-same (λ i. is_within b.shape i ≡ true) (λ i. monadic_at f (cell_at b i)) (λ i. monadic_of f (get_or zs (position_in b.shape i) (pos 0)))
+    (λ i w. ap (λ (t : Bool). monadic_at f (cond t (slice_get (cells_of b.items) (position_in b.shape i)) None)) w
+    ∙ ap (λ (t : Items). monadic_at f (slice_get (cells_of t) (position_in b.shape i))) e
+    ∙ ap (monadic_at f) (num_at zs (position_in b.shape i) (omega (arith, position_in-lt b.shape i w, many_cells b.items zs (size_of b.shape) full e))))
+    (indices b.shape) (all_within b.shape)
+    ∙ by_places b.shape (λ k. monadic_of f (get_or zs k (pos 0)))
+    ∙ ap (λ (m : ℕ). all_ok (λ k. monadic_of f (get_or zs k (pos 0))) (range_with_len 0 m)) (sym (many_cells b.items zs (size_of b.shape) full e) ∙ sym count)
+
+-- no element is a number
+abbrev NoNumber : Option Cell → Type 0
+NoNumber (Some (Num z)) = ⊥
+NoNumber (Some (Char c)) = Unit {0}
+NoNumber None = Unit {0}
+
+no_number_got : (items : Items) (k : ℕ) → AreCharacters items → NoNumber (slice_get (cells_of items) k)
+no_number_got (Numbers zs) k h = absurd h
+no_number_got (Characters cs) k h = rw (slice_get-map Char cs k) (each (slice_get cs k))
+  where
+    each : (o : Option ℕ) → NoNumber (option_map Char o)
+    each (Some c) = tt
+    each None = tt
+
+either_way : (b : Bool) (x y : Option Cell) → NoNumber x → NoNumber y → NoNumber (cond b x y)
+either_way true x y p q = p
+either_way false x y p q = q
+
+pub no_number_there : (a : Arr) (i : List ℕ) → AreCharacters a.items → NoNumber (cell_at a i)
+no_number_there a i h = either_way (is_within a.shape i) _ None (no_number_got a.items (position_in a.shape i) h) tt
+
+pub no_operand_there : (a : Arr) (i : List ℕ) → AreCharacters a.items → NoNumber (operand_at a i)
+no_operand_there a i h = either_way (is_single a.shape) _ (cell_at a i) (no_number_got a.items 0 h) (no_number_there a i h)
+
+no_left : (f : Dyadic) (x y : Option Cell) → NoNumber x → dyadic_at f x y ≡ Err Domain
+no_left f (Some (Num z)) y h = absurd h
+no_left f (Some (Char c)) y h = refl
+no_left f None y h = refl
+
+no_right : (f : Dyadic) (x y : Option Cell) → NoNumber y → dyadic_at f x y ≡ Err Domain
+no_right f (Some (Num x)) (Some (Num z)) h = absurd h
+no_right f (Some (Num x)) (Some (Char c)) h = refl
+no_right f (Some (Num x)) None h = refl
+no_right f (Some (Char c)) y h = refl
+no_right f None y h = refl
+
+no_only : (f : Monadic) (y : Option Cell) → NoNumber y → monadic_at f y ≡ Err Domain
+no_only f (Some (Num z)) h = absurd h
+no_only f (Some (Char c)) h = refl
+no_only f None h = refl
+
+-- characters where numbers are needed are at fault from the first element on
+pub left_characters : (f : Dyadic) (a b : Arr) (s : List ℕ) → AreCharacters a.items → 0 < size_of s → all_ok (λ i. dyadic_at f (operand_at a i) (operand_at b i)) (indices s) ≡ Err Domain
+left_characters f a b s h some = all_ok-fault s _ Domain some (λ i. no_left f (operand_at a i) (operand_at b i) (no_operand_there a i h))
+
+pub right_characters : (f : Dyadic) (a b : Arr) (s : List ℕ) → AreCharacters b.items → 0 < size_of s → all_ok (λ i. dyadic_at f (operand_at a i) (operand_at b i)) (indices s) ≡ Err Domain
+right_characters f a b s h some = all_ok-fault s _ Domain some (λ i. no_right f (operand_at a i) (operand_at b i) (no_operand_there b i h))
+
+pub only_characters : (f : Monadic) (b : Arr) → AreCharacters b.items → 0 < size_of b.shape → all_ok (λ i. monadic_at f (cell_at b i)) (indices b.shape) ≡ Err Domain
+only_characters f b h some = all_ok-fault b.shape _ Domain some (λ i. no_only f (cell_at b i) (no_number_there b i h))
+
+abbrev ok_shape : List ℕ → Result (List ℕ) Fault
+ok_shape s = Ok s
+
+-- where the result has the first operand's shape, the second one has it too or is single
+pub first_shape : (s t : List ℕ) → extended s t ≡ Ok s → is_single t ≡ false → t ≡ s
+first_shape s t e f = first (is_single s) (nat_eq (length s) (length t)) (same_shape s t) s t (λ h. same_shape_is s t h) (rw f at e)
+  where
+    same_shape_is : (s t : List ℕ) → same_shape s t ≡ true → t ≡ s
+    same_shape_is [] [] h = refl
+    same_shape_is [] (n ∷ ns) h = absurd (cc)
+    same_shape_is (m ∷ ms) [] h = absurd (cc)
+    same_shape_is (m ∷ ms) (n ∷ ns) h = let p = both (nat_eq m n) (same_shape ms ns) h in
+        ap (λ x. x ∷ ns) (sym (eqb-true m n p.0)) ∙ ap (λ l. m ∷ l) (same_shape_is ms ns p.1)
+
+    first : (b r q : Bool) (s t : List ℕ) → (q ≡ true → t ≡ s) → cond b (ok_shape t) (cond r (cond q (Ok s) (Err Length)) (Err Rank)) ≡ Ok s → t ≡ s
+    first true r q s t g e = cc
+    first false true true s t g e = g refl
+    first false true false s t g e = absurd (cc)
+    first false false q s t g e = absurd (cc)
+
+-- the whole definition, where the shape of the result is known
+pub dyadic_in_shape : (f : Dyadic) (a b : Arr) (s : List ℕ) → extended a.shape b.shape ≡ Ok s →
+    ok_map (numbers_in s) (all_ok (λ i. dyadic_at f (operand_at a i) (operand_at b i)) (indices s)) ≡ dyadic f a b
+dyadic_in_shape f a b s e = sym (ap (λ r. and_then r (λ s. ok_map (numbers_in s) (all_ok (λ i. dyadic_at f (operand_at a i) (operand_at b i)) (indices s)))) e)

@@ -1,0 +1,14 @@
+-- Operands by the places of the result.
+use Rattle.std.proofs.Common.{◌≡◌, ℕ, ℤ, ◌+◌, ◌<◌, ◌≤◌, List, get_or, take, pos, rules, arith, replicate, ap, ◌∙◌}
+use Rattle.std.proofs.lemmas.List.{get_or-take, get_or-replicate}
+use Rattle.apl_scalar.specs.declared.operand.Operand.{Operand}
+use Rattle.apl_scalar.specs.declared.operand.Operand.TheVariants.{One, Many}
+use Rattle.apl_scalar.specs.Operands.{number_at, spread_of}
+
+-- a block of one number has it at each place
+pub spread_at : (o : Operand) (x : ℤ) (block : List ℤ) (n j k : ℕ) → o ≡ One x → block ≡ spread_of o → j < n → n ≤ 512 → get_or (take n block) j (pos 0) ≡ number_at o k
+spread_at o x block n j k is spread h few =
+    rw (spread, is) (at_each x n j h few)
+  where
+    at_each : (x : ℤ) (n j : ℕ) → j < n → n ≤ 512 → get_or (take n (replicate 512 x)) j (pos 0) ≡ x
+    at_each x n j h few = get_or-take n (replicate 512 x) j (pos 0) h ∙ get_or-replicate 512 j x (pos 0) (omega arith)

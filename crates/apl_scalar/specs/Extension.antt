@@ -1,0 +1,57 @@
+-- Scalar functions of arrays: an operand of one element extends over the other.
+use Rattle.std.specs.Prelude.{ℕ, ℤ, Bool, true, false, ◌&&◌, nat_lt, nat_eq, cond, List, [], ◌∷◌, length, slice_get, Option, Some, None, Result, Ok, Err}
+use Rattle.apl_faults.specs.declared.fault.Fault.{Fault}
+use Rattle.apl_faults.specs.declared.fault.Fault.TheVariants.{Domain, Rank, Length}
+use Rattle.apl_arrays.specs.declared.cell.Cell.{Cell}
+use Rattle.apl_arrays.specs.declared.cell.Cell.TheVariants.{Num, Char}
+use Rattle.apl_arrays.specs.Index.{size_of, indices}
+use Rattle.apl_arrays.specs.Cells.{Arr, Numbers, cells_of, cell_at}
+use Rattle.apl_arrays.specs.Results.{and_then, ok_map, all_ok}
+use Rattle.apl_scalar.specs.declared.function.Monadic.{Monadic}
+use Rattle.apl_scalar.specs.declared.function.Dyadic.{Dyadic}
+use Rattle.apl_scalar.specs.Functions.{monadic_of, dyadic_of}
+
+-- an array of the shape has one element
+abbrev pub is_single : List ℕ → Bool
+is_single s = nat_eq (size_of s) 1
+
+abbrev pub same_shape : List ℕ → List ℕ → Bool
+same_shape [] [] = true
+same_shape [] (n ∷ ns) = false
+same_shape (m ∷ ms) [] = false
+same_shape (m ∷ ms) (n ∷ ns) = nat_eq m n && same_shape ms ns
+
+-- the shape of the result: of two operands of one element that of the greater rank, of one such operand the other's, and else the common one
+abbrev pub extended : List ℕ → List ℕ → Result (List ℕ) Fault
+extended s t =
+    cond (is_single s)
+    (cond (is_single t) (Ok (cond (nat_lt (length s) (length t)) t s)) (Ok t))
+    (cond (is_single t) (Ok s)
+    (cond (nat_eq (length s) (length t)) (cond (same_shape s t) (Ok s) (Err Length)) (Err Rank)))
+
+-- the element of an operand at an index list of the result
+abbrev pub operand_at : Arr → List ℕ → Option Cell
+operand_at a i = cond (is_single a.shape) (slice_get (cells_of a.items) 0) (cell_at a i)
+
+-- a function at an element: a character is no number
+abbrev pub monadic_at : Monadic → Option Cell → Result ℤ Fault
+monadic_at f (Some (Num y)) = monadic_of f y
+monadic_at f _ = Err Domain
+
+-- a function at two elements
+abbrev pub dyadic_at : Dyadic → Option Cell → Option Cell → Result ℤ Fault
+dyadic_at f (Some (Num x)) (Some (Num y)) = dyadic_of f x y
+dyadic_at f _ _ = Err Domain
+
+-- numbers in a shape
+abbrev pub numbers_in : List ℕ → List ℤ → Arr
+numbers_in s zs = record { shape = s; items = Numbers zs }
+
+-- the value at each index list, or the first fault in ravel order
+abbrev pub monadic : Monadic → Arr → Result Arr Fault
+monadic f b = ok_map (numbers_in b.shape) (all_ok (λ i. monadic_at f (cell_at b i)) (indices b.shape))
+
+-- the shapes are looked at first, then the value at each index list or the first fault in ravel order
+abbrev pub dyadic : Dyadic → Arr → Arr → Result Arr Fault
+dyadic f a b =
+    and_then (extended a.shape b.shape) (λ s. ok_map (numbers_in s) (all_ok (λ i. dyadic_at f (operand_at a i) (operand_at b i)) (indices s)))

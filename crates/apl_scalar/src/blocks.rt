@@ -1,0 +1,118 @@
+// A scalar function at each place, block by block.
+ghost use Rattle.std.specs.Prelude.{◌≡◌, ◌<◌, ◌≤◌, ◌+◌, ◌-◌, ℕ, length, slice_index_or, pos, IsTrue, Ok};
+ghost use Rattle.std.specs.List.{range_with_len};
+ghost use Rattle.apl_arrays.specs.Answers.{Answers, Appends};
+ghost use Rattle.apl_arrays.specs.Results.{all_ok};
+ghost use Rattle.apl_scalar.specs.Operands.{number_at, Covers};
+
+use crate::function::Scalar;
+use crate::operand::{BLOCK, Blocks, Operand};
+use crate::overflow::either;
+use apl_arrays::Stop;
+use std::alloc::Global;
+
+/// Below this many places a test at each costs less than a block.
+const FEW: usize = 128;
+
+/// Appends the values for the places from one to another, each tested before the next.
+fn push_tested<F: Scalar>(
+    out: &mut Vec<i64>,
+    a: Operand,
+    b: Operand,
+    from: usize,
+    till: usize,
+) -> Result<(), Stop>
+    requires a { Covers a till }
+    requires b { Covers b till }
+    ensures { Appends out.old.items out.new.items (all_ok (λ k. F.meaning (number_at a.entry k) (number_at b.entry k)) (range_with_len from (till - from))) result }
+{
+    for k in from..till {
+        match F::apply(a.at(k), b.at(k)) {
+            Ok(value) => out.push(value)?,
+            Err(fault) => return Err(Stop::Fault(fault)),
+        }
+    }
+    Ok(())
+}
+
+/// Writes a number for each place of a block, and says whether all are values, by one test of the flags of all.
+#[inline(always)]
+fn fill<F: Scalar>(a: &[i64], b: &[i64], out: &mut [i64]) -> bool
+    requires a { length a.now ≡ length out.old }
+    requires b { length b.now ≡ length out.old }
+    ensures { IsTrue result → (j : ℕ) → j < length out.new → F.meaning (slice_index_or a.now j (pos 0)) (slice_index_or b.now j (pos 0)) ≡ Ok (slice_index_or out.new j (pos 0)) }
+{
+    let mut flags = 0i64;
+    for i in 0..out.len() {
+        let (value, flag) = F::tried(a[i], b[i]);
+        out[i] = value;
+        flags = either(flags, flag);
+    }
+    0 <= flags
+}
+
+/// Appends the values for the places of a block. Only where a flag is raised is there a test at each.
+fn push_block<F: Scalar>(
+    out: &mut Vec<i64>,
+    a: &Blocks,
+    b: &Blocks,
+    from: usize,
+    till: usize,
+    room: &mut [i64; BLOCK],
+) -> Result<(), Stop>
+    requires a { Covers a.now.operand till }
+    requires b { Covers b.now.operand till }
+    requires order { from ≤ till }
+    requires few { till ≤ from + BLOCK }
+    ensures { Appends out.old.items out.new.items (all_ok (λ k. F.meaning (number_at a.now.operand k) (number_at b.now.operand k)) (range_with_len from (till - from))) result }
+{
+    let values = &mut room[..till - from];
+    if fill::<F>(a.piece(from, till), b.piece(from, till), values) {
+        out.extend_from_slice(values)?;
+        return Ok(());
+    }
+    push_tested::<F>(out, a.operand, b.operand, from, till)
+}
+
+/// Appends the values for the places below a count, block by block.
+fn push_blocks<F: Scalar>(
+    out: &mut Vec<i64>,
+    a: Operand,
+    b: Operand,
+    count: usize,
+) -> Result<(), Stop>
+    requires a { Covers a count }
+    requires b { Covers b count }
+    ensures { Appends out.old.items out.new.items (all_ok (λ k. F.meaning (number_at a.entry k) (number_at b.entry k)) (range_with_len 0 count)) result }
+{
+    let a = Blocks::new(a);
+    let b = Blocks::new(b);
+    let mut room = [0i64; BLOCK];
+    let mut from = 0usize;
+    while from < count {
+        let till = from + (count - from).min(BLOCK);
+        push_block::<F>(out, &a, &b, from, till, &mut room)?;
+        from = till;
+    }
+    Ok(())
+}
+
+/// The values for the places below a count, or the first fault.
+pub(crate) fn apply_all<F: Scalar>(
+    alloc: Global,
+    a: Operand,
+    b: Operand,
+    count: usize,
+) -> Result<Vec<i64>, Stop>
+    requires a { Covers a count }
+    requires b { Covers b count }
+    ensures { Answers (λ v. v.items) (all_ok (λ k. F.meaning (number_at a.entry k) (number_at b.entry k)) (range_with_len 0 count)) result }
+{
+    let mut out = Vec::with_capacity(alloc, count)?;
+    if count < FEW {
+        push_tested::<F>(&mut out, a, b, 0, count)?;
+        return Ok(out);
+    }
+    push_blocks::<F>(&mut out, a, b, count)?;
+    Ok(out)
+}

@@ -1,0 +1,49 @@
+// Arithmetic that tells where a value leaves 64 bits.
+ghost use Rattle.std.specs.Prelude.{◌≡◌, ◌+ℤ◌, ◌-ℤ◌, ◌*ℤ◌, SomeIff, FitsSigned, pos, ◌≤ℤ◌, ◌<ℤ◌};
+ghost use Rattle.std.specs.Int.{w64};
+ghost use Rattle.apl_faults.specs.declared.fault.Fault.TheVariants.{Limit};
+ghost use Rattle.apl_scalar.specs.Functions.{in_range};
+
+/// The sum that wraps, and a flag that is negative exactly where the sum leaves 64 bits: where its sign is neither operand's.
+#[inline(always)]
+pub(crate) fn flagged_sum(x: i64, y: i64) -> (i64, i64)
+    ensures fits { pos 0 ≤ℤ result.1 → in_range (x +ℤ y) ≡ Ok result.0 }
+    ensures leaves { result.1 <ℤ pos 0 → in_range (x +ℤ y) ≡ Err Limit }
+{
+    let sum = x.wrapping_add(y);
+    (sum, (x ^ sum) & (y ^ sum))
+}
+
+/// The difference that wraps, and a flag that is negative exactly where the difference leaves 64 bits: where the operands' signs differ and
+/// its sign is not the first one's.
+#[inline(always)]
+pub(crate) fn flagged_difference(x: i64, y: i64) -> (i64, i64)
+    ensures fits { pos 0 ≤ℤ result.1 → in_range (x -ℤ y) ≡ Ok result.0 }
+    ensures leaves { result.1 <ℤ pos 0 → in_range (x -ℤ y) ≡ Err Limit }
+{
+    let difference = x.wrapping_sub(y);
+    (difference, (x ^ y) & (x ^ difference))
+}
+
+/// The product, if it fits 64 bits.
+#[inline(always)]
+pub(crate) fn product(x: i64, y: i64) -> Option<i64>
+    ensures { SomeIff result (FitsSigned w64 (x *ℤ y)) (x *ℤ y) }
+{
+    let product = x as i128 * y as i128;
+    if product < i64::MIN as i128 {
+        None
+    } else if product > i64::MAX as i128 {
+        None
+    } else {
+        Some(product as i64)
+    }
+}
+
+/// Both flags in one, negative where either is.
+#[inline(always)]
+pub(crate) fn either(x: i64, y: i64) -> i64
+    ensures { pos 0 ≤ℤ result → (pos 0 ≤ℤ x) × (pos 0 ≤ℤ y) }
+{
+    x | y
+}

@@ -1,0 +1,12 @@
+use Rattle.std.proofs.Common.{ℕ, ◌≤◌, List, sym, subst}
+use Rattle.std.specs.List.{All}
+use Rattle.apl_tokens.specs.declared.token.Token.{Token}
+use Rattle.apl_tokens.specs.Tokens.{AreTokens}
+use Rattle.apl_translate.proofs.Sizes.{tokens_small, tokens_placed}
+use Rattle.apl_translate.proofs.tests.line.Goals as goal
+
+pub bind-requires-clause-placed : goal.bind-requires-clause-placed
+bind-requires-clause-placed c = tokens_placed c.as_slice-2.result.now (subst AreTokens (sym c.as_slice-2.ensures.value) c.in_ok-tokens.ensures.sound)
+
+pub bind-requires-clause-small : goal.bind-requires-clause-small
+bind-requires-clause-small c = tokens_small c.as_slice-2.result.now (subst AreTokens (sym c.as_slice-2.ensures.value) c.in_ok-tokens.ensures.sound)

@@ -1,0 +1,6 @@
+pub mod Phrase
+pub mod Forms
+pub mod Lines
+pub mod Translation
+pub mod Scan
+pub mod Binding
