@@ -1,8 +1,8 @@
 -- Operands by the places of the result.
-use Rattle.std.proofs.Common.{◌≡◌, ℕ, ℤ, ◌+◌, ◌<◌, ◌≤◌, List, get_or, take, pos, rules, arith, replicate, ap, ◌∙◌}
+use Rattle.std.proofs.Common.{◌≡◌, ℕ, ℤ, ◌<◌, ◌≤◌, List, get_or, take, pos, arith, replicate, ◌∙◌}
 use Rattle.std.proofs.lemmas.List.{get_or-take, get_or-replicate}
 use Rattle.apl_scalar.specs.declared.operand.Operand.{Operand}
-use Rattle.apl_scalar.specs.declared.operand.Operand.TheVariants.{One, Many}
+use Rattle.apl_scalar.specs.declared.operand.Operand.TheVariants.{One}
 use Rattle.apl_scalar.specs.Operands.{number_at, spread_of}
 
 -- a block of one number has it at each place

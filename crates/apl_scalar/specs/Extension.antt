@@ -1,9 +1,9 @@
 -- Scalar functions of arrays: an operand of one element extends over the other.
-use Rattle.std.specs.Prelude.{ℕ, ℤ, Bool, true, false, ◌&&◌, nat_lt, nat_eq, cond, List, [], ◌∷◌, length, slice_get, Option, Some, None, Result, Ok, Err}
+use Rattle.std.specs.Prelude.{ℕ, ℤ, Bool, true, false, ◌&&◌, nat_lt, nat_eq, cond, List, [], ◌∷◌, length, slice_get, Option, Some, Result, Ok, Err}
 use Rattle.apl_faults.specs.declared.fault.Fault.{Fault}
 use Rattle.apl_faults.specs.declared.fault.Fault.TheVariants.{Domain, Rank, Length}
 use Rattle.apl_arrays.specs.declared.cell.Cell.{Cell}
-use Rattle.apl_arrays.specs.declared.cell.Cell.TheVariants.{Num, Char}
+use Rattle.apl_arrays.specs.declared.cell.Cell.TheVariants.{Num}
 use Rattle.apl_arrays.specs.Index.{size_of, indices}
 use Rattle.apl_arrays.specs.Cells.{Arr, Numbers, cells_of, cell_at}
 use Rattle.apl_arrays.specs.Results.{and_then, ok_map, all_ok}

@@ -1,4 +1,4 @@
-use Rattle.std.proofs.Common.{◌≡◌, ap, ◌∙◌, arith, rules, length, Vec, ℤ, Global}
+use Rattle.std.proofs.Common.{◌≡◌, ap, ◌∙◌, arith, length, Vec, ℤ, Global}
 use Rattle.apl_arrays.proofs.Exits.{answers_along}
 use Rattle.apl_arrays.specs.Cells.{Items, cells_of}
 use Rattle.apl_arrays.specs.Index.{size_of}

@@ -1,10 +1,9 @@
-use Rattle.std.proofs.Common.{◌≡◌, ◌<◌, ap, sym, refl, ◌∙◌, arith, length, Vec, ℤ, Global, false}
+use Rattle.std.proofs.Common.{◌≡◌, ap, sym, refl, ◌∙◌, arith, length, Vec, ℤ, Global, false}
 use Rattle.std.specs.Prelude.{◌==◌}
 use Rattle.std.proofs.lemmas.Bool.{eqb-false}
 use Rattle.apl_arrays.specs.Ravels.{items_of}
 use Rattle.apl_arrays.proofs.Exits.{answers_along}
 use Rattle.apl_arrays.specs.Cells.{Items, cells_of}
-use Rattle.apl_arrays.specs.Index.{size_of}
 use Rattle.apl_scalar.proofs.Extension.{by_numbers, only_characters}
 use Rattle.apl_scalar.proofs.apply.monadic_values.Goals as goal
 

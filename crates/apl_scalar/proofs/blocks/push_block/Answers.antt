@@ -1,4 +1,4 @@
-use Rattle.std.proofs.Common.{◌≡◌, ℕ, ℤ, ◌+◌, ◌-◌, ◌<◌, length, get_or, pos, Ok, ap, sym, ◌∙◌, rules, arith, refl}
+use Rattle.std.proofs.Common.{◌≡◌, ℤ, ◌+◌, ◌-◌, length, get_or, pos, Ok, ap, sym, ◌∙◌, rules, arith, refl}
 use Rattle.apl_arrays.proofs.InTurn.{turns_whole}
 use Rattle.apl_scalar.specs.Operands.{number_at}
 use Rattle.apl_scalar.proofs.blocks.push_block.Goals as goal

@@ -1,4 +1,4 @@
-use Rattle.std.proofs.Common.{◌≡◌, ℕ, ℤ, Result, ◌+◌, ◌-◌, sym, ◌∙◌, arith, rules}
+use Rattle.std.proofs.Common.{ℕ, ℤ, Result, ◌+◌, ◌-◌, sym, ◌∙◌, arith}
 use Rattle.std.specs.List.{range_with_len}
 use Rattle.apl_faults.specs.declared.fault.Fault.{Fault}
 use Rattle.apl_arrays.specs.Results.{all_ok}

@@ -1,4 +1,4 @@
-use Rattle.std.proofs.Common.{◌≡◌, ℕ, ℤ, Ok, Err, ap, sym, ◌∙◌, rules, w64}
+use Rattle.std.proofs.Common.{◌≡◌, ℤ, Ok, Err, ap, sym, ◌∙◌, rules, w64}
 use Rattle.std.proofs.lemmas.Int.{to_z-of_z}
 use mir.Val.{SFits}
 use Rattle.apl_arrays.proofs.InTurn.{turns_step, turns_fault, after_err}

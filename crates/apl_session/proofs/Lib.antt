@@ -1,0 +1,6 @@
+pub mod Steps
+pub mod Events
+pub mod Writing
+pub mod Reading
+pub mod Transcripts
+pub mod Reached

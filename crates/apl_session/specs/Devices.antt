@@ -1,0 +1,21 @@
+-- What a call of a device does to its bytes.
+use Rattle.std.specs.Prelude.{◌≡◌, ℕ, List, [], ◌∷◌, ◌++◌, Option, Some, None, Result, Ok, Err}
+
+-- the first byte is taken, if there is one
+abbrev pub TakesFirst : {E : Type 0} → List ℕ → Result (Option ℕ) E → List ℕ → Type 0
+TakesFirst old (Ok None) new = (old ≡ []) × (new ≡ [])
+TakesFirst old (Ok (Some b)) new = old ≡ b ∷ new
+TakesFirst old (Err e) new = new ≡ old
+
+-- all of a text but a rest was written behind the old bytes
+pub record Wrote (old new text rest : List ℕ) : Type 0 where
+  pub front : List ℕ
+  pub spelled : text ≡ front ++ rest
+  pub added : new ≡ old ++ front
+
+-- a front of a text was written behind the old bytes
+pub record Extends (old new text : List ℕ) : Type 0 where
+  pub front : List ℕ
+  pub rest : List ℕ
+  pub spelled : text ≡ front ++ rest
+  pub added : new ≡ old ++ front

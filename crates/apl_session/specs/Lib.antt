@@ -1,0 +1,6 @@
+pub mod Events
+pub mod Transcript
+pub mod Views
+pub mod Devices
+pub mod Runs
+pub mod Tapes

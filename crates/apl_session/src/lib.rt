@@ -1,0 +1,18 @@
+//! Sessions with a machine: lines of bytes that are typed, steps, interrupts, and runs over whole
+//! inputs.
+#![tactic(auto)]
+
+mod devices;
+mod lines;
+mod runs;
+mod session;
+mod streams;
+mod tape;
+#[cfg(test)]
+mod tests;
+
+pub use devices::{Failed, Sink, Source};
+pub use runs::{RunError, run};
+pub use session::{Bytes, DriveError, Event, FeedError, Session};
+pub use streams::Device;
+pub use tape::Tape;

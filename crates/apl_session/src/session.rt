@@ -1,0 +1,261 @@
+// A machine that is typed to.
+ghost use Rattle.std.specs.Prelude.{◌≡◌, ◌↔◌, [], ◌∷◌, ℕ, ◌<◌, take, slice_get, not, ◌==◌, find, Some, IfErr, IfOk, OnOk, OnErr, IsErrOf, IsFalse};
+ghost use Rattle.apl_machine_state.specs.State.{is_idle, steps, steps_progress, interrupt};
+ghost use Rattle.apl_session.specs.Events as model;
+ghost use Rattle.apl_session.specs.Views.{event as event_view, event_list};
+
+use apl_charset::{Ch, CharFault, Text, decode_line};
+use apl_faults::{Fault, fault_line};
+use apl_machine::{BeginError, Machine, OutLine, Progress};
+use std::alloc::{AllocError, Global};
+use std::marker::Model;
+use thiserror::Error;
+
+/// The bytes of a line, without its end.
+#[derive(Drop, Debug)]
+pub struct Bytes {
+    bytes: Vec<u8>,
+}
+
+impl Model for Bytes {
+    ghost use Rattle.std.specs.Prelude.{List, ℕ};
+
+    ghost Value = { List ℕ };
+
+    ghost view = { λ b. b.bytes.items };
+}
+
+impl Bytes {
+    pub fn new(bytes: Vec<u8>) -> Bytes
+        ensures { result ≡ bytes.items }
+    {
+        Bytes { bytes }
+    }
+
+    pub fn as_slice(&self) -> &[u8]
+        ensures { result.now ≡ self.now }
+    {
+        self.bytes.as_slice()
+    }
+}
+
+/// What may happen to a session.
+#[derive(Drop, Debug)]
+pub enum Event {
+    /// A line is typed. It changes nothing in a session that runs.
+    Line(Bytes),
+    /// At most so many steps.
+    Steps(u64),
+    /// What runs is abandoned.
+    Interrupt,
+}
+
+/// Why a line was not taken. The session is as before.
+#[derive(Clone, Copy, Debug, PartialEq, Eq, Error)]
+pub enum FeedError {
+    #[error("the session runs")]
+    Busy,
+    #[error("out of memory")]
+    Memory,
+}
+
+impl From<AllocError> for FeedError {
+    ghost use Rattle.std.specs.Prelude.{◌≡◌};
+    ghost use Rattle.apl_session.specs.declared.session.FeedError.TheVariants.{Memory};
+
+    ghost from_gives = { λ _ e. e ≡ Memory };
+
+    fn from(_error: AllocError) -> FeedError {
+        FeedError::Memory
+    }
+}
+
+/// Want of memory, after the events before number `event`, from 0, and so many steps of that one.
+#[derive(Clone, Copy, Debug, PartialEq, Eq, Error)]
+#[error("out of memory at event {event} after {steps} of its steps")]
+pub struct DriveError {
+    pub event: usize,
+    pub steps: u64,
+}
+
+/// A machine with what is typed to it. Contracts see it as the machine's state.
+#[derive(Drop)]
+pub struct Session {
+    alloc: Global,
+    machine: Machine,
+}
+
+impl Model for Session {
+    ghost use Rattle.apl_machine_state.specs.State.{State};
+
+    ghost Value = { State };
+
+    ghost view = { λ s. s.machine };
+}
+
+/// The first character that is no blank.
+fn first_mark(text: &[Ch]) -> Option<Ch>
+    ensures { result ≡ model.first_mark text.now }
+{
+    text.iter().copied().find(|c| *c != Ch::default())
+}
+
+/// At most `count` steps, and where the machine stands after them. Want of memory gives the number
+/// of those that are done.
+#[tactic(auto, using(crate::proofs::Steps::many_steps))]
+fn advance(machine: &mut Machine, count: u64) -> Result<Progress, u64>
+    ensures ok { OnOk result (machine.new ≡ steps count machine.old) }
+    ensures progress { IfOk result (λ p. p ≡ steps_progress count machine.old) }
+    ensures err { IfErr result (λ done. machine.new ≡ steps done machine.old) }
+    ensures part { IfErr result (λ done. done < count) }
+{
+    let mut progress = if machine.is_idle() {
+        Progress::Idle
+    } else {
+        Progress::Running
+    };
+    for done in 0..count {
+        if machine.is_idle() {
+            return Ok(progress);
+        }
+        match machine.step() {
+            Ok(next) => progress = next,
+            Err(AllocError) => return Err(done),
+        }
+    }
+    Ok(progress)
+}
+
+impl Session {
+    /// A session with this machine, as it stands.
+    pub fn new(alloc: Global, machine: Machine) -> Self
+        ensures { result ≡ machine }
+    {
+        Session { alloc, machine }
+    }
+
+    /// The machine, as it stands.
+    pub fn into_machine(self) -> Machine
+        ensures { result ≡ self }
+    {
+        let Session { machine, .. } = self;
+        machine
+    }
+
+    pub fn machine(&self) -> &Machine
+        ensures { result.now ≡ self.now }
+    {
+        &self.machine
+    }
+
+    /// The lines written since the last call. It takes no memory.
+    pub fn take_output(&mut self) -> Vec<OutLine>
+        ensures taken { result.items ≡ self.old.output }
+        ensures rest { self.new ≡ record self.old { output = [] } }
+    {
+        self.machine.take_output()
+    }
+
+    /// Reports a fault by its name alone.
+    fn refuse(&mut self, fault: Fault) -> Result<(), AllocError>
+        ensures ok { OnOk result (self.new ≡ model.refused self.old fault) }
+        ensures err { OnErr result (self.new ≡ self.old) }
+    {
+        let line = fault_line(self.alloc, fault)?;
+        self.machine.say(line)
+    }
+
+    /// Types a text on an idle machine.
+    fn feed_text(&mut self, text: &[Ch]) -> Result<(), FeedError>
+        ensures busy { IsErrOf result FeedError.Busy → IsFalse (is_idle self.old) }
+        ensures ok { OnOk result (self.new ≡ model.typed_behind self.old text.now (model.first_mark text.now)) }
+        ensures err { OnErr result (self.new ≡ self.old) }
+    {
+        match first_mark(text).map(|c| c.code()) {
+            Some(')') => Ok(self.refuse(Fault::Command)?),
+            Some('∇') => Ok(self.refuse(Fault::Defn)?),
+            _ => match self.machine.begin(text) {
+                Ok(()) => Ok(()),
+                Err(BeginError::Busy) => Err(FeedError::Busy),
+                Err(BeginError::Memory) => Err(FeedError::Memory),
+            },
+        }
+    }
+
+    /// Types a line: a statement begins, or a report is written at once. Busy exactly where the
+    /// machine runs.
+    pub fn feed(&mut self, bytes: &[u8]) -> Result<(), FeedError>
+        ensures busy { IsErrOf result FeedError.Busy ↔ IsFalse (is_idle self.old) }
+        ensures ok { OnOk result (self.new ≡ model.typed self.old bytes.now) }
+        ensures err { OnErr result (self.new ≡ self.old) }
+    {
+        if !self.machine.is_idle() {
+            return Err(FeedError::Busy);
+        }
+        match decode_line(self.alloc, bytes) {
+            Ok(text) => self.feed_text(&text),
+            Err(CharFault::Memory) => Err(FeedError::Memory),
+            Err(CharFault::NotUtf8 { .. }) => Ok(self.refuse(Fault::Character)?),
+            Err(CharFault::NotInSet { .. }) => Ok(self.refuse(Fault::Character)?),
+        }
+    }
+
+    /// At most `count` steps, until the machine is idle, and where it stands after them. After want
+    /// of memory it stands after the steps that are done.
+    pub fn advance(&mut self, count: u64) -> Result<Progress, AllocError>
+        ensures ok { OnOk result (self.new ≡ steps count self.old) }
+        ensures progress { IfOk result (λ p. p ≡ steps_progress count self.old) }
+        ensures err { OnErr result ((done : ℕ) × (done < count) × (self.new ≡ steps done self.old)) }
+    {
+        match advance(&mut self.machine, count) {
+            Ok(progress) => Ok(progress),
+            Err(_) => Err(AllocError),
+        }
+    }
+
+    /// Abandons what runs, with a report; an idle session stays.
+    pub fn interrupt(&mut self) -> Result<(), AllocError>
+        ensures ok { OnOk result (self.new ≡ interrupt self.old) }
+        ensures err { OnErr result (self.new ≡ self.old) }
+    {
+        self.machine.interrupt()
+    }
+
+    /// One event. Want of memory gives the number of its steps that are done.
+    fn apply(&mut self, event: &Event) -> Result<(), u64>
+        ensures ok { OnOk result (self.new ≡ model.after_event self.old (event_view event.now)) }
+        ensures err { IfErr result (λ done. self.new ≡ steps done self.old) }
+        ensures part { IfErr result (λ done. model.IsPart done (Some (event_view event.now))) }
+    {
+        match event {
+            Event::Line(bytes) => match self.feed(bytes.as_slice()) {
+                Ok(()) => Ok(()),
+                Err(FeedError::Busy) => Ok(()),
+                Err(FeedError::Memory) => Err(0),
+            },
+            Event::Steps(count) => match advance(&mut self.machine, *count) {
+                Ok(_) => Ok(()),
+                Err(done) => Err(done),
+            },
+            Event::Interrupt => match self.interrupt() {
+                Ok(()) => Ok(()),
+                Err(_) => Err(0),
+            },
+        }
+    }
+
+    /// The events in order. After want of memory the session stands where the error says.
+    #[tactic(auto, using(crate::proofs::Events::in_order))]
+    pub fn drive(&mut self, events: &[Event]) -> Result<(), DriveError>
+        ensures ok { OnOk result (self.new ≡ model.after self.old (event_list events.now)) }
+        ensures err { IfErr result (λ e. self.new ≡ steps e.steps (model.after self.old (take e.event (event_list events.now)))) }
+        ensures part { IfErr result (λ e. model.IsPart e.steps (slice_get (event_list events.now) e.event)) }
+    {
+        for (i, event) in events.iter().enumerate() {
+            if let Err(steps) = self.apply(event) {
+                return Err(DriveError { event: i, steps });
+            }
+        }
+        Ok(())
+    }
+}
