@@ -5,7 +5,7 @@ use crate::session::{Bytes, Event, FeedError, Session};
 use crate::streams::Device;
 use crate::tape::Tape;
 use apl_charset::encode;
-use apl_machine::{Machine, Progress};
+use apl_machine::{Machine, OutLine, Progress};
 use std::alloc::{AllocError, Global};
 use std::test::Fail;
 
@@ -179,30 +179,62 @@ fn failing_devices(rt: HostRuntime) -> Result<(), Fail> {
     Ok(())
 }
 
-#[test]
-fn sessions(rt: HostRuntime) -> Result<(), Fail> {
-    let alloc = rt.alloc();
+/// What was written, each line with a line feed.
+fn text_of(alloc: Global, lines: &[OutLine]) -> Result<Vec<u8>, AllocError> {
+    let mut all = Vec::new(alloc);
+    for line in lines {
+        let bytes = encode(alloc, line.text.as_slice())?;
+        all.extend_from_slice(&bytes)?;
+        all.push(b'\n')?;
+    }
+    Ok(all)
+}
+
+/// A session that was typed a line.
+fn typed(alloc: Global, line: &[u8]) -> Result<Session, FeedError> {
     let mut session = Session::new(alloc, Machine::new(alloc));
-    session.feed("2+3×4".as_bytes())?;
+    session.feed(line)?;
+    Ok(session)
+}
+
+#[test]
+fn steps(rt: HostRuntime) -> Result<(), Fail> {
+    let mut session = typed(rt.alloc(), "2+3×4".as_bytes())?;
     assert_eq!(rt; session.advance(1)?, Progress::Running);
     assert_eq!(rt; session.feed(b"5"), Err(FeedError::Busy));
     assert_eq!(rt; session.advance(9)?, Progress::Idle);
-    assert_eq!(rt; session.advance(9)?, Progress::Idle);
+    assert_eq!(rt; session.take_output().len(), 1);
+    Ok(())
+}
+
+/// The line `1+1`, one that comes while it runs, one step, and an interrupt.
+fn events(alloc: Global) -> Result<Vec<Event>, AllocError> {
     let mut events = Vec::new(alloc);
     events.push(Event::Line(Bytes::new(Vec::from_slice(alloc, b"1+1")?)))?;
     events.push(Event::Line(Bytes::new(Vec::from_slice(alloc, b"8")?)))?;
     events.push(Event::Steps(1))?;
     events.push(Event::Interrupt)?;
+    Ok(events)
+}
+
+#[test]
+fn driven(rt: HostRuntime) -> Result<(), Fail> {
+    let mut session = Session::new(rt.alloc(), Machine::new(rt.alloc()));
+    let events = events(rt.alloc())?;
     session.drive(&events)?;
     assert!(rt; session.machine().is_idle());
     let lines = session.take_output();
-    let want = ["14", "INTERRUPT", "      1+1", "      ^"];
-    assert_eq!(rt; lines.len(), want.len());
-    for (line, want) in lines.iter().zip(want.iter()) {
-        let bytes = encode(alloc, line.text.as_slice())?;
-        assert_eq!(rt; bytes.as_slice(), want.as_bytes(), "{want}");
-    }
-    session.feed(b"5")?;
+    let text = text_of(rt.alloc(), &lines)?;
+    assert_eq!(rt;
+        text.as_slice(),
+        b"INTERRUPT\n      1+1\n      ^\n".as_slice()
+    );
+    Ok(())
+}
+
+#[test]
+fn interrupted(rt: HostRuntime) -> Result<(), Fail> {
+    let mut session = typed(rt.alloc(), b"5")?;
     session.interrupt()?;
     let mut machine = session.into_machine();
     assert_eq!(rt; machine.take_output().len(), 3);
