@@ -1,6 +1,7 @@
 -- Rows and planes, one more at their end.
-use Rattle.std.proofs.Common.{◌≡◌, ℕ, zero, suc, ◌+◌, ◌*◌, List, [], ◌∷◌, ◌++◌, length, map, take, drop, refl, sym, ap, subst, ◌∙◌, arith, add-one, eq-eqb, zero-mul}
-use Rattle.std.proofs.lemmas.List.{drop-drop, append_assoc, map_push, length-map}
+use Rattle.std.proofs.Common.{◌≡◌, ℕ, zero, suc, ◌+◌, ◌*◌, List, [], ◌∷◌, ◌++◌, length, map, take, drop, refl, sym, ap, subst, ◌∙◌, arith, add-one, eq-eqb, zero-mul, zero-add, suc-add}
+use Rattle.std.specs.List.{flat_map}
+use Rattle.std.proofs.lemmas.List.{drop-drop, append_assoc, map_push, length-map, flat_map_more}
 use Rattle.std.proofs.lemmas.Bool.{ne_eqb}
 use Rattle.apl_arrays.specs.Cells.{Items, Numbers, Characters}
 use Rattle.apl_format.specs.Display.{taken, dropped, rows, planes, row_line, widths, joined, matrix_lines}
@@ -26,6 +27,20 @@ rows_suc (suc k) c items = ap (λ xs. taken c items ∷ xs) (rows_suc k c (dropp
 
 pub rows_more : (k c : ℕ) (items : Items) → rows (k + 1) c items ≡ rows k c items ++ taken c (dropped (k * c) items) ∷ []
 rows_more k c items = rw add-one (rows_suc k c items)
+
+-- the items of one row more, end to end
+pub rows_step : (f : Items → List ℕ) (k c : ℕ) (items : Items) (start : List ℕ) {line a b : List ℕ} → a ≡ start ++ flat_map f (rows k c items) →
+    line ≡ f (taken c (dropped (k * c) items)) → b ≡ a ++ line → b ≡ start ++ flat_map f (rows (k + 1) c items)
+rows_step f k c items start {line = line} e made g =
+    g ∙ ap (λ t. t ++ line) e ∙ ap (λ t. (start ++ flat_map f (rows k c items)) ++ t) made
+    ∙ flat_map_more f start (rows k c items) (taken c (dropped (k * c) items)) ∙ ap (λ xs. start ++ flat_map f xs) (sym (rows_more k c items))
+
+pub rows_append : (a b c : ℕ) (items : Items) → rows (a + b) c items ≡ rows a c items ++ rows b c (dropped (a * c) items)
+unfolding rows
+rows_append zero b c items =
+    ap (λ k. rows k c items) (zero-add b) ∙ sym (ap (λ x. rows b c x) (ap (λ n. dropped n items) (zero-mul c) ∙ dropped_none items))
+rows_append (suc a) b c items =
+    ap (λ k. rows k c items) (suc-add a b) ∙ ap (λ xs. taken c items ∷ xs) (rows_append a b c (dropped c items) ∙ ap (λ x. rows a c (dropped c items) ++ rows b c x) (dropped_rows a c items))
 
 planes_suc : (k h c : ℕ) (items : Items) → planes (suc k) h c items ≡ planes k h c items ++ rows h c (dropped (k * (h * c)) items) ∷ []
 unfolding planes

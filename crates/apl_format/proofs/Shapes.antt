@@ -5,7 +5,7 @@ use Rattle.apl_arrays.specs.Index.{size_of}
 use Rattle.apl_arrays.specs.Cells.{Arr, Items}
 use Rattle.apl_format.specs.Display.{display, lines_of, matrix_lines, vector_line}
 
-lines_step : (count n : ℕ) (s : List ℕ) (items : Items) → 2 ≤ length s → lines_of count (n ∷ s) items ≡ lines_of (count * n) s items
+pub lines_step : (count n : ℕ) (s : List ℕ) (items : Items) → 2 ≤ length s → lines_of count (n ∷ s) items ≡ lines_of (count * n) s items
 unfolding lines_of
 lines_step count n [] items h = absurd (omega arith)
 lines_step count n (c ∷ []) items h = absurd (omega arith)

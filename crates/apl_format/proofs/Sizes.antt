@@ -35,7 +35,7 @@ pub record Fit (count h c : ℕ) : Type 0 where
   pub plane : h * c ≤ 1000000
   pub planes : count ≤ 1000000
 
-times : (a b m n : ℕ) → a ≤ m → b ≤ n → a * b ≤ m * n
+pub times : (a b m n : ℕ) → a ≤ m → b ≤ n → a * b ≤ m * n
 times a b m n h k = let g : a * b ≤ m * b = mul-le-mul_right b h in let f : m * b ≤ m * n = mul-le-mul_left m k in omega arith
 
 pub planes_fit : (s : List ℕ) (h c : ℕ) → bound_of (s ++ h ∷ c ∷ []) ≤ 1000000 → Fit (size_of s) h c

@@ -1,2 +1,3 @@
 pub mod Display
+pub mod Formatted
 pub mod Parts

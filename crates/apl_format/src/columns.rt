@@ -20,7 +20,8 @@ fn widen(widths: &mut [usize], row: &[i64])
     }
 }
 
-fn number_widths(
+/// The widths of the columns of so many rows of numbers.
+pub(crate) fn number_widths(
     alloc: Global,
     numbers: &[i64],
     count: usize,

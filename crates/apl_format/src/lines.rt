@@ -13,7 +13,7 @@ use apl_charset::Text;
 use std::alloc::{AllocError, Global};
 
 /// How many index lists a shape within the limit has.
-fn count_of(shape: &[usize]) -> usize
+pub(crate) fn count_of(shape: &[usize]) -> usize
     requires { bound_of shape.now ≤ MAX_ELEMENTS }
     ensures { result ≡ size_of shape.now }
 {

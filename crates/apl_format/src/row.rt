@@ -12,7 +12,7 @@ use apl_charset::{Ch, Text};
 use std::alloc::{AllocError, Global};
 
 /// Numbers with one blank between.
-fn push_numbers(line: &mut Vec<Ch>, numbers: &[i64]) -> Result<(), AllocError>
+pub(crate) fn push_numbers(line: &mut Vec<Ch>, numbers: &[i64]) -> Result<(), AllocError>
     ensures { OnOk result (line.new.items ≡ line.old.items ++ joined 32 (map number_text numbers.now)) }
 {
     for (place, number) in numbers.iter().enumerate() {
@@ -23,7 +23,11 @@ fn push_numbers(line: &mut Vec<Ch>, numbers: &[i64]) -> Result<(), AllocError>
 }
 
 /// Numbers, each right-aligned to its width, with one blank between.
-fn push_aligned(line: &mut Vec<Ch>, widths: &[usize], numbers: &[i64]) -> Result<(), AllocError>
+pub(crate) fn push_aligned(
+    line: &mut Vec<Ch>,
+    widths: &[usize],
+    numbers: &[i64],
+) -> Result<(), AllocError>
     requires { length widths.now ≡ length numbers.now }
     ensures { OnOk result (line.new.items ≡ line.old.items ++ joined 32 (zip2 padded widths.now (map number_text numbers.now))) }
 {

@@ -1,4 +1,4 @@
-use Rattle.apl_format.proofs.Digits.{decimal_prints}
+use Rattle.apl_faults.proofs.Digits.{decimal_prints}
 use Rattle.apl_format.proofs.number.push_digits.Goals as goal
 
 pub push_ascii-requires : goal.push_ascii-requires
