@@ -3,3 +3,13 @@ pub mod Order
 pub mod InTurn
 pub mod InOrder
 pub mod Exits
+pub mod AtPlace
+pub mod Steps
+pub mod Whole
+pub mod Moves
+pub mod Formed
+pub mod Gathers
+pub mod Turns
+pub mod Joining
+pub mod ByIndex
+pub mod Nth

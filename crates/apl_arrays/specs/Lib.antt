@@ -1,7 +1,13 @@
 pub mod Index
 pub mod Cells
 pub mod Ravels
-pub mod Left
 pub mod Simple
 pub mod Results
 pub mod Answers
+pub mod Views
+pub mod Strides
+pub mod Left
+pub mod Nth
+pub mod Axes
+pub mod Joins
+pub mod Kinds

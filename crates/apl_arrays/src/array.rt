@@ -4,7 +4,7 @@ ghost use Rattle.std.specs.Result.{OkIff};
 ghost use Rattle.apl_arrays.specs.Index.{size_of, bound_of, indices};
 
 use crate::cell::{Cell, Ravel};
-use crate::cells::Cells;
+use crate::elements::Elements;
 use crate::shape::{MAX_ELEMENTS, MAX_RANK, is_in_bounds, place_of};
 use apl_charset::Ch;
 use apl_faults::Fault;
@@ -62,6 +62,14 @@ impl Array {
             Ok(lengths) => Array::new(lengths, ravel),
             Err(_) => Err(Fault::Limit),
         }
+    }
+
+    /// The array of this shape with these elements.
+    pub(crate) fn from_parts(shape: ArrayVec<usize, MAX_RANK>, ravel: Ravel) -> Array
+        requires { IsArray shape.items (items_of ravel) }
+        ensures { result ≡ record { shape = shape.items; items = items_of ravel } }
+    {
+        Array { shape, ravel }
     }
 
     /// One element as a scalar, any other number of elements as a vector.
@@ -151,10 +159,10 @@ impl Array {
     }
 
     /// The elements in row-major order, one after another.
-    pub fn iter(&self) -> Cells<'_>
+    pub fn iter(&self) -> Elements<'_>
         ensures { cells_left result ≡ cells_of self.now.items }
     {
-        Cells::new(&self.ravel)
+        Elements::new(&self.ravel)
     }
 
     /// The array of this one's shape with other elements.

@@ -3,6 +3,7 @@ ghost use Rattle.std.specs.Prelude.{◌≡◌, ◌==◌, length, slice_get, IfOk
 ghost use Rattle.std.specs.Int.{w64};
 ghost use Rattle.std.specs.List.{All};
 ghost use Rattle.apl_arrays.specs.Cells.{cells_of, AreStorable};
+ghost use Rattle.apl_arrays.specs.Kinds.{are_numbers};
 ghost use Rattle.apl_arrays.specs.Ravels.{items_of};
 
 use apl_charset::{Ch, in_set};
@@ -38,6 +39,13 @@ impl Ravel {
         ensures { result ≡ (length (cells_of (items_of self.now)) == 0) }
     {
         self.len() == 0
+    }
+
+    /// Whether the elements are numbers, also where there are none.
+    pub fn is_numeric(&self) -> bool
+        ensures { result ≡ are_numbers (items_of self.now) }
+    {
+        matches!(self, Ravel::Nums(_))
     }
 
     /// The element at a place, from 0.

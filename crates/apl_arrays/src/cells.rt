@@ -1,54 +1,26 @@
-// The elements of an array, one after another.
+// What has a shape, a type and elements at index lists.
 ghost use Rattle.std.specs.Prelude.{◌≡◌};
 
-use crate::cell::{Cell, Ravel};
-use apl_charset::Ch;
+use crate::array::Array;
+use crate::view::View;
 
-/// The elements that are left, in ravel order.
-#[derive(Drop)]
-pub enum Cells<'a> {
-    Nums(&'a [i64]),
-    Chars(&'a [Ch]),
+/// What has a shape, a type, and an element of that type at each index list within the shape: an array, or a view of one.
+pub trait Cells {
+    ghost use Rattle.apl_arrays.specs.Cells.{Arr, IsArray};
+
+    /// The array that it is.
+    ghost array: { Self → Arr };
+
+    /// All of it, as a view.
+    fn view(&self) -> View<'_>
+        ensures value { result ≡ array self.now }
+        ensures array { IsArray (array self.now).shape (array self.now).items };
 }
 
-impl<'a> Cells<'a> {
-    ghost use Rattle.apl_arrays.specs.Cells.{cells_of};
-    ghost use Rattle.apl_arrays.specs.Ravels.{items_of};
-    ghost use Rattle.apl_arrays.specs.Left.{cells_left};
+impl Cells for Array {
+    ghost array = { λ a. a };
 
-    /// All elements of a ravel.
-    pub fn new(ravel: &'a Ravel) -> Cells<'a>
-        ensures { cells_left result ≡ cells_of (items_of ravel.now) }
-    {
-        match ravel {
-            Ravel::Nums(numbers) => Cells::Nums(numbers.as_slice()),
-            Ravel::Chars(characters) => Cells::Chars(characters.as_slice()),
-        }
-    }
-}
-
-impl<'a> Iterator for Cells<'a> {
-    type Item = Cell;
-
-    ghost use Rattle.std.specs.Iterator.{YieldsFirst, item_count};
-    ghost use Rattle.apl_arrays.specs.Left.{cells_left};
-
-    ghost next_gives = { YieldsFirst cells_left };
-
-    ghost remaining = { item_count cells_left };
-
-    fn next(&mut self) -> Option<Cell> {
-        match self {
-            Cells::Nums(numbers) => {
-                let (first, rest) = numbers.split_first()?;
-                *numbers = rest;
-                Some(Cell::Num(*first))
-            }
-            Cells::Chars(characters) => {
-                let (first, rest) = characters.split_first()?;
-                *characters = rest;
-                Some(Cell::Char(*first))
-            }
-        }
+    fn view(&self) -> View<'_> {
+        View::whole(self)
     }
 }

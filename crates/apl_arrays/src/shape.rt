@@ -1,6 +1,6 @@
 // Shapes and index lists.
 ghost use Rattle.std.specs.Prelude.{◌≡◌, ◌≤◌, IsTrue, ◌↔◌, if◌then◌else◌};
-ghost use Rattle.apl_arrays.specs.Index.{bound_of, is_within, position_in};
+ghost use Rattle.apl_arrays.specs.Index.{bound_of, is_within, position_in, size_of};
 
 /// The most axes that an array has.
 pub const MAX_RANK: usize = 8;
@@ -42,4 +42,16 @@ pub(crate) fn place_of(shape: &[usize], index: &[usize]) -> Option<usize>
         place = place * shape[axis] + index[axis];
     }
     Some(place)
+}
+
+/// How many index lists lie within a shape.
+pub(crate) fn size(shape: &[usize]) -> usize
+    requires { bound_of shape.now ≤ MAX_ELEMENTS }
+    ensures { result ≡ size_of shape.now }
+{
+    let mut total = 1usize;
+    for n in shape {
+        total *= *n;
+    }
+    total
 }

@@ -11,7 +11,7 @@ use Rattle.apl_tokens.specs.declared.line.TokenError.{TokenError}
 use Rattle.apl_tokens.specs.declared.line.TokenError.TheVariants.{Quote, Unbalanced, Stray, Limit, TooLong, Memory}
 use Rattle.apl_tokens.specs.Tokens.{tokens_of}
 use Rattle.apl_translate.specs.Binding.{bound_of, names_of}
-use Rattle.apl_machine_state.specs.Definitions.{Text}
+use Rattle.apl_defn.specs.Definitions.{Text}
 use Rattle.apl_machine_state.specs.Items.{fresh}
 use Rattle.apl_machine_state.specs.Environment.{Statement, class_of}
 use Rattle.apl_machine_state.specs.State.{State, with_lines}

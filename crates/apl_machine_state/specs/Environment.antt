@@ -4,7 +4,8 @@ use Rattle.std.specs.Str.{bytes_eq}
 use Rattle.apl_arrays.specs.Cells.{Arr}
 use Rattle.apl_translate.specs.declared.form.Class.{Class}
 use Rattle.apl_translate.specs.declared.form.Class.TheVariants as classes
-use Rattle.apl_machine_state.specs.Definitions.{Text, Definition, Vectors, function_named}
+use Rattle.apl_defn.specs.Definitions.{Text, Definition}
+use Rattle.apl_machine_state.specs.Definitions.{Vectors, function_named}
 use Rattle.apl_machine_state.specs.Items.{Rest}
 
 -- what a map gives a name: a value, no value, or the number of a label's line

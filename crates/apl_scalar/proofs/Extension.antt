@@ -1,11 +1,12 @@
 -- What extension does to places.
-use Rattle.std.proofs.Common.{get_or, pos, map, ◌≡◌, ◌≢◌, ℕ, ℤ, ◌<◌, Bool, true, false, nat_eq, cond, List, [], ◌∷◌, length, Option, Some, None, Result, Ok, Err, refl, ap, sym, ◌∙◌, arith}
+use Rattle.std.proofs.Common.{get_or, pos, map, ◌≡◌, ◌≢◌, ℕ, ℤ, ◌<◌, Bool, true, false, nat_eq, cond, List, [], ◌∷◌, length, Option, Some, None, Result, Ok, Err, refl, ap, sym, subst, ◌∙◌, arith}
 use Rattle.std.specs.Prelude.{slice_get}
 use Rattle.std.specs.List.{range_with_len}
 use Rattle.std.specs.Option.{option_map}
 use Rattle.std.proofs.lemmas.Bool.{eqb-true, eq-eqb}
 use Rattle.std.proofs.lemmas.Option.{slice_get-map, slice_get-get_or}
 use Rattle.std.proofs.lemmas.List.{length-map}
+use Rattle.std.proofs.Math.ListN.{get_or-map}
 use Rattle.apl_faults.specs.declared.fault.Fault.{Fault}
 use Rattle.apl_faults.specs.declared.fault.Fault.TheVariants.{Domain, Length, Rank}
 use Rattle.apl_arrays.specs.declared.cell.Cell.{Cell}
@@ -21,8 +22,8 @@ use Rattle.apl_scalar.specs.declared.function.Dyadic.{Dyadic}
 use Rattle.apl_scalar.specs.declared.operand.Operand.{Operand}
 use Rattle.apl_scalar.specs.declared.operand.Operand.TheVariants.{One, Many}
 use Rattle.apl_scalar.specs.Functions.{monadic_of, dyadic_of}
-use Rattle.apl_scalar.specs.Operands.{number_at, Shows, AreCharacters}
-use Rattle.apl_scalar.specs.Extension.{is_single, same_shape, extended, operand_at, monadic_at, dyadic_at, numbers_in, dyadic}
+use Rattle.apl_scalar.specs.Operands.{number_at, character_at, Shows, AreCharacters}
+use Rattle.apl_scalar.specs.Extension.{is_single, same_shape, extended, operand_at, monadic_at, compared, dyadic_at, numbers_in, dyadic}
 
 num_at : (zs : List ℤ) (k : ℕ) → k < length zs → slice_get (map Num zs) k ≡ Some (Num (get_or zs k (pos 0)))
 num_at zs k h = slice_get-map Num zs k ∙ ap (option_map Num) (slice_get-get_or zs k (pos 0) h)
@@ -53,6 +54,9 @@ shown a s i (Many zs) full fits e w =
     ∙ ap (λ (t : Items). slice_get (cells_of t) (position_in s i)) e.0
     ∙ num_at zs.now (position_in s i) (omega (arith, position_in-lt s i w))
 
+pub shows_along : (x : Operand) (t : Items) (zs ws : List ℤ) → zs ≡ ws → t ≡ Numbers ws → Shows x (Numbers zs) → Shows x t
+shows_along x t zs ws e d h = let P : Items → Type 0 = λ t. Shows x t in subst P (ap Numbers e ∙ sym d) h
+
 -- two operands of numbers
 pub by_operands : (f : Dyadic) (a b : Arr) (s : List ℕ) (x y : Operand) → length (cells_of a.items) ≡ size_of a.shape → length (cells_of b.items) ≡ size_of b.shape →
     (is_single a.shape ≡ false → a.shape ≡ s) → (is_single b.shape ≡ false → b.shape ≡ s) → Shows x a.items → Shows y b.items →
@@ -76,6 +80,70 @@ by_numbers f b zs n full e count =
     ∙ by_places b.shape (λ k. monadic_of f (get_or zs k (pos 0)))
     ∙ ap (λ (m : ℕ). all_ok (λ k. monadic_of f (get_or zs k (pos 0))) (range_with_len 0 m)) (sym (many_cells b.items zs (size_of b.shape) full e) ∙ sym count)
 
+-- the element of an operand for the place of each index list of the result
+element_there : (a : Arr) (s i : List ℕ) (d : Cell) → length (cells_of a.items) ≡ size_of a.shape → (is_single a.shape ≡ false → a.shape ≡ s) → is_within s i ≡ true →
+    operand_at a i ≡ Some (get_or (cells_of a.items) (cond (is_single a.shape) 0 (position_in s i)) d)
+element_there a s i d full fits w = each (is_single a.shape) refl
+  where
+    each : (b : Bool) → is_single a.shape ≡ b → operand_at a i ≡ Some (get_or (cells_of a.items) (cond (is_single a.shape) 0 (position_in s i)) d)
+    each true e =
+        ap (λ (b : Bool). cond b (slice_get (cells_of a.items) 0) (cell_at a i)) e
+        ∙ slice_get-get_or (cells_of a.items) 0 d (omega (arith, eqb-true (size_of a.shape) 1 e, full))
+        ∙ ap (λ (b : Bool). Some (get_or (cells_of a.items) (cond b 0 (position_in s i)) d)) (sym e)
+    each false e =
+        ap (λ (b : Bool). cond b (slice_get (cells_of a.items) 0) (cell_at a i)) e
+        ∙ ap (λ (t : List ℕ). cond (is_within t i) (slice_get (cells_of a.items) (position_in t i)) None) (fits e)
+        ∙ ap (λ (b : Bool). cond b (slice_get (cells_of a.items) (position_in s i)) None) w
+        ∙ slice_get-get_or (cells_of a.items) (position_in s i) d (omega (arith, position_in-lt s i w, full, ap size_of (fits e)))
+        ∙ ap (λ (b : Bool). Some (get_or (cells_of a.items) (cond b 0 (position_in s i)) d)) (sym e)
+
+number_there : (a : Arr) (s i : List ℕ) (zs : List ℤ) → a.items ≡ Numbers zs → length (cells_of a.items) ≡ size_of a.shape → (is_single a.shape ≡ false → a.shape ≡ s) → is_within s i ≡ true →
+    operand_at a i ≡ Some (Num (get_or zs (cond (is_single a.shape) 0 (position_in s i)) (pos 0)))
+number_there a s i zs e full fits w =
+    element_there a s i (Num (pos 0)) full fits w
+    ∙ ap (λ (t : Items). Some (get_or (cells_of t) (cond (is_single a.shape) 0 (position_in s i)) (Num (pos 0)))) e
+    ∙ ap (λ (c : Cell). Some c) (get_or-map Num zs (cond (is_single a.shape) 0 (position_in s i)) (pos 0))
+
+character_there : (a : Arr) (s i : List ℕ) (cs : List ℕ) → a.items ≡ Characters cs → length (cells_of a.items) ≡ size_of a.shape → (is_single a.shape ≡ false → a.shape ≡ s) → is_within s i ≡ true →
+    operand_at a i ≡ Some (Char (character_at cs (position_in s i)))
+character_there a s i cs e full fits w =
+    element_there a s i (Char 0) full fits w
+    ∙ ap (λ (t : Items). Some (get_or (cells_of t) (cond (is_single a.shape) 0 (position_in s i)) (Char 0))) e
+    ∙ ap (λ (c : Cell). Some c) (get_or-map Char cs (cond (is_single a.shape) 0 (position_in s i)) 0)
+    ∙ ap (λ (n : ℕ). Some (Char (get_or cs (cond (nat_eq n 1) 0 (position_in s i)) 0))) (sym full ∙ ap (λ (t : Items). length (cells_of t)) e ∙ length-map cs Char)
+
+-- two operands of characters
+pub by_characters : (f : Dyadic) (a b : Arr) (s cs ds : List ℕ) → a.items ≡ Characters cs → b.items ≡ Characters ds → length (cells_of a.items) ≡ size_of a.shape → length (cells_of b.items) ≡ size_of b.shape →
+    (is_single a.shape ≡ false → a.shape ≡ s) → (is_single b.shape ≡ false → b.shape ≡ s) →
+    all_ok (λ i. dyadic_at f (operand_at a i) (operand_at b i)) (indices s) ≡ all_ok (λ k. compared f (nat_eq (character_at cs k) (character_at ds k))) (range_with_len 0 (size_of s))
+by_characters f a b s cs ds e_a e_b full_a full_b fits_a fits_b =
+    all_ok-same (λ i. is_within s i ≡ true) (λ i. dyadic_at f (operand_at a i) (operand_at b i)) (λ i. compared f (nat_eq (character_at cs (position_in s i)) (character_at ds (position_in s i))))
+    (λ i w. ap (λ (o : Option Cell). dyadic_at f o (operand_at b i)) (character_there a s i cs e_a full_a fits_a w)
+    ∙ ap (dyadic_at f (Some (Char (character_at cs (position_in s i))))) (character_there b s i ds e_b full_b fits_b w))
+    (indices s) (all_within s)
+    ∙ by_places s (λ k. compared f (nat_eq (character_at cs k) (character_at ds k)))
+
+-- an operand of numbers and one of characters
+pub by_number_and_character : (f : Dyadic) (a b : Arr) (s : List ℕ) (zs : List ℤ) (cs : List ℕ) → a.items ≡ Numbers zs → b.items ≡ Characters cs → length (cells_of a.items) ≡ size_of a.shape → length (cells_of b.items) ≡ size_of b.shape →
+    (is_single a.shape ≡ false → a.shape ≡ s) → (is_single b.shape ≡ false → b.shape ≡ s) →
+    all_ok (λ i. dyadic_at f (operand_at a i) (operand_at b i)) (indices s) ≡ all_ok (λ k. compared f false) (range_with_len 0 (size_of s))
+by_number_and_character f a b s zs cs e_a e_b full_a full_b fits_a fits_b =
+    all_ok-same (λ i. is_within s i ≡ true) (λ i. dyadic_at f (operand_at a i) (operand_at b i)) (λ i. compared f false)
+    (λ i w. ap (λ (o : Option Cell). dyadic_at f o (operand_at b i)) (number_there a s i zs e_a full_a fits_a w)
+    ∙ ap (dyadic_at f (Some (Num (get_or zs (cond (is_single a.shape) 0 (position_in s i)) (pos 0))))) (character_there b s i cs e_b full_b fits_b w))
+    (indices s) (all_within s)
+    ∙ by_places s (λ k. compared f false)
+
+pub by_character_and_number : (f : Dyadic) (a b : Arr) (s : List ℕ) (cs : List ℕ) (zs : List ℤ) → a.items ≡ Characters cs → b.items ≡ Numbers zs → length (cells_of a.items) ≡ size_of a.shape → length (cells_of b.items) ≡ size_of b.shape →
+    (is_single a.shape ≡ false → a.shape ≡ s) → (is_single b.shape ≡ false → b.shape ≡ s) →
+    all_ok (λ i. dyadic_at f (operand_at a i) (operand_at b i)) (indices s) ≡ all_ok (λ k. compared f false) (range_with_len 0 (size_of s))
+by_character_and_number f a b s cs zs e_a e_b full_a full_b fits_a fits_b =
+    all_ok-same (λ i. is_within s i ≡ true) (λ i. dyadic_at f (operand_at a i) (operand_at b i)) (λ i. compared f false)
+    (λ i w. ap (λ (o : Option Cell). dyadic_at f o (operand_at b i)) (character_there a s i cs e_a full_a fits_a w)
+    ∙ ap (dyadic_at f (Some (Char (character_at cs (position_in s i))))) (number_there b s i zs e_b full_b fits_b w))
+    (indices s) (all_within s)
+    ∙ by_places s (λ k. compared f false)
+
 -- no element is a number
 abbrev NoNumber : Option Cell → Type 0
 NoNumber (Some (Num z)) = ⊥
@@ -97,33 +165,12 @@ either_way false x y p q = q
 pub no_number_there : (a : Arr) (i : List ℕ) → AreCharacters a.items → NoNumber (cell_at a i)
 no_number_there a i h = either_way (is_within a.shape i) _ None (no_number_got a.items (position_in a.shape i) h) tt
 
-pub no_operand_there : (a : Arr) (i : List ℕ) → AreCharacters a.items → NoNumber (operand_at a i)
-no_operand_there a i h = either_way (is_single a.shape) _ (cell_at a i) (no_number_got a.items 0 h) (no_number_there a i h)
-
-no_left : (f : Dyadic) (x y : Option Cell) → NoNumber x → dyadic_at f x y ≡ Err Domain
-no_left f (Some (Num z)) y h = absurd h
-no_left f (Some (Char c)) y h = refl
-no_left f None y h = refl
-
-no_right : (f : Dyadic) (x y : Option Cell) → NoNumber y → dyadic_at f x y ≡ Err Domain
-no_right f (Some (Num x)) (Some (Num z)) h = absurd h
-no_right f (Some (Num x)) (Some (Char c)) h = refl
-no_right f (Some (Num x)) None h = refl
-no_right f (Some (Char c)) y h = refl
-no_right f None y h = refl
-
 no_only : (f : Monadic) (y : Option Cell) → NoNumber y → monadic_at f y ≡ Err Domain
 no_only f (Some (Num z)) h = absurd h
 no_only f (Some (Char c)) h = refl
 no_only f None h = refl
 
 -- characters where numbers are needed are at fault from the first element on
-pub left_characters : (f : Dyadic) (a b : Arr) (s : List ℕ) → AreCharacters a.items → 0 < size_of s → all_ok (λ i. dyadic_at f (operand_at a i) (operand_at b i)) (indices s) ≡ Err Domain
-left_characters f a b s h some = all_ok-fault s _ Domain some (λ i. no_left f (operand_at a i) (operand_at b i) (no_operand_there a i h))
-
-pub right_characters : (f : Dyadic) (a b : Arr) (s : List ℕ) → AreCharacters b.items → 0 < size_of s → all_ok (λ i. dyadic_at f (operand_at a i) (operand_at b i)) (indices s) ≡ Err Domain
-right_characters f a b s h some = all_ok-fault s _ Domain some (λ i. no_right f (operand_at a i) (operand_at b i) (no_operand_there b i h))
-
 pub only_characters : (f : Monadic) (b : Arr) → AreCharacters b.items → 0 < size_of b.shape → all_ok (λ i. monadic_at f (cell_at b i)) (indices b.shape) ≡ Err Domain
 only_characters f b h some = all_ok-fault b.shape _ Domain some (λ i. no_only f (cell_at b i) (no_number_there b i h))
 

@@ -1,15 +1,16 @@
 -- Scalar functions of arrays: an operand of one element extends over the other.
-use Rattle.std.specs.Prelude.{ℕ, ℤ, Bool, true, false, ◌&&◌, nat_lt, nat_eq, cond, List, [], ◌∷◌, length, slice_get, Option, Some, Result, Ok, Err}
+use Rattle.std.specs.Prelude.{ℕ, ℤ, Bool, true, false, not, ◌&&◌, nat_lt, nat_eq, cond, List, [], ◌∷◌, length, slice_get, Option, Some, Result, Ok, Err}
 use Rattle.apl_faults.specs.declared.fault.Fault.{Fault}
 use Rattle.apl_faults.specs.declared.fault.Fault.TheVariants.{Domain, Rank, Length}
 use Rattle.apl_arrays.specs.declared.cell.Cell.{Cell}
-use Rattle.apl_arrays.specs.declared.cell.Cell.TheVariants.{Num}
+use Rattle.apl_arrays.specs.declared.cell.Cell.TheVariants.{Num, Char}
 use Rattle.apl_arrays.specs.Index.{size_of, indices}
 use Rattle.apl_arrays.specs.Cells.{Arr, Numbers, cells_of, cell_at}
 use Rattle.apl_arrays.specs.Results.{and_then, ok_map, all_ok}
 use Rattle.apl_scalar.specs.declared.function.Monadic.{Monadic}
 use Rattle.apl_scalar.specs.declared.function.Dyadic.{Dyadic}
-use Rattle.apl_scalar.specs.Functions.{monadic_of, dyadic_of}
+use Rattle.apl_scalar.specs.declared.function.Dyadic.TheVariants as two
+use Rattle.apl_scalar.specs.Functions.{number_of, monadic_of, dyadic_of}
 
 -- an array of the shape has one element
 abbrev pub is_single : List ℕ → Bool
@@ -38,9 +39,18 @@ abbrev pub monadic_at : Monadic → Option Cell → Result ℤ Fault
 monadic_at f (Some (Num y)) = monadic_of f y
 monadic_at f _ = Err Domain
 
--- a function at two elements
+-- a function at two elements that are not both numbers: whether they are the same is all that is asked of them
+abbrev pub compared : Dyadic → Bool → Result ℤ Fault
+compared two.Equal same = Ok (number_of same)
+compared two.NotEqual same = Ok (number_of (not same))
+compared _ same = Err Domain
+
+-- a function at two elements: a character is no number
 abbrev pub dyadic_at : Dyadic → Option Cell → Option Cell → Result ℤ Fault
 dyadic_at f (Some (Num x)) (Some (Num y)) = dyadic_of f x y
+dyadic_at f (Some (Num x)) (Some (Char d)) = compared f false
+dyadic_at f (Some (Char c)) (Some (Num y)) = compared f false
+dyadic_at f (Some (Char c)) (Some (Char d)) = compared f (nat_eq c d)
 dyadic_at f _ _ = Err Domain
 
 -- numbers in a shape

@@ -1,11 +1,7 @@
-// The scalar functions of numbers.
+// The scalar functions.
 ghost use Rattle.std.specs.Prelude.{◌≡◌, ◌≤ℤ◌, ℤ, Result, pos, Ok};
 ghost use Rattle.apl_faults.specs.declared.fault.Fault.{Fault};
-ghost use Rattle.apl_scalar.specs.declared.function.Monadic.TheVariants as one;
-ghost use Rattle.apl_scalar.specs.declared.function.Dyadic.TheVariants as two;
-ghost use Rattle.apl_scalar.specs.Functions.{monadic_of, dyadic_of};
 
-use crate::overflow::{flagged_difference, flagged_sum, product};
 use apl_faults::Fault;
 
 /// The scalar functions of one argument.
@@ -17,14 +13,56 @@ pub enum Monadic {
     Minus,
     /// The sign: -1, 0 or 1.
     Times,
+    /// The reciprocal, which 1 and -1 alone have. Any other number is a domain fault.
+    Divide,
+    /// The number rounded up, which is itself.
+    Ceiling,
+    /// The number rounded down, which is itself.
+    Floor,
+    /// The number without its sign.
+    Magnitude,
+    /// 1 for 0, and 0 for 1. Any other number is a domain fault.
+    Not,
+    /// The product of the numbers from 1 to the argument. A negative one is a domain fault.
+    Factorial,
 }
 
 /// The scalar functions of two arguments.
 #[derive(Clone, Copy, Debug, PartialEq, Eq)]
 pub enum Dyadic {
+    /// The sum.
     Plus,
+    /// The difference.
     Minus,
+    /// The product.
     Times,
+    /// The exact quotient. That of 0 by 0 is 1; by another zero, or where there is none, it is a domain fault.
+    Divide,
+    /// The first argument to the power of the second. A negative power of another number than 1 and -1 is a domain fault.
+    Power,
+    /// The greater one.
+    Maximum,
+    /// The lesser one.
+    Minimum,
+    /// What is left of the second argument when it is divided by the first. It has the first one's sign.
+    Residue,
+    /// Whether the first argument is less, as 1 or 0.
+    Less,
+    NotGreater,
+    /// Whether the arguments are the same. They may be characters, and a character is no number.
+    Equal,
+    NotLess,
+    Greater,
+    /// Whether the arguments differ. They may be characters.
+    NotEqual,
+    /// Whether both truth values are 1. Another number than 0 and 1 is a domain fault.
+    And,
+    /// Whether a truth value is 1.
+    Or,
+    /// Whether a truth value is 0.
+    Nand,
+    /// Whether both truth values are 0.
+    Nor,
 }
 
 /// A scalar function that the compiler knows, so that a loop over it needs no dispatch. One of a single argument takes it on the right.
@@ -36,123 +74,13 @@ pub(crate) trait Scalar {
         ensures { result ≡ meaning x y };
 
     /// A number and a flag. The number is the value if the flag is not negative.
+    #[inline(always)]
     fn tried(x: i64, y: i64) -> (i64, i64)
-        ensures { pos 0 ≤ℤ result.1 → meaning x y ≡ Ok result.0 };
-}
-
-pub(crate) struct Identity;
-
-impl Scalar for Identity {
-    ghost meaning = { λ _ y. monadic_of one.Plus y };
-
-    #[inline(always)]
-    fn apply(_x: i64, y: i64) -> Result<i64, Fault> {
-        Ok(y)
-    }
-
-    #[inline(always)]
-    fn tried(_x: i64, y: i64) -> (i64, i64) {
-        (y, 0)
-    }
-}
-
-pub(crate) struct Negation;
-
-impl Scalar for Negation {
-    ghost meaning = { λ _ y. monadic_of one.Minus y };
-
-    #[inline(always)]
-    fn apply(_x: i64, y: i64) -> Result<i64, Fault> {
-        let (value, flag) = flagged_difference(0, y);
-        if flag < 0 {
-            Err(Fault::Limit)
-        } else {
-            Ok(value)
-        }
-    }
-
-    #[inline(always)]
-    fn tried(_x: i64, y: i64) -> (i64, i64) {
-        flagged_difference(0, y)
-    }
-}
-
-pub(crate) struct Sign;
-
-impl Scalar for Sign {
-    ghost meaning = { λ _ y. monadic_of one.Times y };
-
-    #[inline(always)]
-    fn apply(_x: i64, y: i64) -> Result<i64, Fault> {
-        Ok(y.signum())
-    }
-
-    #[inline(always)]
-    fn tried(_x: i64, y: i64) -> (i64, i64) {
-        (y.signum(), 0)
-    }
-}
-
-pub(crate) struct Sum;
-
-impl Scalar for Sum {
-    ghost meaning = { dyadic_of two.Plus };
-
-    #[inline(always)]
-    fn apply(x: i64, y: i64) -> Result<i64, Fault> {
-        let (value, flag) = flagged_sum(x, y);
-        if flag < 0 {
-            Err(Fault::Limit)
-        } else {
-            Ok(value)
-        }
-    }
-
-    #[inline(always)]
-    fn tried(x: i64, y: i64) -> (i64, i64) {
-        flagged_sum(x, y)
-    }
-}
-
-pub(crate) struct Difference;
-
-impl Scalar for Difference {
-    ghost meaning = { dyadic_of two.Minus };
-
-    #[inline(always)]
-    fn apply(x: i64, y: i64) -> Result<i64, Fault> {
-        let (value, flag) = flagged_difference(x, y);
-        if flag < 0 {
-            Err(Fault::Limit)
-        } else {
-            Ok(value)
-        }
-    }
-
-    #[inline(always)]
-    fn tried(x: i64, y: i64) -> (i64, i64) {
-        flagged_difference(x, y)
-    }
-}
-
-pub(crate) struct Product;
-
-impl Scalar for Product {
-    ghost meaning = { dyadic_of two.Times };
-
-    #[inline(always)]
-    fn apply(x: i64, y: i64) -> Result<i64, Fault> {
-        match product(x, y) {
-            Some(value) => Ok(value),
-            None => Err(Fault::Limit),
-        }
-    }
-
-    #[inline(always)]
-    fn tried(x: i64, y: i64) -> (i64, i64) {
-        match product(x, y) {
-            Some(value) => (value, 0),
-            None => (0, -1),
+        ensures { pos 0 ≤ℤ result.1 → meaning x y ≡ Ok result.0 }
+    {
+        match Self::apply(x, y) {
+            Ok(value) => (value, 0),
+            Err(_) => (0, -1),
         }
     }
 }

@@ -6,7 +6,7 @@ use Rattle.apl_tokens.specs.declared.token.Token.{Token}
 use Rattle.apl_tokens.specs.declared.line.TokenError.{TokenError}
 use Rattle.apl_tokens.specs.Tokens.{tokens_of}
 use Rattle.apl_machine_state.specs.declared.output.OutLine.{OutLine}
-use Rattle.apl_machine_state.specs.Definitions.{Text}
+use Rattle.apl_defn.specs.Definitions.{Text}
 use Rattle.apl_machine_state.specs.Reports.{said}
 use Rattle.apl_machine_state.specs.Changes.{Change, Rests, Moves, change}
 use Rattle.apl_machine_state.specs.State.{State, is_idle, step, steps, applied, with_lines, interrupted}

@@ -4,7 +4,7 @@ use Rattle.apl_charset.specs.Decoding.{decoded}
 use Rattle.apl_faults.specs.declared.fault.Fault.{Fault}
 use Rattle.apl_faults.specs.declared.fault.Fault.TheVariants.{Defn, Character, Command}
 use Rattle.apl_faults.specs.Report.{name_of}
-use Rattle.apl_machine_state.specs.Definitions.{Text}
+use Rattle.apl_defn.specs.Definitions.{Text}
 use Rattle.apl_machine_state.specs.State.{State, is_idle, steps, with_lines, interrupt}
 use Rattle.apl_machine_state.specs.Beginning.{begun}
 

@@ -30,6 +30,21 @@ fn empty(alloc: Global) -> Tape {
     Tape::new(Vec::new(alloc))
 }
 
+/// The first input whose run on a clear workspace, with so many steps a line, ends in an error or writes something else.
+fn wrong_row<'a>(
+    alloc: Global,
+    rows: &[(&'a str, u64, &str)],
+) -> Result<Option<&'a str>, AllocError> {
+    for (input, steps, output) in rows {
+        let mut reader = tape(alloc, input.as_bytes())?;
+        let (error, written) = ran(alloc, &mut reader, empty(alloc), *steps)?;
+        if error.is_some() || written.as_slice() != output.as_bytes() {
+            return Ok(Some(*input));
+        }
+    }
+    Ok(None)
+}
+
 #[test]
 fn transcripts(rt: HostRuntime) -> Result<(), Fail> {
     let rows = [
@@ -56,12 +71,44 @@ fn transcripts(rt: HostRuntime) -> Result<(), Fail> {
         ("5\r", 1000, "CHARACTER ERROR\n"),
         ("5\r6\n7\n", 1000, "CHARACTER ERROR\n7\n"),
     ];
-    for (input, steps, output) in rows {
-        let mut reader = tape(rt.alloc(), input.as_bytes())?;
-        let (error, written) = ran(rt.alloc(), &mut reader, empty(rt.alloc()), steps)?;
-        assert_eq!(rt; error, None, "{input}");
-        assert_eq!(rt; written.as_slice(), output.as_bytes(), "{input}");
-    }
+    assert_eq!(rt; wrong_row(rt.alloc(), &rows)?, None);
+    Ok(())
+}
+
+#[test]
+fn faults_of_tokens(rt: HostRuntime) -> Result<(), Fail> {
+    let rows = [
+        ("'AB\n", 0, "SYNTAX ERROR\n      'AB\n      ^\n"),
+        ("(1]\n", 0, "SYNTAX ERROR\n      (1]\n        ^\n"),
+        ("3A\n", 0, "SYNTAX ERROR\n      3A\n       ^\n"),
+        ("L:5\n", 0, "SYNTAX ERROR\n      L:5\n       ^\n"),
+        (
+            "9223372036854775808\n",
+            0,
+            "LIMIT ERROR\n      9223372036854775808\n      ^\n",
+        ),
+        ("(∇ 'A\n", 0, "SYNTAX ERROR\n      (∇ 'A\n       ^\n"),
+        ("2+3+\n", 1, "SYNTAX ERROR\n      2+3+\n         ^\n"),
+    ];
+    assert_eq!(rt; wrong_row(rt.alloc(), &rows)?, None);
+    Ok(())
+}
+
+#[test]
+fn texts_and_comments(rt: HostRuntime) -> Result<(), Fail> {
+    let rows = [
+        ("'IT''S'\n", 9, "IT'S\n"),
+        ("'A'\n", 9, "A\n"),
+        ("''\n", 9, "\n"),
+        ("5 ⍝ five\n", 9, "5\n"),
+        ("⍝ 'five\n", 9, ""),
+        (
+            "¯9223372036854775808 007\n",
+            9,
+            "¯9223372036854775808 7\n",
+        ),
+    ];
+    assert_eq!(rt; wrong_row(rt.alloc(), &rows)?, None);
     Ok(())
 }
 

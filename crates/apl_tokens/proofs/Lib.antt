@@ -15,3 +15,10 @@ pub mod Progress
 pub mod Answered
 pub mod Limits
 pub mod Places
+pub mod Words
+pub mod Ends
+pub mod Plainly
+pub mod Fitting
+pub mod Written
+pub mod Sharp
+pub mod Leftmost

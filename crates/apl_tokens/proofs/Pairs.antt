@@ -11,7 +11,7 @@ use Rattle.apl_tokens.specs.declared.brackets.Side.TheVariants.{Opens, Closes, N
 use Rattle.apl_tokens.specs.declared.brackets.Bracket.{Bracket}
 use Rattle.apl_tokens.specs.Brackets.{same_bracket, kind_side, Open, innermost, after_side, unmatched}
 
-at_token : (ts : List Token) (i : ℕ) (t : Token) → i < length ts → t ≡ get_or ts i t → drop i ts ≡ t ∷ drop (i + 1) ts
+pub at_token : (ts : List Token) (i : ℕ) (t : Token) → i < length ts → t ≡ get_or ts i t → drop i ts ≡ t ∷ drop (i + 1) ts
 at_token ts i t lt e = rw (add-one, drop-cons ts i t, ← e) refl
 
 -- the innermost is kept last

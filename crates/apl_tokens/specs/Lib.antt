@@ -5,3 +5,5 @@ pub mod Brackets
 pub mod Joined
 pub mod Lines
 pub mod Tokens
+pub mod Plain
+pub mod Faults

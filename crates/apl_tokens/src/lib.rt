@@ -9,6 +9,8 @@ mod reading;
 #[cfg(test)]
 mod tests;
 mod token;
+mod writing;
 
-pub use line::{TokenError, one_answer, one_reading, tokens, worked_readings};
+pub use line::{TokenError, one_answer, one_reading, tokens, worked_faults, worked_readings};
 pub use token::{Kind, Numbers, Token};
+pub use writing::spell;

@@ -1,10 +1,12 @@
 // The tokens of a line.
-ghost use Rattle.std.specs.Prelude.{◌≡◌, ◌≢◌, ℕ, List, All, ◌<◌, ◌≤◌, length, true, IfOk, IfErr, IfSome, OnOk, MatchOption, ◌∷◌, [], pos, Ok, Err};
+ghost use Rattle.std.specs.Prelude.{◌≡◌, ◌≢◌, ℕ, List, All, ◌<◌, ◌≤◌, length, true, IfOk, IfErr, IfSome, OnOk, MatchOption, ◌∷◌, [], pos, Ok, Err, replicate, ◌++◌};
 ghost use Rattle.apl_tokens.specs.Spelling.{all_blank, Step, Row};
 ghost use Rattle.apl_tokens.specs.Lines.{error_at, IsSmall, IsBreak, Joins, Breaks, Spells, IsFault, Ascend, Fits};
 ghost use Rattle.apl_tokens.specs.Joined.{push_joined};
 ghost use Rattle.apl_tokens.specs.declared.token.Kind.TheVariants.{Constant};
 ghost use Rattle.apl_tokens.specs.Tokens.{tokens_of, Reads, AreTokens, IsPlaced, token};
+ghost use Rattle.apl_tokens.specs.Faults.{faults_of, Leads};
+ghost use Rattle.apl_tokens.specs.declared.reading.Fault.TheVariants as Fault;
 ghost use Rattle.apl_symbols.specs.declared.symbol.Symbol.TheVariants.{Primitive};
 ghost use Rattle.apl_symbols.specs.declared.primitive.Primitive.TheVariants.{Plus, Times};
 ghost use Rattle.apl_tokens.specs.declared.token.Token.{Token};
@@ -198,6 +200,10 @@ pub fn tokens(alloc: Global, text: &[Ch]) -> Result<Vec<Token>, TokenError>
     ensures sound { IfOk result (λ v. AreTokens v.items) }
     // The column of a fault is one of the line, or the one after its longest.
     ensures placed { IfErr result (λ e. IsPlaced e) }
+    // It is the leftmost of all faults of the text, of two at one column the stray character.
+    ensures leftmost { IfErr result (λ e. Leads e text.now) }
+    // A text that is read has none.
+    ensures faultless { IfOk result (λ v. faults_of text.now ≡ []) }
 {
     read(alloc, text)
 }
@@ -217,6 +223,8 @@ pub fn one_reading()
     ensures faulty { (text : List ℕ) (e : TokenError) → tokens_of text ≡ Err e → IsFault text e × (e ≢ Memory) }
     ensures sound { (text : List ℕ) (ts : List Token) → tokens_of text ≡ Ok ts → AreTokens ts }
     ensures placed { (text : List ℕ) (e : TokenError) → tokens_of text ≡ Err e → IsPlaced e }
+    ensures leftmost { (text : List ℕ) (e : TokenError) → tokens_of text ≡ Err e → Leads e text }
+    ensures faultless { (text : List ℕ) (ts : List Token) → tokens_of text ≡ Ok ts → faults_of text ≡ [] }
 {}
 
 /// The law that the answer computes, at four texts.
@@ -229,4 +237,16 @@ pub fn worked_readings()
     ensures bracket { tokens_of (40 ∷ 50 ∷ 43 ∷ 51 ∷ []) ≡ Err (TokenError.Unbalanced 1) }
     // 1 3A
     ensures stray { tokens_of (49 ∷ 32 ∷ 51 ∷ 65 ∷ []) ≡ Err (TokenError.Stray 4) }
+{}
+
+/// The law that a text is read on past each fault, at four texts.
+pub fn worked_faults()
+    // 5 and a name of 33 letters directly behind it
+    ensures one_column { faults_of (53 ∷ replicate 33 65) ≡ (Fault.Stray, 2) ∷ (Fault.Limit, 2) ∷ [] }
+    // 99999999999999999999A
+    ensures behind_limit { faults_of (replicate 20 57 ++ 65 ∷ []) ≡ (Fault.Limit, 1) ∷ (Fault.Stray, 21) ∷ [] }
+    // ∇ 2¯ 'A
+    ensures apart { faults_of (0x2207 ∷ 32 ∷ 50 ∷ 0xAF ∷ 32 ∷ 39 ∷ 65 ∷ []) ≡ (Fault.Stray, 1) ∷ (Fault.Stray, 4) ∷ (Fault.Stray, 4) ∷ (Fault.Quote, 6) ∷ [] }
+    // (A
+    ensures brackets { faults_of (40 ∷ 65 ∷ []) ≡ [] }
 {}

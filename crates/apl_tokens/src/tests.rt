@@ -1,6 +1,7 @@
 // Lines with their tokens or faults.
-use crate::line::{TokenError, one_answer, one_reading, tokens, worked_readings};
+use crate::line::{TokenError, one_answer, one_reading, tokens, worked_faults, worked_readings};
 use crate::token::{Kind, Numbers, Token};
+use crate::writing::spell;
 use apl_charset::{Text, decode_line};
 use apl_symbols::{Name, Primitive, Symbol, SystemName};
 use std::alloc::Global;
@@ -16,6 +17,7 @@ fn faults(rt: HostRuntime) -> Result<(), Fail> {
     one_answer();
     one_reading();
     worked_readings();
+    worked_faults();
     let rows = [
         ("3A", TokenError::Stray { column: 2 }),
         ("'a' 5¯", TokenError::Stray { column: 6 }),
@@ -128,5 +130,30 @@ fn long_lines(rt: HostRuntime) -> Result<(), Fail> {
     let text = decode_line(rt.alloc(), line.as_bytes())?;
     let fault = TokenError::TooLong { column: 501 };
     assert_eq!(rt; tokens(rt.alloc(), text.as_slice()).err(), Some(fault));
+    Ok(())
+}
+
+#[test]
+fn spelled_again(rt: HostRuntime) -> Result<(), Fail> {
+    let rows = [
+        ("(2+3)×4", "(2+3)×4"),
+        ("A¯0", "A¯0"),
+        ("⎕IO¯00 ¯0", "⎕IO¯0 0"),
+        (" L:5", " L:5"),
+        ("'IT''S'", "'IT''S'"),
+        ("1 2  ¯3 ⍝ note", "1 2 ¯3  ⍝ note"),
+        ("007+¯05 0 ", "7  +¯5 0"),
+        ("", ""),
+    ];
+    for (line, want) in rows {
+        let text = decode_line(rt.alloc(), line.as_bytes())?;
+        let list = tokens(rt.alloc(), text.as_slice())?;
+        let plain = decode_line(rt.alloc(), want.as_bytes())?;
+        assert_eq!(rt;
+            spell(rt.alloc(), list.as_slice())?,
+            Text::new(plain),
+            "{line}"
+        );
+    }
     Ok(())
 }

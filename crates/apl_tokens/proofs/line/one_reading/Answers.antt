@@ -1,6 +1,7 @@
 use Rattle.apl_tokens.proofs.Answered.{spelled_answer, answer_spells, fault_answer, answer_fault}
 use Rattle.apl_tokens.proofs.Limits.{tokens_limits}
 use Rattle.apl_tokens.proofs.Places.{fault_placed}
+use Rattle.apl_tokens.proofs.Leftmost.{answer_leads, answer_faultless}
 use Rattle.apl_tokens.proofs.line.one_reading.Goals as goal
 
 pub returns-clause-spelled : goal.returns-clause-spelled
@@ -20,3 +21,9 @@ returns-clause-sound c = λ text ts is. tokens_limits ts text (answer_spells tex
 
 pub returns-clause-placed : goal.returns-clause-placed
 returns-clause-placed c = λ text e is. fault_placed text e (answer_fault text e is).0
+
+pub returns-clause-leftmost : goal.returns-clause-leftmost
+returns-clause-leftmost c = answer_leads
+
+pub returns-clause-faultless : goal.returns-clause-faultless
+returns-clause-faultless c = answer_faultless

@@ -7,6 +7,7 @@ use Rattle.apl_tokens.specs.Tokens.{AreTokens}
 use Rattle.apl_tokens.proofs.Answered.{reads_answer}
 use Rattle.apl_tokens.proofs.Limits.{tokens_limits, tokens_fit}
 use Rattle.apl_tokens.proofs.Places.{faults_placed}
+use Rattle.apl_tokens.proofs.Leftmost.{result_leads, result_faultless}
 use Rattle.apl_tokens.proofs.line.tokens.Goals as goal
 
 pub returns-clause-complete : goal.returns-clause-complete
@@ -29,3 +30,9 @@ returns-clause-sound c = of_answer (λ v. v.items) AreTokens c.args.text.now c.r
 
 pub returns-clause-placed : goal.returns-clause-placed
 returns-clause-placed c = faults_placed c.args.text.now c.read.result c.read.ensures.fault
+
+pub returns-clause-leftmost : goal.returns-clause-leftmost
+returns-clause-leftmost c = result_leads c.args.text.now c.read.result (reads_answer c.args.text.now c.read.result c.read.ensures.found c.read.ensures.fault)
+
+pub returns-clause-faultless : goal.returns-clause-faultless
+returns-clause-faultless c = result_faultless c.args.text.now c.read.result (reads_answer c.args.text.now c.read.result c.read.ensures.found c.read.ensures.fault)

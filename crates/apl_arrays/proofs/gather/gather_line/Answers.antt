@@ -1,0 +1,16 @@
+use Rattle.std.proofs.Common.{◌+◌, ◌<◌, ◌++◌, ◌∷◌, [], get_or, length, arith, ap, sym, ◌∙◌}
+use Rattle.std.proofs.lemmas.List.{get_or_default}
+use Rattle.apl_arrays.specs.Strides.{step_at}
+use Rattle.apl_arrays.proofs.Gathers.{line_step, line_end}
+use Rattle.apl_arrays.proofs.gather.gather_line.Goals as goal
+
+pub loop-i-preserved : goal.loop-i-preserved
+loop-i-preserved g c =
+    let below : c.along.result < length c.args.raw.now = rw (c.along.ensures) (c.requires.placed c.loop-i.i c.loop-i-test.true) in
+    λ d. line_step (λ k. get_or c.args.raw.now (c.args.at + step_at c.args.axis.now k) d) c.loop-i.out.items c.push.new.self.items c.loop-i.i c.args.axis.now.length c.loop-i-test.true
+    (c.in_ok-push.ensures.items
+    ∙ ap (λ x. c.loop-i.out.items ++ x ∷ []) (c.index-raw-along.is ∙ get_or_default c.args.raw.now c.along.result c.index-raw-along.result d below ∙ ap (λ p. get_or c.args.raw.now p d) c.along.ensures))
+    ∙ c.loop-i.invariant d
+
+pub returns : goal.returns
+returns g c = λ d. sym (line_end (λ k. get_or c.args.raw.now (c.args.at + step_at c.args.axis.now k) d) c.loop-i.out.items c.loop-i.i c.args.axis.now.length (omega arith)) ∙ c.loop-i.invariant d

@@ -1,0 +1,6 @@
+pub mod Definitions
+pub mod Headers
+pub mod Reading
+pub mod Defining
+pub mod Listing
+pub mod Defines

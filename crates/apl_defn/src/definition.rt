@@ -1,0 +1,142 @@
+// Functions as they are defined.
+ghost use Rattle.std.specs.Prelude.{◌≡◌, ◌≤◌, length, map, Some, None, Ok, IfOk, IfSome, IfNone};
+ghost use Rattle.apl_tokens.specs.Tokens.{tokens_of};
+ghost use Rattle.apl_defn.specs.Definitions.{line_of, line_at};
+ghost use Rattle.apl_defn.specs.Defining.{IsDefined};
+
+use crate::line::Line;
+use crate::parts::Header;
+use apl_charset::Ch;
+use apl_symbols::Name;
+use apl_tokens::Token;
+use std::alloc::{AllocError, Global};
+use std::marker::Model;
+
+/// A function: its header, its lines, and its labels. It keeps the tokens of each line, so that a
+/// line isn't read anew each time it begins.
+#[derive(Drop)]
+pub struct Definition {
+    header: Header,
+    lines: Vec<Line>,
+    labels: Vec<(Name, usize)>,
+}
+
+impl Model for Definition {
+    ghost use Rattle.std.specs.Prelude.{map};
+    ghost use Rattle.apl_defn.specs.Definitions.{Definition as Defined};
+
+    ghost Value = { Defined };
+
+    ghost use Rattle.apl_defn.specs.Defining.{IsDefined};
+
+    ghost view = { λ d. record { header = d.header; lines = map (λ l. l.text) d.lines.items; labels = d.labels.items } };
+
+    ghost invariant = { λ d. IsDefined (record { header = d.header; lines = map (λ l. l.text) d.lines.items; labels = d.labels.items }) };
+}
+
+impl Definition {
+    /// The function of this header with these lines and labels.
+    pub(crate) fn new(header: Header, lines: Vec<Line>, labels: Vec<(Name, usize)>) -> Definition
+        requires { IsDefined (record { header = header; lines = map (λ l. l.text) lines.items; labels = labels.items }) }
+        ensures { result ≡ record { header = header; lines = map (λ l. l.text) lines.items; labels = labels.items } }
+    {
+        Definition {
+            header,
+            lines,
+            labels,
+        }
+    }
+
+    /// Its header.
+    pub fn header(&self) -> &Header
+        ensures value { result.now ≡ self.now.header }
+        ensures defined { IsDefined self.now }
+    {
+        &self.header
+    }
+
+    /// How many lines it has.
+    pub fn len(&self) -> usize
+        ensures value { result ≡ length self.now.lines }
+        ensures few { result ≤ 999 }
+    {
+        self.lines.len()
+    }
+
+    /// Its lines.
+    pub(crate) fn lines(&self) -> &[Line]
+        ensures { map (λ l. l.text) result.now ≡ self.now.lines }
+    {
+        self.lines.as_slice()
+    }
+
+    /// The text of a line, counted from 1.
+    pub fn line(&self, n: usize) -> Option<&[Ch]>
+        ensures none { IfNone result (line_at self.now.lines n ≡ None) }
+        ensures value { IfSome result (λ text. line_at self.now.lines n ≡ Some text.now) }
+        ensures short { IfSome result (λ text. length text.now ≤ 500) }
+    {
+        match line_at(self.lines(), n) {
+            Some(line) => return Some(line.text.as_slice()),
+            None => return None,
+        }
+    }
+
+    /// The tokens of a line, counted from 1.
+    pub fn tokens(&self, n: usize) -> Option<&[Token]>
+        ensures none { IfNone result (line_at self.now.lines n ≡ None) }
+        ensures line { IfSome result (λ tokens. line_at self.now.lines n ≡ Some (line_of self.now n)) }
+        ensures value { IfSome result (λ tokens. tokens_of (line_of self.now n) ≡ Ok tokens.now) }
+    {
+        match line_at(self.lines(), n) {
+            Some(line) => return Some(line.tokens.as_slice()),
+            None => return None,
+        }
+    }
+
+    /// Its labels in the order of the lines, each with the number of its line.
+    pub fn labels(&self) -> &[(Name, usize)]
+        ensures { result.now ≡ self.now.labels }
+    {
+        self.labels.as_slice()
+    }
+
+    /// An equal function.
+    pub fn copy(&self, alloc: Global) -> Result<Definition, AllocError>
+        ensures { IfOk result (λ copied. copied ≡ self.now) }
+    {
+        let header = self.header.copy(alloc)?;
+        let labels = Vec::from_slice(alloc, self.labels.as_slice())?;
+        let lines = copy_lines(alloc, self.lines.as_slice())?;
+        Ok(Definition {
+            header,
+            lines,
+            labels,
+        })
+    }
+}
+
+/// The line of that number, from 1.
+fn line_at(lines: &[Line], n: usize) -> Option<&Line>
+    ensures none { IfNone result (line_at (map (λ l. l.text) lines.now) n ≡ None) }
+    ensures value { IfSome result (λ l. line_at (map (λ l. l.text) lines.now) n ≡ Some l.now.text) }
+{
+    if n == 0 {
+        return None;
+    }
+    lines.get(n - 1)
+}
+
+/// The same lines again.
+fn copy_lines(alloc: Global, lines: &[Line]) -> Result<Vec<Line>, AllocError>
+    ensures { IfOk result (λ v. map (λ l. l.text) v.items ≡ map (λ l. l.text) lines.now) }
+{
+    let mut copied = Vec::with_capacity(alloc, lines.len())?;
+    for line in lines {
+        match Line::new(alloc, &line.text)? {
+            Some(again) => copied.push(again)?,
+            None => unreachable!(),
+        }
+    }
+    Ok(copied)
+}

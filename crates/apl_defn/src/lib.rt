@@ -1,0 +1,21 @@
+//! Headers and definitions of functions, and how they are written.
+#![tactic(auto)]
+
+mod defining;
+mod definition;
+mod error;
+mod laws;
+mod line;
+mod listing;
+mod parts;
+mod reading;
+#[cfg(test)]
+mod tests;
+
+pub use defining::define;
+pub use definition::Definition;
+pub use error::DefnError;
+pub use laws::{definitions, headers};
+pub use listing::{canonical, show};
+pub use parts::{Header, Names};
+pub use reading::header;

@@ -1,0 +1,89 @@
+// Exact quotients and what division leaves.
+ghost use Rattle.std.specs.Prelude.{◌≡◌};
+ghost use Rattle.apl_scalar.specs.declared.function.Monadic.TheVariants as one;
+ghost use Rattle.apl_scalar.specs.declared.function.Dyadic.TheVariants as two;
+ghost use Rattle.apl_scalar.specs.Functions.{monadic_of, dyadic_of, quotient, residue};
+
+use crate::function::Scalar;
+use apl_faults::Fault;
+
+/// The exact quotient.
+#[inline(always)]
+fn exact_quotient(x: i64, y: i64) -> Result<i64, Fault>
+    ensures { result ≡ quotient x y }
+{
+    if y == 0 {
+        return if x == 0 { Ok(1) } else { Err(Fault::Domain) };
+    }
+    if y == -1 {
+        return match x.checked_neg() {
+            Some(value) => Ok(value),
+            None => Err(Fault::Limit),
+        };
+    }
+    if x % y == 0 {
+        Ok(x / y)
+    } else {
+        Err(Fault::Domain)
+    }
+}
+
+/// What is left of `y` when it is divided by `x`, with the sign of `x`.
+#[inline(always)]
+fn residue_by(x: i64, y: i64) -> i64
+    ensures { result ≡ residue x y }
+{
+    if x == 0 {
+        return y;
+    }
+    if x == -1 {
+        return 0;
+    }
+    let rest = y.rem_euclid(x);
+    if x > 0 {
+        rest
+    } else if rest == 0 {
+        0
+    } else {
+        rest + x
+    }
+}
+
+pub(crate) struct Reciprocal;
+
+impl Scalar for Reciprocal {
+    ghost meaning = { λ _ y. monadic_of one.Divide y };
+
+    #[inline(always)]
+    fn apply(_x: i64, y: i64) -> Result<i64, Fault> {
+        if y == 1 {
+            Ok(1)
+        } else if y == -1 {
+            Ok(-1)
+        } else {
+            Err(Fault::Domain)
+        }
+    }
+}
+
+pub(crate) struct Quotient;
+
+impl Scalar for Quotient {
+    ghost meaning = { dyadic_of two.Divide };
+
+    #[inline(always)]
+    fn apply(x: i64, y: i64) -> Result<i64, Fault> {
+        exact_quotient(x, y)
+    }
+}
+
+pub(crate) struct Residue;
+
+impl Scalar for Residue {
+    ghost meaning = { dyadic_of two.Residue };
+
+    #[inline(always)]
+    fn apply(x: i64, y: i64) -> Result<i64, Fault> {
+        Ok(residue_by(x, y))
+    }
+}

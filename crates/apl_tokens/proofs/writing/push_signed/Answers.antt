@@ -1,0 +1,7 @@
+use Rattle.std.proofs.Common.{refl}
+use Rattle.apl_charset.specs.Set.{is_member}
+use Rattle.apl_tokens.proofs.writing.push_signed.Goals as goal
+
+pub member-requires : goal.member-requires
+unfolding is_member
+member-requires c = refl
