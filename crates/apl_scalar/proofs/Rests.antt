@@ -1,7 +1,8 @@
 -- Quotients rounded down, and what division leaves.
-use Rattle.std.proofs.Common.{◌≡◌, ◌≢◌, ℕ, zero, suc, ℤ, pos, negsuc, neg_ℤ, ◌+ℤ◌, ◌-ℤ◌, ◌*ℤ◌, ◌≤ℤ◌, ◌<ℤ◌, ◌+◌, ◌-◌, ◌*◌, ◌/◌, ◌%◌, ◌<◌, ◌≤◌, ◌⊎◌, inl, inr, FitsSigned, to_z, of_z, refl, ap, ◌∙◌, arith}
-use Rattle.std.specs.Int.{w64, IsNonNegative, int_div_euclid, int_rem_euclid}
-use Rattle.std.proofs.Math.Nat.{div-add-mod, mul-suc, suc-mod, mod-eq_of_lt, mod_self, mod-lt, zero-mod, mod-one}
+use Rattle.std.proofs.Common.{◌≡◌, ◌≢◌, ℕ, zero, suc, ℤ, pos, negsuc, neg_ℤ, ◌+ℤ◌, ◌-ℤ◌, ◌*ℤ◌, ◌≤ℤ◌, ◌<ℤ◌, ◌+◌, ◌-◌, ◌*◌, ◌/◌, ◌%◌, ◌<◌, ◌≤◌, ◌⊎◌, inl, inr, FitsSigned, to_z, of_z, refl, ap, ◌∙◌, arith, sym}
+use Rattle.std.specs.Int.{w64, int_div_euclid, int_rem_euclid}
+use Rattle.std.specs.Prelude.{int_rem}
+use Rattle.std.proofs.Math.Nat.{div-add-mod, mul-suc, suc-mod, mod-eq_of_lt, mod_self, mod-lt, zero-mod}
 use Rattle.std.proofs.lemmas.Bool.{cases_lt}
 use Rattle.std.proofs.lemmas.Int.{ints}
 use Rattle.apl_scalar.specs.Functions.{residue, IsLeft}
@@ -45,60 +46,53 @@ next_rest m n = each (cases_lt (suc (m % suc n)) (suc n))
         let last : m % suc n ≡ n = omega (arith, (split m n).1) in
         inl (suc-mod m (suc n) ∙ ap (λ k. suc k % suc n) last ∙ mod_self (suc n), last)
 
--- the rest of the opposite number by the opposite divisor, by the rest itself
-opposite : (y : ℤ) (n : ℕ) → ((int_rem_euclid y (negsuc n) ≡ pos 0) × (neg_ℤ (int_rem_euclid (neg_ℤ y) (pos (suc n))) ≡ pos 0))
-    ⊎ ((int_rem_euclid y (negsuc n) ≢ pos 0) × (neg_ℤ (int_rem_euclid (neg_ℤ y) (pos (suc n))) ≡ int_rem_euclid y (negsuc n) +ℤ negsuc n))
-opposite (pos zero) n = inl (ap pos (zero-mod (suc n)), ap (λ r. neg_ℤ (pos r)) (zero-mod (suc n)))
-opposite (pos (suc m)) n = each (next_rest m n)
+-- what is left, by the rest with the sign of y: that rest itself, or the sum of it and the divisor
+pub up_same : (x y : ℤ) → pos 0 <ℤ x → pos 0 ≤ℤ int_rem y x → residue x y ≡ int_rem y x
+up_same (pos zero) y h l = absurd (omega (arith, ints))
+up_same (pos (suc n)) (pos m) h l = positive_rest (pos m) n
+up_same (pos (suc n)) (negsuc m) h l = positive_rest (negsuc m) n ∙ each (next_rest m n) l
   where
-    each : ((suc m % suc n ≡ 0) × (m % suc n ≡ n)) ⊎ (suc m % suc n ≡ m % suc n + 1) →
-        ((pos (suc m % suc n) ≡ pos 0) × (neg_ℤ (pos (suc n - 1 - m % suc n)) ≡ pos 0)) ⊎ ((pos (suc m % suc n) ≢ pos 0) × (neg_ℤ (pos (suc n - 1 - m % suc n)) ≡ pos (suc m % suc n) +ℤ negsuc n))
-    each (inl h) = let z = h.0 in let l = h.1 in inl (omega (arith, ints), omega (arith, ints))
-    each (inr h) = let l = (split m n).1 in inr (λ e. omega (arith, ints), omega (arith, ints))
-opposite (negsuc m) n = each (next_rest m n)
+    each : ((suc m % suc n ≡ 0) × (m % suc n ≡ n)) ⊎ (suc m % suc n ≡ m % suc n + 1) → pos 0 ≤ℤ neg_ℤ (pos (suc m % suc n)) → pos (suc n - 1 - m % suc n) ≡ neg_ℤ (pos (suc m % suc n))
+    each (inl e) l = let z = e.0 in let k = e.1 in omega (arith, ints)
+    each (inr e) l = absurd (omega (arith, ints))
+up_same (negsuc n) y h l = absurd (omega (arith, ints))
+
+pub up_more : (x y : ℤ) → pos 0 <ℤ x → int_rem y x <ℤ pos 0 → residue x y ≡ int_rem y x +ℤ x
+up_more (pos zero) y h l = absurd (omega (arith, ints))
+up_more (pos (suc n)) (pos m) h l = absurd (omega (arith, ints))
+up_more (pos (suc n)) (negsuc m) h l = positive_rest (negsuc m) n ∙ each (next_rest m n) l
   where
-    each : ((suc m % suc n ≡ 0) × (m % suc n ≡ n)) ⊎ (suc m % suc n ≡ m % suc n + 1) →
-        ((pos (suc n - 1 - m % suc n) ≡ pos 0) × (neg_ℤ (pos (suc m % suc n)) ≡ pos 0)) ⊎ ((pos (suc n - 1 - m % suc n) ≢ pos 0) × (neg_ℤ (pos (suc m % suc n)) ≡ pos (suc n - 1 - m % suc n) +ℤ negsuc n))
-    each (inl h) = let z = h.0 in let l = h.1 in inl (omega (arith, ints), omega (arith, ints))
-    each (inr h) = let l = (split m n).1 in let k = (split (suc m) n).1 in inr (λ e. omega (arith, ints), omega (arith, ints))
+    each : ((suc m % suc n ≡ 0) × (m % suc n ≡ n)) ⊎ (suc m % suc n ≡ m % suc n + 1) → neg_ℤ (pos (suc m % suc n)) <ℤ pos 0 → pos (suc n - 1 - m % suc n) ≡ neg_ℤ (pos (suc m % suc n)) +ℤ pos (suc n)
+    each (inl e) l = let z = e.0 in absurd (omega (arith, ints))
+    each (inr e) l = let k = (split m n).1 in omega (arith, ints)
+up_more (negsuc n) y h l = absurd (omega (arith, ints))
 
--- what is left by a positive number, by -1, and by another negative number
-pub residue_positive : (x y : ℤ) → pos 0 <ℤ x → residue x y ≡ int_rem_euclid y x
-residue_positive (pos zero) y h = absurd (omega (arith, ints))
-residue_positive (pos (suc n)) y h = positive_rest y n
-residue_positive (negsuc n) y h = absurd (omega (arith, ints))
-
-pub residue_zero : (x y : ℤ) → x <ℤ pos 0 → int_rem_euclid y x ≡ pos 0 → residue x y ≡ pos 0
-residue_zero (pos n) y h e = absurd (omega (arith, ints))
-residue_zero (negsuc n) y h e = negative_rest y n ∙ each (opposite y n)
+pub down_same : (x y : ℤ) → x <ℤ pos 0 → int_rem y x ≤ℤ pos 0 → residue x y ≡ int_rem y x
+down_same (pos n) y h l = absurd (omega (arith, ints))
+down_same (negsuc n) (pos zero) h l = negative_rest (pos zero) n ∙ ap (λ r. neg_ℤ (pos r)) (zero-mod (suc n)) ∙ sym (ap pos (zero-mod (suc n)))
+down_same (negsuc n) (pos (suc m)) h l = negative_rest (pos (suc m)) n ∙ each (next_rest m n) l
   where
-    each : ((int_rem_euclid y (negsuc n) ≡ pos 0) × (neg_ℤ (int_rem_euclid (neg_ℤ y) (pos (suc n))) ≡ pos 0))
-        ⊎ ((int_rem_euclid y (negsuc n) ≢ pos 0) × (neg_ℤ (int_rem_euclid (neg_ℤ y) (pos (suc n))) ≡ int_rem_euclid y (negsuc n) +ℤ negsuc n)) →
-        neg_ℤ (int_rem_euclid (neg_ℤ y) (pos (suc n))) ≡ pos 0
-    each (inl h) = h.1
-    each (inr h) = absurd (h.0 e)
+    each : ((suc m % suc n ≡ 0) × (m % suc n ≡ n)) ⊎ (suc m % suc n ≡ m % suc n + 1) → pos (suc m % suc n) ≤ℤ pos 0 → neg_ℤ (pos (suc n - 1 - m % suc n)) ≡ pos (suc m % suc n)
+    each (inl e) l = let z = e.0 in let k = e.1 in omega (arith, ints)
+    each (inr e) l = absurd (omega (arith, ints))
+down_same (negsuc n) (negsuc m) h l = negative_rest (negsuc m) n
 
-pub residue_negative : (x y : ℤ) → x <ℤ pos 0 → int_rem_euclid y x ≢ pos 0 → residue x y ≡ int_rem_euclid y x +ℤ x
-residue_negative (pos n) y h e = absurd (omega (arith, ints))
-residue_negative (negsuc n) y h e = negative_rest y n ∙ each (opposite y n)
+pub down_more : (x y : ℤ) → x <ℤ pos 0 → pos 0 <ℤ int_rem y x → residue x y ≡ int_rem y x +ℤ x
+down_more (pos n) y h l = absurd (omega (arith, ints))
+down_more (negsuc n) (pos zero) h l = absurd (omega (arith, ints, zero-mod (suc n)))
+down_more (negsuc n) (pos (suc m)) h l = negative_rest (pos (suc m)) n ∙ each (next_rest m n) l
   where
-    each : ((int_rem_euclid y (negsuc n) ≡ pos 0) × (neg_ℤ (int_rem_euclid (neg_ℤ y) (pos (suc n))) ≡ pos 0))
-        ⊎ ((int_rem_euclid y (negsuc n) ≢ pos 0) × (neg_ℤ (int_rem_euclid (neg_ℤ y) (pos (suc n))) ≡ int_rem_euclid y (negsuc n) +ℤ negsuc n)) →
-        neg_ℤ (int_rem_euclid (neg_ℤ y) (pos (suc n))) ≡ int_rem_euclid y (negsuc n) +ℤ negsuc n
-    each (inl h) = absurd (e h.0)
-    each (inr h) = h.1
+    each : ((suc m % suc n ≡ 0) × (m % suc n ≡ n)) ⊎ (suc m % suc n ≡ m % suc n + 1) → pos 0 <ℤ pos (suc m % suc n) → neg_ℤ (pos (suc n - 1 - m % suc n)) ≡ pos (suc m % suc n) +ℤ negsuc n
+    each (inl e) l = let z = e.0 in absurd (omega (arith, ints))
+    each (inr e) l = let k = (split m n).1 in omega (arith, ints)
+down_more (negsuc n) (negsuc m) h l = absurd (omega (arith, ints))
 
--- a rest and a negative divisor add up in 64 bits
-pub sum_fits : (r x : ℤ) → FitsSigned w64 r → FitsSigned w64 x → IsNonNegative r → x <ℤ pos 0 → to_z w64 (of_z w64 (to_z w64 (of_z w64 r) +ℤ to_z w64 (of_z w64 x))) ≡ r +ℤ x
-sum_fits (pos n) x f g h l = omega (arith, ints)
-sum_fits (negsuc n) x f g h l = absurd h
+-- numbers of two signs add up in 64 bits
+pub sum_up : (r x : ℤ) → FitsSigned w64 r → FitsSigned w64 x → r <ℤ pos 0 → pos 0 <ℤ x → to_z w64 (of_z w64 (to_z w64 (of_z w64 r) +ℤ to_z w64 (of_z w64 x))) ≡ r +ℤ x
+sum_up r x f g h l = omega (arith, ints)
 
-pub residue_unit : (y : ℤ) → residue (negsuc 0) y ≡ pos 0
-residue_unit y = residue_zero (negsuc 0) y (omega (arith, ints)) (each y)
-  where
-    each : (y : ℤ) → int_rem_euclid y (negsuc 0) ≡ pos 0
-    each (pos m) = ap pos (mod-one m)
-    each (negsuc m) = ap (λ r. pos (1 - 1 - r)) (mod-one m)
+pub sum_down : (r x : ℤ) → FitsSigned w64 r → FitsSigned w64 x → pos 0 <ℤ r → x <ℤ pos 0 → to_z w64 (of_z w64 (to_z w64 (of_z w64 r) +ℤ to_z w64 (of_z w64 x))) ≡ r +ℤ x
+sum_down r x f g h l = omega (arith, ints)
 
 -- the law of residues
 again : (y z : ℤ) → y ≡ z +ℤ (y -ℤ z)

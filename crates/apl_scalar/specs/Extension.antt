@@ -16,6 +16,7 @@ use Rattle.apl_scalar.specs.Functions.{number_of, monadic_of, dyadic_of}
 abbrev pub is_single : List ℕ → Bool
 is_single s = nat_eq (size_of s) 1
 
+-- two shapes are equal
 abbrev pub same_shape : List ℕ → List ℕ → Bool
 same_shape [] [] = true
 same_shape [] (n ∷ ns) = false

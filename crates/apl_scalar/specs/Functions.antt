@@ -78,6 +78,7 @@ unfoldable pub power : ℤ → ℤ → Result ℤ Fault
 power x (pos n) = in_range (int_pow x n)
 power x (negsuc n) = cond (is_unit x) (Ok (int_pow x (suc n))) (Err Domain)
 
+-- each function of one number
 abbrev pub monadic_of : Monadic → ℤ → Result ℤ Fault
 monadic_of one.Plus y = Ok y
 monadic_of one.Minus y = in_range (pos 0 -ℤ y)
@@ -89,6 +90,7 @@ monadic_of one.Magnitude y = in_range (pos (unsigned_abs y))
 monadic_of one.Not y = ok_map (λ p. number_of (not p)) (truth_of y)
 monadic_of one.Factorial y = factorial_of y
 
+-- each function of two numbers
 abbrev pub dyadic_of : Dyadic → ℤ → ℤ → Result ℤ Fault
 dyadic_of two.Plus x y = in_range (x +ℤ y)
 dyadic_of two.Minus x y = in_range (x -ℤ y)

@@ -29,6 +29,7 @@ Shows (Many xs) items = (items ≡ Numbers xs.now) × (length xs.now ≢ 1)
 abbrev pub character_at : List ℕ → ℕ → ℕ
 character_at cs k = slice_index_or cs (cond (nat_eq (length cs) 1) 0 k) 0
 
+-- an array's elements are characters
 abbrev pub AreCharacters : Items → Type 0
 AreCharacters (Numbers zs) = ⊥
 AreCharacters (Characters cs) = Unit {0}

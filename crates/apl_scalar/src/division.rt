@@ -36,16 +36,14 @@ fn residue_by(x: i64, y: i64) -> i64
     if x == 0 {
         return y;
     }
-    if x == -1 {
-        return 0;
-    }
-    let rest = y.rem_euclid(x);
+    // It has the sign of `y`.
+    let rest = y.wrapping_rem(x);
     if x > 0 {
-        rest
-    } else if rest == 0 {
-        0
-    } else {
+        if rest < 0 { rest + x } else { rest }
+    } else if rest > 0 {
         rest + x
+    } else {
+        rest
     }
 }
 

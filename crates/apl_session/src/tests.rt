@@ -102,11 +102,7 @@ fn texts_and_comments(rt: HostRuntime) -> Result<(), Fail> {
         ("''\n", 9, "\n"),
         ("5 ⍝ five\n", 9, "5\n"),
         ("⍝ 'five\n", 9, ""),
-        (
-            "¯9223372036854775808 007\n",
-            9,
-            "¯9223372036854775808 7\n",
-        ),
+        ("¯9223372036854775808 007\n", 9, "¯9223372036854775808 7\n"),
     ];
     assert_eq!(rt; wrong_row(rt.alloc(), &rows)?, None);
     Ok(())
