@@ -95,6 +95,42 @@ fn faults_of_tokens(rt: HostRuntime) -> Result<(), Fail> {
 }
 
 #[test]
+fn scalar_values(rt: HostRuntime) -> Result<(), Fail> {
+    let rows = [
+        ("0÷0\n", 9, "1\n"),
+        ("0 ¯3 3|¯7\n", 9, "¯7 ¯1 2\n"),
+        ("!20\n", 9, "2432902008176640000\n"),
+        ("2*62\n", 9, "4611686018427387904\n"),
+        ("¯2*63\n", 9, "¯9223372036854775808\n"),
+        ("¯1*¯3\n", 9, "¯1\n"),
+        ("¯5|3\n", 9, "¯2\n"),
+        ("'AB'='AC'\n", 9, "1 0\n"),
+        ("2≠'A'\n", 9, "1\n"),
+        ("''+5\n", 9, "\n"),
+    ];
+    assert_eq!(rt; wrong_row(rt.alloc(), &rows)?, None);
+    Ok(())
+}
+
+#[test]
+fn scalar_faults(rt: HostRuntime) -> Result<(), Fail> {
+    let rows = [
+        ("7÷2\n", 9, "DOMAIN ERROR\n      7÷2\n       ^\n"),
+        ("!21\n", 9, "LIMIT ERROR\n      !21\n      ^\n"),
+        ("!¯1\n", 9, "DOMAIN ERROR\n      !¯1\n      ^\n"),
+        ("2*63\n", 9, "LIMIT ERROR\n      2*63\n       ^\n"),
+        (
+            "¯9223372036854775808÷¯1\n",
+            9,
+            "LIMIT ERROR\n      ¯9223372036854775808÷¯1\n                          ^\n",
+        ),
+        ("''+1 2\n", 9, "LENGTH ERROR\n      ''+1 2\n        ^\n"),
+    ];
+    assert_eq!(rt; wrong_row(rt.alloc(), &rows)?, None);
+    Ok(())
+}
+
+#[test]
 fn texts_and_comments(rt: HostRuntime) -> Result<(), Fail> {
     let rows = [
         ("'IT''S'\n", 9, "IT'S\n"),
