@@ -11,3 +11,5 @@ pub mod Nth
 pub mod Axes
 pub mod Joins
 pub mod Kinds
+pub mod Checks
+pub mod Along

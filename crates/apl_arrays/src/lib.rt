@@ -3,8 +3,10 @@
 
 mod array;
 mod axis;
+mod axis_choice;
 mod cell;
 mod cells;
+mod checks;
 mod elements;
 mod gather;
 mod join;
@@ -17,16 +19,20 @@ mod view_elements;
 
 pub use array::Array;
 pub use axis::{Axis, along, copy_axes};
+pub use axis_choice::Along;
 pub use cell::{Cell, Ravel};
 pub use cells::Cells;
+pub use checks::{numbers_in, within_limits};
 pub use elements::Elements;
 pub use laws::views_by_index_list;
-pub use shape::{MAX_ELEMENTS, MAX_RANK};
+pub use shape::{MAX_ELEMENTS, MAX_RANK, is_in_bounds, place_of, size};
 pub use stop::Stop;
 pub use strided::Strided;
 pub use view::View;
 pub use view_elements::ViewElements;
 
+#[cfg(test)]
+mod check_tests;
 #[cfg(test)]
 mod tests;
 #[cfg(test)]

@@ -2,12 +2,15 @@
 ghost use Rattle.std.specs.Prelude.{◌≡◌, ◌≤◌, ◌↔◌, IsTrue, length, reverse, take, List, [], ◌∷◌, Option, Some, option_copied, option_map};
 ghost use Rattle.apl_code.specs.declared.instr.Source.{Source};
 ghost use Rattle.apl_machine.specs.Flat.{AreThere, fetched, fetched_one, unfetched_one, unfetched};
-ghost use Rattle.apl_machine.specs.Effects.{operand_of, only, both, one_value, two_values};
+ghost use Rattle.apl_machine.specs.Effects.{operand_of, only, one_value};
+ghost use Rattle.apl_machine_state.specs.Outcomes.{taken_of, taken_one, taken_two, taken_three};
+ghost use Rattle.apl_primitives.specs.Taken.{taken};
 ghost use Rattle.apl_code.specs.declared.instr.Source.TheVariants.{Stack};
 
 use apl_arrays::Array;
 use apl_code::Source;
 use apl_machine_state::{Operand, Slots};
+use apl_primitives::Arguments;
 
 /// An operand where it lies: a constant of the line, or on the operand stack.
 #[derive(Clone, Copy)]
@@ -60,16 +63,6 @@ fn only(sources: &[Option<Source>]) -> Option<Source>
     }
 }
 
-/// The two operands of an instruction that has two.
-fn both(sources: &[Option<Source>]) -> Option<(Source, Source)>
-    ensures { result ≡ both sources.now }
-{
-    match sources {
-        [Some(first), Some(second)] => Some((*first, *second)),
-        _ => None,
-    }
-}
-
 /// Whether an instruction takes the top of the stack alone.
 pub fn is_top(sources: &[Option<Source>]) -> bool
     ensures { IsTrue result ↔ (only sources.now ≡ Some Stack) }
@@ -89,24 +82,79 @@ pub fn one_value<'a>(sources: &[Option<Source>], operands: Operands<'a>) -> Opti
     }
 }
 
-/// The two values that an instruction takes, if it takes two values: the left one lies on the
-/// right one.
-pub fn two_values<'a>(
-    sources: &[Option<Source>],
-    operands: Operands<'a>,
-) -> Option<(&'a Array, &'a Array)>
-    requires { AreThere (length operands.constants.now) sources.now (length operands.stack.now) }
-    ensures { option_map (λ p. (p.0.now, p.1.now)) result ≡ two_values (fetched operands.entry.constants.now sources.now (reverse operands.entry.stack.now)) }
+/// An operand, if an instruction takes one here, and what is left beneath it.
+fn next(operands: Operands<'_>, source: Option<Source>) -> (Option<Held<'_>>, Operands<'_>)
+    requires { AreThere (length operands.constants.now) (source ∷ []) (length operands.stack.now) }
+    ensures held { (more : List (Option Source)) → fetched operands.entry.constants.now (source ∷ more) (reverse operands.entry.stack.now) ≡ option_map operand_of result.0 ∷ fetched result.1.constants.now more (reverse result.1.stack.now) }
+    ensures there { (more : List (Option Source)) → AreThere (length operands.entry.constants.now) (source ∷ more) (length operands.entry.stack.now) → AreThere (length result.1.constants.now) more (length result.1.stack.now) }
 {
-    let (first, second) = both(sources)?;
-    let (left, rest) = fetch(operands, first);
-    let (right, _) = fetch(rest, second);
-    let Held::Value(left) = left else {
-        return None;
-    };
-    match right {
-        Held::Value(right) => Some((left, right)),
-        Held::Slots(_) => None,
+    match source {
+        Some(source) => {
+            let (held, rest) = fetch(operands, source);
+            (Some(held), rest)
+        }
+        None => (None, operands),
+    }
+}
+
+/// What a phrase takes that takes this alone.
+fn one_argument(b: Option<Held<'_>>) -> Arguments<'_>
+    ensures { taken result ≡ taken_one (option_map operand_of b.entry) }
+{
+    match b {
+        Some(Held::Value(b)) => Arguments::One(b),
+        _ => Arguments::Other,
+    }
+}
+
+/// What a phrase takes that takes these two, from the left.
+fn two_arguments<'a>(first: Option<Held<'a>>, second: Option<Held<'a>>) -> Arguments<'a>
+    ensures { taken result ≡ taken_two (option_map operand_of first.entry) (option_map operand_of second.entry) }
+{
+    match (first, second) {
+        (Some(Held::Value(a)), Some(Held::Value(b))) => Arguments::Two(a, b),
+        (Some(Held::Slots(axis)), Some(Held::Value(b))) => Arguments::AlongOne(axis.as_slice(), b),
+        (Some(Held::Value(b)), Some(Held::Slots(slots))) => {
+            Arguments::Selected(b, slots.as_slice())
+        }
+        _ => Arguments::Other,
+    }
+}
+
+/// What a phrase takes that takes these three, from the left.
+fn three_arguments<'a>(
+    first: Option<Held<'a>>,
+    second: Option<Held<'a>>,
+    third: Option<Held<'a>>,
+) -> Arguments<'a>
+    ensures { taken result ≡ taken_three (option_map operand_of first.entry) (option_map operand_of second.entry) (option_map operand_of third.entry) }
+{
+    match (first, second, third) {
+        (Some(Held::Value(a)), Some(Held::Slots(axis)), Some(Held::Value(b))) => {
+            Arguments::AlongTwo(a, axis.as_slice(), b)
+        }
+        _ => Arguments::Other,
+    }
+}
+
+/// The values and index lists that an instruction takes: what stands further left lies nearer the top.
+#[tactic(auto, using(crate::proofs::Fetching::first_there, crate::proofs::Fetching::too_few, crate::proofs::Fetching::too_many))]
+pub fn arguments<'a>(sources: &[Option<Source>], operands: Operands<'a>) -> Arguments<'a>
+    requires { AreThere (length operands.constants.now) sources.now (length operands.stack.now) }
+    ensures { taken result ≡ taken_of (fetched operands.entry.constants.now sources.now (reverse operands.entry.stack.now)) }
+{
+    match sources {
+        [first] => one_argument(next(operands, *first).0),
+        [first, second] => {
+            let (first, rest) = next(operands, *first);
+            two_arguments(first, next(rest, *second).0)
+        }
+        [first, second, third] => {
+            let (first, rest) = next(operands, *first);
+            let (second, rest) = next(rest, *second);
+            three_arguments(first, second, next(rest, *third).0)
+        }
+        _ => Arguments::Other,
     }
 }
 

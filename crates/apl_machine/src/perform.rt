@@ -5,20 +5,22 @@ ghost use Rattle.apl_arrays.specs.Cells.{Arr};
 ghost use Rattle.apl_code.specs.declared.instr.Source.{Source};
 ghost use Rattle.apl_faults.specs.declared.fault.Fault.{Fault};
 ghost use Rattle.apl_machine_state.specs.declared.operand.Operand.{Operand};
-ghost use Rattle.apl_code.specs.declared.row.Function.TheVariants.{Primitive as PrimitiveFunction};
-ghost use Rattle.apl_code.specs.declared.row.Row.TheVariants.{Group, Monadic as MonadicRow, Dyadic as DyadicRow};
-ghost use Rattle.apl_machine_state.specs.Outcomes.{Makes, outcome, value_in, monadic_of, dyadic_of, of_result};
+ghost use Rattle.apl_code.specs.declared.row.Row.TheVariants.{Group};
+ghost use Rattle.apl_machine_state.specs.Outcomes.{Makes, outcome, value_in, taken_of, of_result, index_origin};
+ghost use Rattle.apl_primitives.specs.Values.{phrase_value};
 ghost use Rattle.apl_machine.specs.Flat.{AreThere, fetched};
 ghost use Rattle.apl_machine.specs.Effects.{IsEffect, acted};
 
-use crate::operands::{Held, Operands, fetch, is_top, one_value, two_values};
+use crate::operands::{Held, Operands, arguments, fetch, is_top, one_value};
 use apl_arrays::{Array, Stop};
-use apl_code::{Action, Function, Row, Source};
+use apl_code::{Action, Row, Source};
 use apl_faults::Fault;
 use apl_machine_state::{Operand, Slots};
-use apl_scalar::{Dyadic, Monadic, dyadic, monadic};
-use apl_symbols::Primitive;
+use apl_primitives::phrase_value;
 use std::alloc::{AllocError, Global};
+
+/// Indices, axes and places count from 1.
+const INDEX_ORIGIN: usize = 1;
 
 /// What a phrase does.
 #[derive(Drop)]
@@ -27,51 +29,6 @@ pub enum Effect {
     Keeps,
     Gives(Operand),
     Fails(Fault),
-}
-
-/// The monadic scalar function of a primitive.
-fn monadic_of(primitive: Primitive) -> Option<Monadic>
-    ensures { result ≡ monadic_of primitive }
-{
-    match primitive {
-        Primitive::Plus => Some(Monadic::Plus),
-        Primitive::Minus => Some(Monadic::Minus),
-        Primitive::Times => Some(Monadic::Times),
-        Primitive::Divide => Some(Monadic::Divide),
-        Primitive::Upstile => Some(Monadic::Ceiling),
-        Primitive::Downstile => Some(Monadic::Floor),
-        Primitive::Stile => Some(Monadic::Magnitude),
-        Primitive::Tilde => Some(Monadic::Not),
-        Primitive::Bang => Some(Monadic::Factorial),
-        _ => None,
-    }
-}
-
-/// The dyadic scalar function of a primitive.
-fn dyadic_of(primitive: Primitive) -> Option<Dyadic>
-    ensures { result ≡ dyadic_of primitive }
-{
-    match primitive {
-        Primitive::Plus => Some(Dyadic::Plus),
-        Primitive::Minus => Some(Dyadic::Minus),
-        Primitive::Times => Some(Dyadic::Times),
-        Primitive::Divide => Some(Dyadic::Divide),
-        Primitive::Star => Some(Dyadic::Power),
-        Primitive::Upstile => Some(Dyadic::Maximum),
-        Primitive::Downstile => Some(Dyadic::Minimum),
-        Primitive::Stile => Some(Dyadic::Residue),
-        Primitive::Less => Some(Dyadic::Less),
-        Primitive::NotGreater => Some(Dyadic::NotGreater),
-        Primitive::Equal => Some(Dyadic::Equal),
-        Primitive::NotLess => Some(Dyadic::NotLess),
-        Primitive::Greater => Some(Dyadic::Greater),
-        Primitive::NotEqual => Some(Dyadic::NotEqual),
-        Primitive::And => Some(Dyadic::And),
-        Primitive::Or => Some(Dyadic::Or),
-        Primitive::Nand => Some(Dyadic::Nand),
-        Primitive::Nor => Some(Dyadic::Nor),
-        _ => None,
-    }
 }
 
 /// What a phrase does whose function answers this.
@@ -99,42 +56,18 @@ fn group(sources: &[Option<Source>], operands: Operands<'_>) -> Result<Effect, A
     Ok(Effect::Gives(Operand::Value(array.copy()?)))
 }
 
-/// `F B`, for a primitive function.
-fn monadic_primitive(
+/// What a phrase of a row gives that the primitives give.
+fn value(
     alloc: Global,
-    primitive: Primitive,
+    row: Row,
     sources: &[Option<Source>],
     operands: Operands<'_>,
 ) -> Result<Effect, AllocError>
-    requires { AreThere (length operands.constants.now) sources.now (length operands.stack.now) }
-    ensures { IfOk result (λ e. IsEffect e (outcome (MonadicRow (PrimitiveFunction primitive)) (fetched operands.entry.constants.now sources.now (reverse operands.entry.stack.now))) sources.now (reverse operands.entry.stack.now)) }
+    requires there { AreThere (length operands.constants.now) sources.now (length operands.stack.now) }
+    ensures { IfOk result (λ e. IsEffect e (of_result (phrase_value row (taken_of (fetched operands.entry.constants.now sources.now (reverse operands.entry.stack.now))) index_origin)) sources.now (reverse operands.entry.stack.now)) }
 {
-    let Some(b) = one_value(sources, operands) else {
-        return Ok(Effect::Fails(Fault::Syntax));
-    };
-    match monadic_of(primitive) {
-        Some(function) => effect_of(monadic(alloc, function, b)),
-        None => Ok(Effect::Fails(Fault::Syntax)),
-    }
-}
-
-/// `B F B`, for a primitive function.
-fn dyadic_primitive(
-    alloc: Global,
-    primitive: Primitive,
-    sources: &[Option<Source>],
-    operands: Operands<'_>,
-) -> Result<Effect, AllocError>
-    requires { AreThere (length operands.constants.now) sources.now (length operands.stack.now) }
-    ensures { IfOk result (λ e. IsEffect e (outcome (DyadicRow (PrimitiveFunction primitive)) (fetched operands.entry.constants.now sources.now (reverse operands.entry.stack.now))) sources.now (reverse operands.entry.stack.now)) }
-{
-    let Some((a, b)) = two_values(sources, operands) else {
-        return Ok(Effect::Fails(Fault::Syntax));
-    };
-    match dyadic_of(primitive) {
-        Some(function) => effect_of(dyadic(alloc, function, a, b)),
-        None => Ok(Effect::Fails(Fault::Syntax)),
-    }
+    let arguments = arguments(sources, operands);
+    effect_of(phrase_value(alloc, row, arguments, INDEX_ORIGIN))
 }
 
 /// A slot of an index list, and what is left beneath it.
@@ -202,13 +135,7 @@ fn perform_row(
     match row {
         Row::Index(_) => index_list(alloc, sources, operands),
         Row::Group => group(sources, operands),
-        Row::Monadic(Function::Primitive(primitive)) => {
-            monadic_primitive(alloc, primitive, sources, operands)
-        }
-        Row::Dyadic(Function::Primitive(primitive)) => {
-            dyadic_primitive(alloc, primitive, sources, operands)
-        }
-        _ => Ok(Effect::Fails(Fault::Syntax)),
+        _ => value(alloc, row, sources, operands),
     }
 }
 

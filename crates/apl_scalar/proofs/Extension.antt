@@ -23,7 +23,8 @@ use Rattle.apl_scalar.specs.declared.operand.Operand.{Operand}
 use Rattle.apl_scalar.specs.declared.operand.Operand.TheVariants.{One, Many}
 use Rattle.apl_scalar.specs.Functions.{monadic_of, dyadic_of}
 use Rattle.apl_scalar.specs.Operands.{number_at, character_at, Shows, AreCharacters}
-use Rattle.apl_scalar.specs.Extension.{is_single, same_shape, extended, operand_at, monadic_at, compared, dyadic_at, numbers_in, dyadic}
+use Rattle.apl_arrays.specs.Checks.{is_single, same}
+use Rattle.apl_scalar.specs.Extension.{extended, operand_at, monadic_at, compared, dyadic_at, numbers_in, dyadic}
 
 num_at : (zs : List ℤ) (k : ℕ) → k < length zs → slice_get (map Num zs) k ≡ Some (Num (get_or zs k (pos 0)))
 num_at zs k h = slice_get-map Num zs k ∙ ap (option_map Num) (slice_get-get_or zs k (pos 0) h)
@@ -179,14 +180,14 @@ ok_shape s = Ok s
 
 -- where the result has the first operand's shape, the second one has it too or is single
 pub first_shape : (s t : List ℕ) → extended s t ≡ Ok s → is_single t ≡ false → t ≡ s
-first_shape s t e f = first (is_single s) (nat_eq (length s) (length t)) (same_shape s t) s t (λ h. same_shape_is s t h) (rw f at e)
+first_shape s t e f = first (is_single s) (nat_eq (length s) (length t)) (same s t) s t (λ h. same_is s t h) (rw f at e)
   where
-    same_shape_is : (s t : List ℕ) → same_shape s t ≡ true → t ≡ s
-    same_shape_is [] [] h = refl
-    same_shape_is [] (n ∷ ns) h = absurd (cc)
-    same_shape_is (m ∷ ms) [] h = absurd (cc)
-    same_shape_is (m ∷ ms) (n ∷ ns) h = let p = both (nat_eq m n) (same_shape ms ns) h in
-        ap (λ x. x ∷ ns) (sym (eqb-true m n p.0)) ∙ ap (λ l. m ∷ l) (same_shape_is ms ns p.1)
+    same_is : (s t : List ℕ) → same s t ≡ true → t ≡ s
+    same_is [] [] h = refl
+    same_is [] (n ∷ ns) h = absurd (cc)
+    same_is (m ∷ ms) [] h = absurd (cc)
+    same_is (m ∷ ms) (n ∷ ns) h = let p = both (nat_eq m n) (same ms ns) h in
+        ap (λ x. x ∷ ns) (sym (eqb-true m n p.0)) ∙ ap (λ l. m ∷ l) (same_is ms ns p.1)
 
     first : (b r q : Bool) (s t : List ℕ) → (q ≡ true → t ≡ s) → cond b (ok_shape t) (cond r (cond q (Ok s) (Err Length)) (Err Rank)) ≡ Ok s → t ≡ s
     first true r q s t g e = cc

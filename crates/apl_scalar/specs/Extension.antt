@@ -1,27 +1,17 @@
 -- Scalar functions of arrays: an operand of one element extends over the other.
-use Rattle.std.specs.Prelude.{ℕ, ℤ, Bool, true, false, not, ◌&&◌, nat_lt, nat_eq, cond, List, [], ◌∷◌, length, slice_get, Option, Some, Result, Ok, Err}
+use Rattle.std.specs.Prelude.{ℕ, ℤ, Bool, false, not, nat_lt, nat_eq, cond, List, length, slice_get, Option, Some, Result, Ok, Err}
 use Rattle.apl_faults.specs.declared.fault.Fault.{Fault}
 use Rattle.apl_faults.specs.declared.fault.Fault.TheVariants.{Domain, Rank, Length}
 use Rattle.apl_arrays.specs.declared.cell.Cell.{Cell}
 use Rattle.apl_arrays.specs.declared.cell.Cell.TheVariants.{Num, Char}
-use Rattle.apl_arrays.specs.Index.{size_of, indices}
+use Rattle.apl_arrays.specs.Index.{indices}
 use Rattle.apl_arrays.specs.Cells.{Arr, Numbers, cells_of, cell_at}
+use Rattle.apl_arrays.specs.Checks.{is_single, same}
 use Rattle.apl_arrays.specs.Results.{and_then, ok_map, all_ok}
 use Rattle.apl_scalar.specs.declared.function.Monadic.{Monadic}
 use Rattle.apl_scalar.specs.declared.function.Dyadic.{Dyadic}
 use Rattle.apl_scalar.specs.declared.function.Dyadic.TheVariants as two
 use Rattle.apl_scalar.specs.Functions.{number_of, monadic_of, dyadic_of}
-
--- an array of the shape has one element
-abbrev pub is_single : List ℕ → Bool
-is_single s = nat_eq (size_of s) 1
-
--- two shapes are equal
-abbrev pub same_shape : List ℕ → List ℕ → Bool
-same_shape [] [] = true
-same_shape [] (n ∷ ns) = false
-same_shape (m ∷ ms) [] = false
-same_shape (m ∷ ms) (n ∷ ns) = nat_eq m n && same_shape ms ns
 
 -- the shape of the result: of two operands of one element that of the greater rank, of one such operand the other's, and else the common one
 abbrev pub extended : List ℕ → List ℕ → Result (List ℕ) Fault
@@ -29,7 +19,7 @@ extended s t =
     cond (is_single s)
     (cond (is_single t) (Ok (cond (nat_lt (length s) (length t)) t s)) (Ok t))
     (cond (is_single t) (Ok s)
-    (cond (nat_eq (length s) (length t)) (cond (same_shape s t) (Ok s) (Err Length)) (Err Rank)))
+    (cond (nat_eq (length s) (length t)) (cond (same s t) (Ok s) (Err Length)) (Err Rank)))
 
 -- the element of an operand at an index list of the result
 abbrev pub operand_at : Arr → List ℕ → Option Cell

@@ -6,7 +6,8 @@ ghost use Rattle.apl_arrays.specs.Cells.{cell_at, Numbers};
 ghost use Rattle.apl_arrays.specs.Index.{size_of, indices};
 ghost use Rattle.apl_arrays.specs.Results.{all_ok, ok_map};
 ghost use Rattle.apl_scalar.specs.Functions.{monadic_of, dyadic_of};
-ghost use Rattle.apl_scalar.specs.Extension.{is_single, extended, operand_at, monadic_at, dyadic_at, numbers_in, monadic, dyadic};
+ghost use Rattle.apl_arrays.specs.Checks.{is_single};
+ghost use Rattle.apl_scalar.specs.Extension.{extended, operand_at, monadic_at, dyadic_at, numbers_in, monadic, dyadic};
 ghost use Rattle.apl_scalar.specs.Operands.{number_at, Covers, Shows};
 
 use crate::arithmetic::{

@@ -65,7 +65,8 @@ impl Scalar for Magnitude {
     }
 }
 
-pub(crate) struct Sum;
+/// The sum.
+pub struct Sum;
 
 impl Scalar for Sum {
     ghost meaning = { dyadic_of two.Plus };
@@ -86,7 +87,8 @@ impl Scalar for Sum {
     }
 }
 
-pub(crate) struct Difference;
+/// The difference.
+pub struct Difference;
 
 impl Scalar for Difference {
     ghost meaning = { dyadic_of two.Minus };
@@ -107,7 +109,8 @@ impl Scalar for Difference {
     }
 }
 
-pub(crate) struct Product;
+/// The product.
+pub struct Product;
 
 impl Scalar for Product {
     ghost meaning = { dyadic_of two.Times };
@@ -122,7 +125,7 @@ impl Scalar for Product {
 }
 
 /// The greater number.
-pub(crate) struct Maximum;
+pub struct Maximum;
 
 impl Scalar for Maximum {
     ghost meaning = { dyadic_of two.Maximum };
@@ -134,7 +137,7 @@ impl Scalar for Maximum {
 }
 
 /// The lesser number.
-pub(crate) struct Minimum;
+pub struct Minimum;
 
 impl Scalar for Minimum {
     ghost meaning = { dyadic_of two.Minimum };

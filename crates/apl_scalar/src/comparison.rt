@@ -5,7 +5,8 @@ ghost use Rattle.apl_scalar.specs.Functions.{dyadic_of};
 use crate::function::Scalar;
 use apl_faults::Fault;
 
-pub(crate) struct Less;
+/// Whether the first number is less, as 1 or 0.
+pub struct Less;
 
 impl Scalar for Less {
     ghost meaning = { dyadic_of two.Less };
@@ -16,7 +17,8 @@ impl Scalar for Less {
     }
 }
 
-pub(crate) struct NotGreater;
+/// Whether the first number is not greater.
+pub struct NotGreater;
 
 impl Scalar for NotGreater {
     ghost meaning = { dyadic_of two.NotGreater };
@@ -27,7 +29,8 @@ impl Scalar for NotGreater {
     }
 }
 
-pub(crate) struct Equal;
+/// Whether the numbers are the same.
+pub struct Equal;
 
 impl Scalar for Equal {
     ghost meaning = { dyadic_of two.Equal };
@@ -38,7 +41,8 @@ impl Scalar for Equal {
     }
 }
 
-pub(crate) struct NotEqual;
+/// Whether the numbers differ.
+pub struct NotEqual;
 
 impl Scalar for NotEqual {
     ghost meaning = { dyadic_of two.NotEqual };

@@ -64,7 +64,8 @@ impl Scalar for Reciprocal {
     }
 }
 
-pub(crate) struct Quotient;
+/// The exact quotient.
+pub struct Quotient;
 
 impl Scalar for Quotient {
     ghost meaning = { dyadic_of two.Divide };
@@ -75,7 +76,8 @@ impl Scalar for Quotient {
     }
 }
 
-pub(crate) struct Residue;
+/// What is left of the second number when it is divided by the first.
+pub struct Residue;
 
 impl Scalar for Residue {
     ghost meaning = { dyadic_of two.Residue };

@@ -66,7 +66,7 @@ pub enum Dyadic {
 }
 
 /// A scalar function that the compiler knows, so that a loop over it needs no dispatch. One of a single argument takes it on the right.
-pub(crate) trait Scalar {
+pub trait Scalar {
     ghost meaning: { ℤ → ℤ → Result ℤ Fault };
 
     /// Its value, or its fault.

@@ -15,8 +15,13 @@ mod overflow;
 mod powers;
 
 pub use apply::{dyadic, monadic};
+pub use arithmetic::{Difference, Maximum, Minimum, Product, Sum};
+pub use comparison::{Equal, Less, NotEqual, NotGreater};
+pub use division::{Quotient, Residue};
 pub use examples::{residues, worked_arrays, worked_values};
-pub use function::{Dyadic, Monadic};
+pub use function::{Dyadic, Monadic, Scalar};
+pub use logic::{And, Connective, Logical, Nand, Nor, Or};
+pub use powers::Power;
 
 #[cfg(test)]
 mod tests;

@@ -19,7 +19,7 @@ fn truth_flag(x: i64, y: i64) -> i64
 }
 
 /// A function of two truth values.
-pub(crate) trait Connective {
+pub trait Connective {
     ghost meaning: { Bool → Bool → Bool };
 
     /// Its value by the bits of 0 and 1. What it gives for other numbers means nothing.
@@ -28,7 +28,7 @@ pub(crate) trait Connective {
 }
 
 /// A function of two truth values, as a scalar function.
-pub(crate) struct Logical<C>(PhantomData<C>);
+pub struct Logical<C>(PhantomData<C>);
 
 impl<C: Connective> Scalar for Logical<C> {
     ghost meaning = { logical C.meaning };
@@ -48,7 +48,8 @@ impl<C: Connective> Scalar for Logical<C> {
     }
 }
 
-pub(crate) struct And;
+/// Whether both are true.
+pub struct And;
 
 impl Connective for And {
     ghost meaning = { λ p q. p && q };
@@ -59,7 +60,8 @@ impl Connective for And {
     }
 }
 
-pub(crate) struct Or;
+/// Whether one is true.
+pub struct Or;
 
 impl Connective for Or {
     ghost meaning = { λ p q. p || q };
@@ -70,7 +72,8 @@ impl Connective for Or {
     }
 }
 
-pub(crate) struct Nand;
+/// Whether one is false.
+pub struct Nand;
 
 impl Connective for Nand {
     ghost meaning = { λ p q. not (p && q) };
@@ -81,7 +84,8 @@ impl Connective for Nand {
     }
 }
 
-pub(crate) struct Nor;
+/// Whether both are false.
+pub struct Nor;
 
 impl Connective for Nor {
     ghost meaning = { λ p q. not (p || q) };

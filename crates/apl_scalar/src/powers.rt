@@ -86,7 +86,8 @@ fn factorial_at(y: i64) -> Result<i64, Fault>
     }
 }
 
-pub(crate) struct Power;
+/// The first number to the power of the second.
+pub struct Power;
 
 impl Scalar for Power {
     ghost meaning = { dyadic_of two.Power };

@@ -113,6 +113,33 @@ fn scalar_values(rt: HostRuntime) -> Result<(), Fail> {
 }
 
 #[test]
+fn structural_values(rt: HostRuntime) -> Result<(), Fail> {
+    let rows = [
+        ("⍳5\n", 9, "1 2 3 4 5\n"),
+        ("⍴2 3⍴⍳6\n", 9, "2 3\n"),
+        ("1⌽1 2 3 4\n", 9, "2 3 4 1\n"),
+        ("1 0 1/'ABC'\n", 9, "AC\n"),
+        ("'ABC'[3 1]\n", 9, "CA\n"),
+        ("⍋3 1 2\n", 9, "2 3 1\n"),
+    ];
+    assert_eq!(rt; wrong_row(rt.alloc(), &rows)?, None);
+    Ok(())
+}
+
+#[test]
+fn operators(rt: HostRuntime) -> Result<(), Fail> {
+    let rows = [
+        ("-/1 2 3 4 5\n", 9, "3\n"),
+        ("-\\1 2 3 4\n", 9, "1 ¯1 2 ¯2\n"),
+        ("1 2∘.×3 4\n", 9, "3 4\n6 8\n"),
+        ("1 2 3+.×4 5 6\n", 9, "32\n"),
+        ("+[1]2\n", 9, "SYNTAX ERROR\n      +[1]2\n      ^\n"),
+    ];
+    assert_eq!(rt; wrong_row(rt.alloc(), &rows)?, None);
+    Ok(())
+}
+
+#[test]
 fn scalar_faults(rt: HostRuntime) -> Result<(), Fail> {
     let rows = [
         ("7÷2\n", 9, "DOMAIN ERROR\n      7÷2\n       ^\n"),

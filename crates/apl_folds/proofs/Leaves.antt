@@ -1,0 +1,41 @@
+-- Walks over no axis.
+use Rattle.std.proofs.Common.{◌≡◌, ℕ, ℤ, ◌<◌, List, [], ◌∷◌, ◌++◌, length, Option, None, Some, Result, Ok, Err, ap, sym, ◌∙◌, arith, true}
+use Rattle.std.specs.Option.{IfSome}
+use Rattle.apl_faults.specs.declared.fault.Fault.{Fault}
+use Rattle.apl_arrays.specs.declared.axis.Axis.{Axis}
+use Rattle.apl_arrays.specs.Index.{indices, is_within}
+use Rattle.apl_arrays.specs.Results.{and_then, ok_map, all_ok}
+use Rattle.apl_arrays.specs.Strides.{lengths}
+use Rattle.apl_arrays.proofs.InTurn.{all_ok-same}
+use Rattle.apl_arrays.proofs.Order.{all_within}
+use Rattle.apl_folds.specs.Lines.{start_at, count_at, made}
+
+pub asked : (has : ℕ → ℕ → Type 0) (p n : ℕ) (depth : Option ℕ) (xs : List Axis) → xs ≡ [] → IfSome depth (λ m. m < length xs) → has (start_at p depth [] []) (count_at n depth []) → has p n
+asked has p n None xs e d h = h
+asked has p n (Some m) xs e d h = let none : length xs ≡ 0 = ap length e in absurd (omega (arith, d))
+
+pub one_leaf : (gives : ℕ → ℕ → Result ℤ Fault) (p n : ℕ) (depth : Option ℕ) (xs : List Axis) → xs ≡ [] → IfSome depth (λ m. m < length xs) → made gives p n depth xs ≡ and_then (gives p n) (λ z. Ok (z ∷ []))
+one_leaf gives p n None xs e d = ap (made gives p n None) e
+one_leaf gives p n (Some m) xs e d = let none : length xs ≡ 0 = ap length e in absurd (omega (arith, d))
+
+pub leaf_pushed : (gives : ℕ → ℕ → Result ℤ Fault) (p n : ℕ) (depth : Option ℕ) (xs : List Axis) (old new : List ℤ) (z : ℤ) → xs ≡ [] → IfSome depth (λ m. m < length xs) → gives p n ≡ Ok z → new ≡ old ++ z ∷ [] →
+    ok_map (λ ys. old ++ ys) (made gives p n depth xs) ≡ Ok new
+leaf_pushed gives p n depth xs old new z e d h s =
+    ap (ok_map (λ ys. old ++ ys)) (one_leaf gives p n depth xs e d ∙ ap (λ (r : Result ℤ Fault). and_then r (λ z. Ok (z ∷ []))) h) ∙ ap (λ (l : List ℤ). Ok l) (sym s)
+
+pub leaf_fault : (gives : ℕ → ℕ → Result ℤ Fault) (p n : ℕ) (depth : Option ℕ) (xs : List Axis) (f : Fault) → xs ≡ [] → IfSome depth (λ m. m < length xs) → gives p n ≡ Err f → made gives p n depth xs ≡ Err f
+leaf_fault gives p n depth xs f e d h = one_leaf gives p n depth xs e d ∙ ap (λ (r : Result ℤ Fault). and_then r (λ z. Ok (z ∷ []))) h
+
+-- what a walk makes of a row
+pub made_row : (gives : ℕ → ℕ → Result ℤ Fault) (p n : ℕ) (depth : Option ℕ) (q m : ℕ) (deeper : Option ℕ) (axis : Axis) (rest : List Axis) (i : ℕ) →
+    ((xs : List Axis) (is : List ℕ) → start_at q deeper xs is ≡ start_at p depth (axis ∷ xs) (i ∷ is)) → ((is : List ℕ) → count_at m deeper is ≡ count_at n depth (i ∷ is)) →
+    made gives q m deeper rest ≡ all_ok (λ is. gives (start_at p depth (axis ∷ rest) (i ∷ is)) (count_at n depth (i ∷ is))) (indices (lengths rest))
+made_row gives p n depth q m deeper axis rest i starts counts =
+    all_ok-same (λ is. is_within (lengths rest) is ≡ true) (λ is. gives (start_at q deeper rest is) (count_at m deeper is)) (λ is. gives (start_at p depth (axis ∷ rest) (i ∷ is)) (count_at n depth (i ∷ is)))
+    (λ is w. ap (λ (a : ℕ). gives a (count_at m deeper is)) (starts rest is) ∙ ap (λ (b : ℕ). gives (start_at p depth (axis ∷ rest) (i ∷ is)) b) (counts is))
+    (indices (lengths rest)) (all_within (lengths rest))
+
+pub made_same : (f g : ℕ → ℕ → Result ℤ Fault) (p n : ℕ) (depth : Option ℕ) (xs : List Axis) → ((q m : ℕ) → f q m ≡ g q m) → made f p n depth xs ≡ made g p n depth xs
+made_same f g p n depth xs h =
+    all_ok-same (λ is. is_within (lengths xs) is ≡ true) (λ is. f (start_at p depth xs is) (count_at n depth is)) (λ is. g (start_at p depth xs is) (count_at n depth is))
+    (λ is w. h (start_at p depth xs is) (count_at n depth is)) (indices (lengths xs)) (all_within (lengths xs))

@@ -1,0 +1,64 @@
+-- Folds from the right, a number at a time.
+use Rattle.std.proofs.Common.{suc, zero, ◌≡◌, ℕ, ℤ, pos, ◌+◌, ◌-◌, ◌<◌, List, [], ◌∷◌, map, length, drop, get_or, Result, Ok, Err, refl, ap, sym, ◌∙◌, arith, add-one, drop-cons}
+use Rattle.apl_faults.specs.declared.fault.Fault.{Fault}
+use Rattle.apl_arrays.specs.declared.cell.Cell.{Cell}
+use Rattle.apl_arrays.specs.declared.cell.Cell.TheVariants.{Num}
+use Rattle.apl_arrays.specs.Results.{and_then, ok_map}
+use Rattle.apl_scalar.specs.declared.function.Dyadic.{Dyadic}
+use Rattle.apl_scalar.specs.Functions.{dyadic_of}
+use Rattle.apl_folds.specs.Folds.{applied, fold, number_in, folded}
+use Rattle.apl_folds.specs.Lines.{fold_by}
+
+rest : (xs : List ℤ) (k : ℕ) → k < length xs → drop k xs ≡ get_or xs k (pos 0) ∷ drop (k + 1) xs
+rest xs k h = rw (add-one, drop-cons xs k (pos 0))
+
+-- the fold of the last number is that number
+pub fold_last : (f : ℤ → ℤ → Result ℤ Fault) (xs : List ℤ) (k : ℕ) → k + 1 ≡ length xs → fold_by f (drop k xs) ≡ Ok (get_or xs k (pos 0))
+fold_last f [] k e = absurd (omega arith)
+fold_last f (x ∷ []) zero e = refl
+fold_last f (x ∷ []) (suc k) e = absurd (omega arith)
+fold_last f (x ∷ y ∷ ys) zero e = absurd (omega arith)
+fold_last f (x ∷ y ∷ ys) (suc k) e = fold_last f (y ∷ ys) k (omega arith)
+
+-- one number more
+pub fold_next : (f : ℤ → ℤ → Result ℤ Fault) (xs : List ℤ) (k : ℕ) → k + 1 < length xs → fold_by f (drop k xs) ≡ and_then (fold_by f (drop (k + 1) xs)) (λ z. f (get_or xs k (pos 0)) z)
+fold_next f xs k h =
+    ap (fold_by f) (rest xs k (omega arith) ∙ ap (λ (l : List ℤ). get_or xs k (pos 0) ∷ l) (rest xs (k + 1) h))
+    ∙ ap (λ (l : List ℤ). and_then (fold_by f l) (λ z. f (get_or xs k (pos 0)) z)) (sym (rest xs (k + 1) h))
+
+pub fold_before : (f : ℤ → ℤ → Result ℤ Fault) (xs : List ℤ) (j : ℕ) (z : ℤ) → 0 < j → j < length xs → fold_by f (drop j xs) ≡ Ok z → fold_by f (drop (j - 1) xs) ≡ f (get_or xs (j - 1) (pos 0)) z
+fold_before f xs j z l h e =
+    fold_next f xs (j - 1) (omega arith)
+    ∙ ap (λ (k : ℕ). and_then (fold_by f (drop k xs)) (λ z. f (get_or xs (j - 1) (pos 0)) z)) (back j l)
+    ∙ ap (λ (r : Result ℤ Fault). and_then r (λ z. f (get_or xs (j - 1) (pos 0)) z)) e
+  where
+    back : (j : ℕ) → 0 < j → j - 1 + 1 ≡ j
+    back j l = omega arith
+
+-- a fault among the last numbers is the fault of all
+pub fold_fault : (f : ℤ → ℤ → Result ℤ Fault) (xs : List ℤ) (k : ℕ) (e : Fault) → k < length xs → fold_by f (drop k xs) ≡ Err e → fold_by f xs ≡ Err e
+fold_fault f xs zero e l h = h
+fold_fault f [] (suc k) e l h = absurd (omega arith)
+fold_fault f (x ∷ []) (suc k) e l h = absurd (omega arith)
+fold_fault f (x ∷ y ∷ ys) (suc k) e l h = ap (λ (r : Result ℤ Fault). and_then r (λ z. f x z)) (fold_fault f (y ∷ ys) k e (omega arith) h)
+
+pub fold_stops : (f : ℤ → ℤ → Result ℤ Fault) (xs : List ℤ) (j : ℕ) (z : ℤ) (e : Fault) → 0 < j → j < length xs → fold_by f (drop j xs) ≡ Ok z → f (get_or xs (j - 1) (pos 0)) z ≡ Err e → fold_by f xs ≡ Err e
+fold_stops f xs j z e l h g k = fold_fault f xs (j - 1) e (omega arith) (fold_before f xs j z l h g ∙ k)
+
+fold_cells : (f : Dyadic) (xs : List ℤ) → 0 < length xs → fold f (map Num xs) ≡ ok_map Num (fold_by (dyadic_of f) xs)
+fold_cells f [] h = absurd (omega arith)
+fold_cells f (x ∷ []) h = refl
+fold_cells f (x ∷ y ∷ ys) h =
+    ap (λ (r : Result Cell Fault). and_then r (λ e. applied f (Num x) e)) (fold_cells f (y ∷ ys) (omega arith)) ∙ each (fold_by (dyadic_of f) (y ∷ ys))
+  where
+    each : (r : Result ℤ Fault) → and_then (ok_map Num r) (λ e. applied f (Num x) e) ≡ ok_map Num (and_then r (λ z. dyadic_of f x z))
+    each (Ok z) = refl
+    each (Err e) = refl
+
+-- the fold of items that are numbers
+pub folded_numbers : (f : Dyadic) (xs : List ℤ) → 0 < length xs → folded f (map Num xs) ≡ fold_by (dyadic_of f) xs
+folded_numbers f xs h = ap (ok_map number_in) (fold_cells f xs h) ∙ each (fold_by (dyadic_of f) xs)
+  where
+    each : (r : Result ℤ Fault) → ok_map number_in (ok_map Num r) ≡ r
+    each (Ok z) = refl
+    each (Err e) = refl

@@ -1,0 +1,44 @@
+-- Scans: the folds of the first items along an axis.
+use Rattle.std.specs.Prelude.{ℕ, ℤ, ◌+◌, ◌==◌, cond, List, take, length, slice_index_or, Option, None, Some, Result, Ok, Err}
+use Rattle.apl_faults.specs.declared.fault.Fault.{Fault}
+use Rattle.apl_faults.specs.declared.fault.Fault.TheVariants.{Domain}
+use Rattle.apl_arrays.specs.declared.axis_choice.Along.{Along}
+use Rattle.apl_arrays.specs.declared.cell.Cell.{Cell}
+use Rattle.apl_arrays.specs.Along.{axis_along}
+use Rattle.apl_arrays.specs.Axes.{without}
+use Rattle.apl_arrays.specs.Cells.{Arr}
+use Rattle.apl_arrays.specs.Index.{size_of, indices}
+use Rattle.apl_arrays.specs.Kinds.{are_numbers}
+use Rattle.apl_arrays.specs.Results.{and_then, ok_map, all_ok}
+use Rattle.apl_arrays.specs.Views.{length_of}
+use Rattle.apl_scalar.specs.declared.function.Dyadic.{Dyadic}
+use Rattle.apl_scalar.specs.Extension.{numbers_in}
+use Rattle.apl_folds.specs.Folds.{folded, items_along}
+
+-- the items along an axis up to the one at an index list
+abbrev pub items_up_to : ℕ → Arr → List ℕ → List Cell
+items_up_to axis a i = take (slice_index_or i axis 0 + 1) (items_along axis a (without axis i))
+
+-- the fold of the items up to each index list, or the first fault in their order
+abbrev pub fronts_along : Dyadic → ℕ → Arr → Result (List ℤ) Fault
+fronts_along f axis a = all_ok (λ i. folded f (items_up_to axis a i)) (indices a.shape)
+
+-- the same in the array's shape
+abbrev pub fronts_shaped : Dyadic → ℕ → Arr → Result Arr Fault
+fronts_shaped f axis a = ok_map (numbers_in a.shape) (fronts_along f axis a)
+
+-- an empty array and one that is of length 1 along the axis stay; of characters there is no other scan
+abbrev pub scanned_along : Dyadic → ℕ → Arr → Result Arr Fault
+scanned_along f axis a =
+    cond (size_of a.shape == 0) (Ok a)
+    (cond (length_of a axis == 1) (Ok a)
+    (cond (are_numbers a.items) (fronts_shaped f axis a) (Err Domain)))
+
+-- a scalar stays
+abbrev pub scanned : Dyadic → Option ℕ → Arr → Result Arr Fault
+scanned f None a = Ok a
+scanned f (Some axis) a = scanned_along f axis a
+
+-- the axis is looked at first
+abbrev pub scanning : Dyadic → Along → Arr → ℕ → Result Arr Fault
+scanning f along a origin = and_then (axis_along along (length a.shape) origin) (λ axis. scanned f axis a)

@@ -1,0 +1,67 @@
+// Folds of lines of characters.
+ghost use Rattle.std.specs.Prelude.{◌≡◌, ◌^◌, ◌<◌, ◌≤◌, ◌+◌, ◌*◌, ℕ, Bool, cond, length, slice_index_or, Ok, Err};
+ghost use Rattle.apl_arrays.specs.Strides.{step_at};
+ghost use Rattle.apl_scalar.specs.Extension.{compared};
+ghost use Rattle.apl_folds.specs.Lines.{agree, line_of, IsLine};
+
+use crate::walk::Leaf;
+use apl_arrays::{Axis, along};
+use apl_charset::Ch;
+use apl_faults::Fault;
+use apl_scalar::Dyadic;
+
+/// The value of a function for two items that are not both numbers.
+pub(crate) fn compare(function: Dyadic, same: bool) -> Result<i64, Fault>
+    ensures { result ≡ compared function same }
+{
+    match function {
+        Dyadic::Equal => Ok(if same { 1 } else { 0 }),
+        Dyadic::NotEqual => Ok(if same { 0 } else { 1 }),
+        _ => Err(Fault::Domain),
+    }
+}
+
+/// The characters along an axis, two or more, to be folded by a function of which the values for equal and for other items are known.
+#[derive(Drop)]
+pub(crate) struct Comparison<'a> {
+    pub characters: &'a [Ch],
+    pub axis: Axis,
+    pub same: Result<i64, Fault>,
+    pub other: Result<i64, Fault>,
+}
+
+/// The character at an index of an axis.
+#[inline(always)]
+fn nth(characters: &[Ch], axis: &Axis, at: usize, index: usize) -> Ch
+    requires within { index < axis.now.length }
+    requires near { at + (axis.now.up + axis.now.down) * axis.now.length < 2 ^ 63 }
+    requires placed { at + step_at axis.now index < length characters.now }
+    ensures { result ≡ slice_index_or characters.now (at + step_at axis.now index) 0 }
+{
+    characters[along(at, axis, index)]
+}
+
+/// Whether a line has two characters, and they are the same.
+fn is_same(characters: &[Ch], axis: &Axis, at: usize, count: usize) -> bool
+    requires { IsLine (length characters.now) axis.now at count }
+    ensures { result ≡ agree (line_of 0 characters.now axis.now at count) }
+{
+    if count != 2 {
+        return false;
+    }
+    nth(characters, axis, at, 0) == nth(characters, axis, at, 1)
+}
+
+impl<'a> Leaf for Comparison<'a> {
+    ghost has = { λ s p count. IsLine (length s.characters.now) s.axis p count };
+
+    ghost gives = { λ s p count. cond (agree (line_of 0 s.characters.now s.axis p count)) s.same s.other };
+
+    fn value(&self, at: usize, count: usize) -> Result<i64, Fault> {
+        if is_same(self.characters, &self.axis, at, count) {
+            self.same
+        } else {
+            self.other
+        }
+    }
+}

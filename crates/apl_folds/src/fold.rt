@@ -1,0 +1,94 @@
+// Folds of rows of numbers.
+ghost use Rattle.std.specs.Prelude.{◌≡◌, ◌<◌, map, length};
+ghost use Rattle.apl_arrays.specs.declared.cell.Cell.TheVariants.{Num};
+ghost use Rattle.apl_scalar.specs.Functions.{dyadic_of};
+ghost use Rattle.apl_folds.specs.Folds.{folded, identity};
+ghost use Rattle.apl_folds.specs.Lines.{fold_by};
+
+use crate::swapped::Swapped;
+use apl_faults::Fault;
+use apl_scalar::{
+    And, Difference, Dyadic, Equal, Less, Logical, Maximum, Minimum, Nand, Nor, NotEqual,
+    NotGreater, Or, Power, Product, Quotient, Residue, Scalar, Sum,
+};
+
+/// The fold of no number, which [`Dyadic::Nand`] and [`Dyadic::Nor`] have not.
+pub(crate) fn identity_of(function: Dyadic) -> Result<i64, Fault>
+    ensures { result ≡ identity function }
+{
+    match function {
+        Dyadic::Plus => Ok(0),
+        Dyadic::Minus => Ok(0),
+        Dyadic::Times => Ok(1),
+        Dyadic::Divide => Ok(1),
+        Dyadic::Power => Ok(1),
+        Dyadic::Maximum => Ok(i64::MIN),
+        Dyadic::Minimum => Ok(i64::MAX),
+        Dyadic::Residue => Ok(0),
+        Dyadic::Less => Ok(0),
+        Dyadic::NotGreater => Ok(1),
+        Dyadic::Equal => Ok(1),
+        Dyadic::NotLess => Ok(1),
+        Dyadic::Greater => Ok(0),
+        Dyadic::NotEqual => Ok(0),
+        Dyadic::And => Ok(1),
+        Dyadic::Or => Ok(0),
+        Dyadic::Nand => Err(Fault::Domain),
+        Dyadic::Nor => Err(Fault::Domain),
+    }
+}
+
+/// The fold of one or more numbers from the right, each step tested.
+pub(crate) fn fold_right<F: Scalar>(numbers: &[i64]) -> Result<i64, Fault>
+    requires { 0 < length numbers.now }
+    ensures { result ≡ fold_by F.meaning numbers.now }
+{
+    let last = numbers.len() - 1;
+    let mut all = numbers[last];
+    for k in (0..last).rev() {
+        match F::apply(numbers[k], all) {
+            Ok(value) => all = value,
+            Err(fault) => return Err(fault),
+        }
+    }
+    Ok(all)
+}
+
+/// The fold of one or more numbers.
+fn fold_some(function: Dyadic, numbers: &[i64]) -> Result<i64, Fault>
+    requires { 0 < length numbers.now }
+    ensures { result ≡ fold_by (dyadic_of function) numbers.now }
+{
+    match function {
+        Dyadic::Plus => fold_right::<Sum>(numbers),
+        Dyadic::Minus => fold_right::<Difference>(numbers),
+        Dyadic::Times => fold_right::<Product>(numbers),
+        Dyadic::Divide => fold_right::<Quotient>(numbers),
+        Dyadic::Power => fold_right::<Power>(numbers),
+        Dyadic::Maximum => fold_right::<Maximum>(numbers),
+        Dyadic::Minimum => fold_right::<Minimum>(numbers),
+        Dyadic::Residue => fold_right::<Residue>(numbers),
+        Dyadic::Less => fold_right::<Less>(numbers),
+        Dyadic::NotGreater => fold_right::<NotGreater>(numbers),
+        Dyadic::Equal => fold_right::<Equal>(numbers),
+        Dyadic::NotLess => fold_right::<Swapped<NotGreater>>(numbers),
+        Dyadic::Greater => fold_right::<Swapped<Less>>(numbers),
+        Dyadic::NotEqual => fold_right::<NotEqual>(numbers),
+        Dyadic::And => fold_right::<Logical<And>>(numbers),
+        Dyadic::Or => fold_right::<Logical<Or>>(numbers),
+        Dyadic::Nand => fold_right::<Logical<Nand>>(numbers),
+        Dyadic::Nor => fold_right::<Logical<Nor>>(numbers),
+    }
+}
+
+/// The fold of numbers from the right: of none the identity, of one the number, of more the function of the first and the fold of the
+/// others. The function's fault is the fold's, and [`Dyadic::Nand`] and [`Dyadic::Nor`] of none are a domain fault.
+pub fn fold_numbers(function: Dyadic, numbers: &[i64]) -> Result<i64, Fault>
+    ensures { result ≡ folded function (map Num numbers.now) }
+{
+    if numbers.is_empty() {
+        identity_of(function)
+    } else {
+        fold_some(function, numbers)
+    }
+}

@@ -1,0 +1,18 @@
+//! Folds of numbers, and reduction and scan along an axis.
+#![tactic(auto)]
+
+mod characters;
+mod fold;
+mod line;
+mod lines;
+mod reduction;
+mod scanning;
+mod swapped;
+mod walk;
+
+pub use fold::fold_numbers;
+pub use reduction::reduce;
+pub use scanning::scan;
+
+#[cfg(test)]
+mod tests;

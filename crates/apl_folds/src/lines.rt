@@ -1,0 +1,140 @@
+// Folds of all lines along an axis.
+ghost use Rattle.std.specs.Prelude.{◌≡◌, ◌^◌, ◌<◌, ◌≤◌, ℕ, List, length, pos, true, IfSome};
+ghost use Rattle.apl_arrays.specs.Answers.{Answers};
+ghost use Rattle.apl_arrays.specs.Index.{is_within};
+ghost use Rattle.apl_arrays.specs.Strides.{lengths, reach_of};
+ghost use Rattle.apl_scalar.specs.Functions.{dyadic_of};
+ghost use Rattle.apl_folds.specs.Folds.{identity};
+ghost use Rattle.apl_folds.specs.Lines.{start_at, count_at, made, line_folds, line_comparisons, AreLines};
+
+use crate::characters::{Comparison, compare};
+use crate::fold::identity_of;
+use crate::line::Fold;
+use crate::swapped::Swapped;
+use crate::walk::{Leaf, Start, walk};
+use apl_arrays::{Axis, Stop};
+use apl_charset::Ch;
+use apl_faults::Fault;
+use apl_scalar::{
+    And, Difference, Dyadic, Equal, Less, Logical, Maximum, Minimum, Nand, Nor, NotEqual,
+    NotGreater, Or, Power, Product, Quotient, Residue, Scalar, Sum,
+};
+use std::alloc::Global;
+use std::marker::PhantomData;
+
+/// The lines to which the index lists of some axes lead, and room for as many values.
+#[derive(Clone, Copy)]
+pub(crate) struct Lines<'a> {
+    pub start: Start,
+    pub axes: &'a [Axis],
+    pub inner: Axis,
+    pub room: usize,
+}
+
+/// What a leaf makes of each line, or the first fault.
+fn walked<L: Leaf>(alloc: Global, leaf: &L, lines: &Lines<'_>) -> Result<Vec<i64>, Stop>
+    requires depth { IfSome lines.now.start.depth (λ depth. depth < length lines.now.axes.now) }
+    requires lines { (is : List ℕ) → is_within (lengths lines.now.axes.now) is ≡ true → L.has leaf.now (start_at lines.now.start.at lines.now.start.depth lines.now.axes.now is) (count_at lines.now.start.count lines.now.start.depth is) }
+    requires near { reach_of lines.now.start.at lines.now.axes.now < 2 ^ 63 }
+    ensures { Answers (λ v. v.items) (made (L.gives leaf.now) lines.now.start.at lines.now.start.count lines.now.start.depth lines.now.axes.now) result }
+{
+    let mut out = Vec::with_capacity(alloc, lines.room)?;
+    walk(leaf, lines.start, lines.axes, &mut out)?;
+    Ok(out)
+}
+
+/// The folds of the numbers of each line by a scalar function, or the first fault.
+fn fold_each<F: Scalar>(alloc: Global, numbers: &[i64], lines: &Lines<'_>) -> Result<Vec<i64>, Stop>
+    requires { AreLines (length numbers.now) lines.now }
+    ensures { Answers (λ v. v.items) (line_folds F.meaning numbers.now lines.now) result }
+{
+    let leaf: Fold<'_, F> = Fold {
+        numbers,
+        axis: lines.inner,
+        by: PhantomData,
+    };
+    walked(alloc, &leaf, lines)
+}
+
+/// The folds of the numbers of each line, or the first fault.
+pub(crate) fn folds_of_numbers(
+    alloc: Global,
+    function: Dyadic,
+    numbers: &[i64],
+    lines: &Lines<'_>,
+) -> Result<Vec<i64>, Stop>
+    requires { AreLines (length numbers.now) lines.now }
+    ensures { Answers (λ v. v.items) (line_folds (dyadic_of function) numbers.now lines.now) result }
+{
+    match function {
+        Dyadic::Plus => fold_each::<Sum>(alloc, numbers, lines),
+        Dyadic::Minus => fold_each::<Difference>(alloc, numbers, lines),
+        Dyadic::Times => fold_each::<Product>(alloc, numbers, lines),
+        Dyadic::Divide => fold_each::<Quotient>(alloc, numbers, lines),
+        Dyadic::Power => fold_each::<Power>(alloc, numbers, lines),
+        Dyadic::Maximum => fold_each::<Maximum>(alloc, numbers, lines),
+        Dyadic::Minimum => fold_each::<Minimum>(alloc, numbers, lines),
+        Dyadic::Residue => fold_each::<Residue>(alloc, numbers, lines),
+        Dyadic::Less => fold_each::<Less>(alloc, numbers, lines),
+        Dyadic::NotGreater => fold_each::<NotGreater>(alloc, numbers, lines),
+        Dyadic::Equal => fold_each::<Equal>(alloc, numbers, lines),
+        Dyadic::NotLess => fold_each::<Swapped<NotGreater>>(alloc, numbers, lines),
+        Dyadic::Greater => fold_each::<Swapped<Less>>(alloc, numbers, lines),
+        Dyadic::NotEqual => fold_each::<NotEqual>(alloc, numbers, lines),
+        Dyadic::And => fold_each::<Logical<And>>(alloc, numbers, lines),
+        Dyadic::Or => fold_each::<Logical<Or>>(alloc, numbers, lines),
+        Dyadic::Nand => fold_each::<Logical<Nand>>(alloc, numbers, lines),
+        Dyadic::Nor => fold_each::<Logical<Nor>>(alloc, numbers, lines),
+    }
+}
+
+/// The folds of the characters of each line, of two or more, or the first fault.
+pub(crate) fn folds_of_characters(
+    alloc: Global,
+    function: Dyadic,
+    characters: &[Ch],
+    lines: &Lines<'_>,
+) -> Result<Vec<i64>, Stop>
+    requires { AreLines (length characters.now) lines.now }
+    ensures { Answers (λ v. v.items) (line_comparisons function characters.now lines.now) result }
+{
+    let leaf = Comparison {
+        characters,
+        axis: lines.inner,
+        same: compare(function, true),
+        other: compare(function, false),
+    };
+    walked(alloc, &leaf, lines)
+}
+
+/// The same value, or the same fault, for each line.
+#[derive(Drop)]
+struct Constant {
+    value: Result<i64, Fault>,
+}
+
+impl Leaf for Constant {
+    ghost has = { λ s p count. Unit {0} };
+
+    ghost gives = { λ s p count. s.value };
+
+    fn value(&self, _at: usize, _count: usize) -> Result<i64, Fault> {
+        self.value
+    }
+}
+
+/// The folds of lines without items.
+pub(crate) fn folds_of_none(
+    alloc: Global,
+    function: Dyadic,
+    lines: &Lines<'_>,
+) -> Result<Vec<i64>, Stop>
+    requires depth { IfSome lines.now.start.depth (λ depth. depth < length lines.now.axes.now) }
+    requires near { reach_of lines.now.start.at lines.now.axes.now < 2 ^ 63 }
+    ensures { Answers (λ v. v.items) (made (λ p count. identity function) lines.now.start.at lines.now.start.count lines.now.start.depth lines.now.axes.now) result }
+{
+    let leaf = Constant {
+        value: identity_of(function),
+    };
+    walked(alloc, &leaf, lines)
+}

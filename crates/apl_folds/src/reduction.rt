@@ -1,0 +1,128 @@
+// Reduction along an axis.
+ghost use Rattle.std.specs.Prelude.{◌≡◌, ◌≢◌, ◌<◌, ◌≤◌, length, Ok};
+ghost use Rattle.apl_arrays.specs.Answers.{Answers};
+ghost use Rattle.apl_arrays.specs.Cells.{cells_of};
+ghost use Rattle.apl_arrays.specs.Index.{bound_of, size_of};
+ghost use Rattle.apl_arrays.specs.Ravels.{items_of};
+ghost use Rattle.apl_arrays.specs.Strides.{IsView};
+ghost use Rattle.apl_arrays.specs.Views.{length_of};
+ghost use Rattle.apl_folds.specs.Folds.{folds_along, folds_shaped, squeezed, reduced_along, reduction};
+ghost use Rattle.apl_folds.specs.Lines.{shown_by};
+
+use crate::lines::{Lines, folds_of_characters, folds_of_none, folds_of_numbers};
+use crate::walk::Start;
+use apl_arrays::{
+    Along, Array, Cells, MAX_ELEMENTS, MAX_RANK, Ravel, Stop, Strided, View, copy_axes, size,
+};
+use apl_scalar::Dyadic;
+use arrayvec::ArrayVec;
+use std::alloc::Global;
+
+/// The folds along an axis, not of length 1, in the order of the index lists of the other axes, with room for so many.
+pub(crate) fn folds(
+    alloc: Global,
+    function: Dyadic,
+    axis: usize,
+    strided: &Strided<'_>,
+    room: usize,
+) -> Result<Vec<i64>, Stop>
+    requires steps { IsView (items_of strided.now.ravel.now) strided.now.offset strided.now.axes.now }
+    requires few { length strided.now.axes.now ≤ MAX_RANK }
+    requires axis { axis < length strided.now.axes.now }
+    requires not_one { length_of (shown_by strided.now) axis ≢ 1 }
+    ensures { Answers (λ v. v.items) (folds_along function axis (shown_by strided.now)) result }
+{
+    let mut others = copy_axes(strided.axes);
+    let inner = others.remove(axis);
+    let start = Start {
+        at: strided.offset,
+        count: inner.length,
+        depth: None,
+    };
+    let lines = Lines {
+        start,
+        axes: others.as_slice(),
+        inner,
+        room,
+    };
+    if inner.length == 0 {
+        return folds_of_none(alloc, function, &lines);
+    }
+    match strided.ravel {
+        Ravel::Nums(numbers) => folds_of_numbers(alloc, function, numbers.as_slice(), &lines),
+        Ravel::Chars(characters) => {
+            folds_of_characters(alloc, function, characters.as_slice(), &lines)
+        }
+    }
+}
+
+/// The array of a shape that is within the limits.
+pub(crate) fn formed(shape: ArrayVec<usize, MAX_RANK>, ravel: Ravel) -> Result<Array, Stop>
+    requires full { length (cells_of (items_of ravel)) ≡ size_of shape.items }
+    requires small { bound_of shape.items ≤ MAX_ELEMENTS }
+    ensures { Answers (λ r. r) (Ok (record { shape = shape.items; items = items_of ravel })) result }
+{
+    match Array::new(shape, ravel) {
+        Ok(array) => Ok(array),
+        Err(fault) => Err(Stop::Fault(fault)),
+    }
+}
+
+/// The elements of a view in the shape without an axis of length 1.
+fn squeeze(alloc: Global, axis: usize, view: &View<'_>) -> Result<Array, Stop>
+    requires axis { axis < length view.now.shape }
+    requires one { length_of view.now axis ≡ 1 }
+    ensures { Answers (λ r. r) (Ok (squeezed axis view.now)) result }
+{
+    let mut shape = view.shape();
+    let _length = shape.remove(axis);
+    let copied = view.copied(alloc)?;
+    formed(shape, copied.ravel().copy()?)
+}
+
+/// The folds along an axis, not of length 1, in the shape of the other axes.
+fn fold_axis(alloc: Global, function: Dyadic, axis: usize, view: &View<'_>) -> Result<Array, Stop>
+    requires axis { axis < length view.now.shape }
+    requires not_one { length_of view.now axis ≢ 1 }
+    ensures { Answers (λ r. r) (folds_shaped function axis view.now) result }
+{
+    let mut shape = view.shape();
+    let _length = shape.remove(axis);
+    let room = size(shape.as_slice());
+    let numbers = folds(alloc, function, axis, &view.strided(), room)?;
+    formed(shape, Ravel::Nums(numbers))
+}
+
+/// The reduction along an axis.
+fn reduce_axis(alloc: Global, function: Dyadic, axis: usize, view: &View<'_>) -> Result<Array, Stop>
+    requires { axis < length view.now.shape }
+    ensures { Answers (λ r. r) (reduced_along function axis view.now) result }
+{
+    if view.shape().as_slice()[axis] == 1 {
+        squeeze(alloc, axis, view)
+    } else {
+        fold_axis(alloc, function, axis, view)
+    }
+}
+
+/// The reduction of an array, or of a view of one, by a scalar function: the fold of the elements along an axis, for each index list of the
+/// other axes and in their shape.
+///
+/// The axis is looked at first, and named wrongly it is an axis fault. Along an axis of length 1 the elements stay as they are, and so does
+/// a scalar. Along one of length 0 each fold is the function's identity. Else the first fold that has a fault decides, in ravel order.
+pub fn reduce<C: Cells>(
+    alloc: Global,
+    function: Dyadic,
+    along: Along,
+    array: &C,
+    origin: usize,
+) -> Result<Array, Stop>
+    ensures { Answers (λ r. r) (reduction function along.entry (C.array array.now) origin) result }
+{
+    let view = array.view();
+    match along.axis(view.rank(), origin) {
+        Ok(Some(axis)) => reduce_axis(alloc, function, axis, &view),
+        Ok(None) => Ok(view.copied(alloc)?),
+        Err(fault) => Err(Stop::Fault(fault)),
+    }
+}

@@ -1,0 +1,6 @@
+pub mod InRows
+pub mod Crossing
+pub mod StandIn
+pub mod Folding
+pub mod Meeting
+pub mod Others

@@ -1,0 +1,15 @@
+use Rattle.std.proofs.Common.{◌≡◌, ◌<◌, ℕ, length, arith, ◌∙◌}
+use Rattle.apl_operators.specs.Joints.{step_of}
+use Rattle.apl_operators.proofs.Meeting.{left_within, right_within, met_by_steps}
+use Rattle.apl_operators.proofs.inner_product.meet_at.Goals as goal
+
+pub meet-requires-clause-x : goal.meet-requires-clause-x
+meet-requires-clause-x g c = λ k h. rw c.step_of.ensures (left_within c.args.joint.now (length c.args.xs.now) (length c.args.ys.now) c.args.place k c.requires.joint c.requires.place (omega arith))
+
+pub meet-requires-clause-y : goal.meet-requires-clause-y
+meet-requires-clause-y g c = λ k h. rw c.step_of-2.ensures (right_within c.args.joint.now (length c.args.xs.now) (length c.args.ys.now) c.args.place k c.requires.joint c.requires.place (omega arith))
+
+pub returns : goal.returns
+returns g c =
+    met_by_steps g.F.Scalar.meaning c.args.xs.now c.args.ys.now c.args.joint.now c.args.place (length c.args.row.now) c.step_of.result c.step_of-2.result c.requires.row c.step_of.ensures c.step_of-2.ensures
+    ∙ c.meet.ensures

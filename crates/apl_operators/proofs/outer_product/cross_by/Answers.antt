@@ -1,0 +1,55 @@
+use Rattle.apl_operators.proofs.outer_product.cross_by.Goals as goal
+
+pub returns-in-Plus : goal.returns-in-Plus
+returns-in-Plus c = rw c.in-Plus.is c.cross.ensures
+
+pub returns-in-Minus : goal.returns-in-Minus
+returns-in-Minus c = rw c.in-Minus.is c.cross-in-Minus.ensures
+
+pub returns-in-Times : goal.returns-in-Times
+returns-in-Times c = rw c.in-Times.is c.cross-in-Times.ensures
+
+pub returns-in-Divide : goal.returns-in-Divide
+returns-in-Divide c = rw c.in-Divide.is c.cross-in-Divide.ensures
+
+pub returns-in-Power : goal.returns-in-Power
+returns-in-Power c = rw c.in-Power.is c.cross-in-Power.ensures
+
+pub returns-in-Maximum : goal.returns-in-Maximum
+returns-in-Maximum c = rw c.in-Maximum.is c.cross-in-Maximum.ensures
+
+pub returns-in-Minimum : goal.returns-in-Minimum
+returns-in-Minimum c = rw c.in-Minimum.is c.cross-in-Minimum.ensures
+
+pub returns-in-Residue : goal.returns-in-Residue
+returns-in-Residue c = rw c.in-Residue.is c.cross-in-Residue.ensures
+
+pub returns-in-Less : goal.returns-in-Less
+returns-in-Less c = rw c.in-Less.is c.cross-in-Less.ensures
+
+pub returns-in-NotGreater : goal.returns-in-NotGreater
+returns-in-NotGreater c = rw c.in-NotGreater.is c.cross-in-NotGreater.ensures
+
+pub returns-in-Equal : goal.returns-in-Equal
+returns-in-Equal c = rw c.in-Equal.is c.cross-in-Equal.ensures
+
+pub returns-in-NotLess : goal.returns-in-NotLess
+returns-in-NotLess c = rw c.in-NotLess.is c.cross-in-NotLess.ensures
+
+pub returns-in-Greater : goal.returns-in-Greater
+returns-in-Greater c = rw c.in-Greater.is c.cross-in-Greater.ensures
+
+pub returns-in-NotEqual : goal.returns-in-NotEqual
+returns-in-NotEqual c = rw c.in-NotEqual.is c.cross-in-NotEqual.ensures
+
+pub returns-in-And : goal.returns-in-And
+returns-in-And c = rw c.in-And.is c.cross-in-And.ensures
+
+pub returns-in-Or : goal.returns-in-Or
+returns-in-Or c = rw c.in-Or.is c.cross-in-Or.ensures
+
+pub returns-in-Nand : goal.returns-in-Nand
+returns-in-Nand c = rw c.in-Nand.is c.cross-in-Nand.ensures
+
+pub returns-in-Nor : goal.returns-in-Nor
+returns-in-Nor c = rw c.in-Nor.is c.cross-in-Nor.ensures

@@ -1,0 +1,4 @@
+pub mod Products
+pub mod Places
+pub mod Standing
+pub mod Joints

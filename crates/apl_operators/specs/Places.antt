@@ -1,0 +1,24 @@
+-- The values of a function by the places of its numbers.
+use Rattle.std.specs.Prelude.{ℕ, ℤ, pos, ◌/◌, ◌%◌, List, length, slice_index_or, Some, Result}
+use Rattle.apl_faults.specs.declared.fault.Fault.{Fault}
+use Rattle.apl_arrays.specs.declared.cell.Cell.{Cell}
+use Rattle.apl_arrays.specs.declared.cell.Cell.TheVariants.{Num}
+use Rattle.apl_arrays.specs.Cells.{Items, cells_of}
+use Rattle.apl_scalar.specs.declared.function.Dyadic.{Dyadic}
+use Rattle.apl_scalar.specs.Extension.{dyadic_at}
+
+-- the element at a place
+abbrev pub cell_of : Items → ℕ → Cell
+cell_of items place = slice_index_or (cells_of items) place (Num (pos 0))
+
+-- a function at two elements by their places
+abbrev pub cells_met : Dyadic → Items → Items → ℕ → ℕ → Result ℤ Fault
+cells_met g a b i j = dyadic_at g (Some (cell_of a i)) (Some (cell_of b j))
+
+-- a function of numbers for a place of the result: each number of the first list with each of the second one
+abbrev pub crossed : (ℤ → ℤ → Result ℤ Fault) → List ℤ → List ℤ → ℕ → Result ℤ Fault
+crossed g xs ys r = g (slice_index_or xs (r / length ys) (pos 0)) (slice_index_or ys (r % length ys) (pos 0))
+
+-- the same of elements
+abbrev pub crossed_cells : Dyadic → Items → Items → ℕ → Result ℤ Fault
+crossed_cells g a b r = cells_met g a b (r / length (cells_of b)) (r % length (cells_of b))

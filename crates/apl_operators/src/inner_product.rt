@@ -1,0 +1,260 @@
+// Inner products.
+ghost use Rattle.std.specs.Prelude.{◌≡◌, ◌<◌, ◌*◌, ◌^◌, ◌++◌, ◌∷◌, [], length, map, Ok, IfOk};
+ghost use Rattle.std.specs.List.{range_with_len};
+ghost use Rattle.apl_arrays.specs.Answers.{Answers};
+ghost use Rattle.apl_arrays.specs.Axes.{without};
+ghost use Rattle.apl_arrays.specs.Cells.{cells_of};
+ghost use Rattle.apl_arrays.specs.Index.{indices};
+ghost use Rattle.apl_arrays.specs.Ravels.{items_of};
+ghost use Rattle.apl_arrays.specs.Results.{all_ok, ok_map, and_then};
+ghost use Rattle.apl_arrays.specs.declared.cell.Cell.TheVariants.{Num};
+ghost use Rattle.apl_scalar.specs.Functions.{dyadic_of};
+ghost use Rattle.apl_folds.specs.Folds.{folded};
+ghost use Rattle.apl_operators.specs.Products.{joined_length, joined_item, length_or_one, last_axis, met_items, all_folded, inner_product};
+ghost use Rattle.apl_operators.specs.Joints.{met, met_cells, folds_of, so_far, step_of, Joins};
+
+use crate::joint::{Joint, joined, without_first, without_last};
+use crate::line::{Stepped, meet};
+use crate::shape::{joined_shape, shaped};
+use crate::standing::standing;
+use crate::turned::Turned;
+use apl_arrays::{Array, Cells, Ravel, Stop, View, size, within_limits};
+use apl_faults::Fault;
+use apl_folds::fold_numbers;
+use apl_scalar::{
+    And, Difference, Dyadic, Equal, Less, Logical, Maximum, Minimum, Nand, Nor, NotEqual,
+    NotGreater, Or, Power, Product, Quotient, Residue, Scalar, Sum,
+};
+use std::alloc::{AllocError, Global};
+
+/// How far apart numbers stand along an axis that is so long: one of length 1 extends.
+fn step_of(len: usize, step: usize) -> usize
+    ensures { result ≡ step_of len step }
+{
+    if len == 1 { 0 } else { step }
+}
+
+/// Writes the values along the row and the column that meet at a place of the result.
+fn meet_at<F: Scalar>(
+    xs: &[i64],
+    ys: &[i64],
+    joint: &Joint,
+    place: usize,
+    row: &mut [i64],
+) -> Result<(), Fault>
+    requires joint { Joins joint.now (length xs.now) (length ys.now) }
+    requires place { place < joint.now.rows * joint.now.columns }
+    requires row { length row.old ≡ joint.now.joined }
+    ensures { met F.meaning xs.now ys.now joint.now place ≡ ok_map (λ u. row.new) result }
+{
+    let left = Stepped {
+        numbers: xs,
+        from: (place / joint.columns) * joint.left,
+        step: step_of(joint.left, 1),
+    };
+    let right = Stepped {
+        numbers: ys,
+        from: place % joint.columns,
+        step: step_of(joint.right, joint.columns),
+    };
+    meet::<F, Stepped, Stepped>(&left, &right, row)
+}
+
+/// Appends the fold of a row, unless a fold before had a fault. It answers the first fault of all.
+fn push_fold(
+    out: &mut Vec<i64>,
+    function: Dyadic,
+    row: &[i64],
+    refused: Option<Fault>,
+) -> Result<Option<Fault>, AllocError>
+    ensures { IfOk result (λ now. so_far out.new.items now ≡ and_then (so_far out.old.items refused) (λ zs. ok_map (λ z. zs ++ z ∷ []) (folded function (map Num row.now)))) }
+{
+    if refused.is_some() {
+        return Ok(refused);
+    }
+    match fold_numbers(function, row) {
+        Ok(value) => {
+            out.push(value)?;
+            Ok(None)
+        }
+        Err(fault) => Ok(Some(fault)),
+    }
+}
+
+/// The folds of what meets at each place, by a row for what meets. A fault of what meets comes before those of the folds.
+fn fold_each<F: Scalar>(
+    alloc: Global,
+    function: Dyadic,
+    xs: &[i64],
+    ys: &[i64],
+    joint: &Joint,
+    row: &mut [i64],
+) -> Result<Vec<i64>, Stop>
+    requires joint { Joins joint.now (length xs.now) (length ys.now) }
+    requires small { joint.now.rows * joint.now.columns < 2 ^ 63 }
+    requires row { length row.old ≡ joint.now.joined }
+    ensures { Answers (λ v. v.items) (folds_of function (met F.meaning xs.now ys.now joint.now) (range_with_len 0 (joint.now.rows * joint.now.columns))) result }
+{
+    let count = joint.rows * joint.columns;
+    let mut out = Vec::with_capacity(alloc, count)?;
+    let mut refused = None;
+    for place in 0..count {
+        meet_at::<F>(xs, ys, joint, place, row)?;
+        refused = push_fold(&mut out, function, row, refused)?;
+    }
+    match refused {
+        None => Ok(out),
+        Some(fault) => Err(Stop::Fault(fault)),
+    }
+}
+
+/// The folds of what meets at each place.
+fn fold_met<F: Scalar>(
+    alloc: Global,
+    function: Dyadic,
+    xs: &[i64],
+    ys: &[i64],
+    joint: &Joint,
+) -> Result<Vec<i64>, Stop>
+    requires joint { Joins joint.now (length xs.now) (length ys.now) }
+    requires small { joint.now.rows * joint.now.columns < 2 ^ 63 }
+    ensures { Answers (λ v. v.items) (folds_of function (met F.meaning xs.now ys.now joint.now) (range_with_len 0 (joint.now.rows * joint.now.columns))) result }
+{
+    let mut row = vec![in alloc; 0i64; joint.joined]?;
+    fold_each::<F>(alloc, function, xs, ys, joint, row.as_mut_slice())
+}
+
+/// The folds of what a function makes of rows and columns.
+fn fold_met_by(
+    alloc: Global,
+    outer_function: Dyadic,
+    inner_function: Dyadic,
+    a: &[i64],
+    b: &[i64],
+    joint: &Joint,
+) -> Result<Vec<i64>, Stop>
+    requires joint { Joins joint.now (length a.now) (length b.now) }
+    requires small { joint.now.rows * joint.now.columns < 2 ^ 63 }
+    ensures { Answers (λ v. v.items) (folds_of outer_function (met (dyadic_of inner_function) a.now b.now joint.now) (range_with_len 0 (joint.now.rows * joint.now.columns))) result }
+{
+    match inner_function {
+        Dyadic::Plus => fold_met::<Sum>(alloc, outer_function, a, b, joint),
+        Dyadic::Minus => fold_met::<Difference>(alloc, outer_function, a, b, joint),
+        Dyadic::Times => fold_met::<Product>(alloc, outer_function, a, b, joint),
+        Dyadic::Divide => fold_met::<Quotient>(alloc, outer_function, a, b, joint),
+        Dyadic::Power => fold_met::<Power>(alloc, outer_function, a, b, joint),
+        Dyadic::Maximum => fold_met::<Maximum>(alloc, outer_function, a, b, joint),
+        Dyadic::Minimum => fold_met::<Minimum>(alloc, outer_function, a, b, joint),
+        Dyadic::Residue => fold_met::<Residue>(alloc, outer_function, a, b, joint),
+        Dyadic::Less => fold_met::<Less>(alloc, outer_function, a, b, joint),
+        Dyadic::NotGreater => fold_met::<NotGreater>(alloc, outer_function, a, b, joint),
+        Dyadic::Equal => fold_met::<Equal>(alloc, outer_function, a, b, joint),
+        Dyadic::NotLess => fold_met::<Turned<NotGreater>>(alloc, outer_function, a, b, joint),
+        Dyadic::Greater => fold_met::<Turned<Less>>(alloc, outer_function, a, b, joint),
+        Dyadic::NotEqual => fold_met::<NotEqual>(alloc, outer_function, a, b, joint),
+        Dyadic::And => fold_met::<Logical<And>>(alloc, outer_function, a, b, joint),
+        Dyadic::Or => fold_met::<Logical<Or>>(alloc, outer_function, a, b, joint),
+        Dyadic::Nand => fold_met::<Logical<Nand>>(alloc, outer_function, a, b, joint),
+        Dyadic::Nor => fold_met::<Logical<Nor>>(alloc, outer_function, a, b, joint),
+    }
+}
+
+/// The folds of nothing, one for each place.
+fn identities(alloc: Global, function: Dyadic, count: usize) -> Result<Vec<i64>, Stop>
+    requires { 0 < count }
+    ensures { Answers (λ v. v.items) (all_ok (λ k. folded function []) (range_with_len 0 count)) result }
+{
+    let identity = fold_numbers(function, &[])?;
+    Ok(vec![in alloc; identity; count]?)
+}
+
+/// The folds of what a function makes of the elements of rows and columns.
+fn fold_elements(
+    alloc: Global,
+    outer_function: Dyadic,
+    inner_function: Dyadic,
+    a: &Ravel,
+    b: &Ravel,
+    joint: &Joint,
+) -> Result<Vec<i64>, Stop>
+    requires joint { Joins joint.now (length (cells_of (items_of a.now))) (length (cells_of (items_of b.now))) }
+    requires small { joint.now.rows * joint.now.columns < 2 ^ 63 }
+    ensures { Answers (λ v. v.items) (folds_of outer_function (met_cells inner_function (items_of a.now) (items_of b.now) joint.now) (range_with_len 0 (joint.now.rows * joint.now.columns))) result }
+{
+    let count = joint.rows * joint.columns;
+    if count == 0 {
+        return Ok(Vec::new(alloc));
+    }
+    if joint.joined == 0 {
+        return identities(alloc, outer_function, count);
+    }
+    match standing(alloc, inner_function, a, b)? {
+        Some(found) => {
+            let left = found.left.as_slice();
+            let right = found.right.as_slice();
+            fold_met_by(alloc, outer_function, inner_function, left, right, joint)
+        }
+        None => Err(Stop::Fault(Fault::Domain)),
+    }
+}
+
+/// The values in the order of the result's index lists.
+fn inner_values(
+    alloc: Global,
+    outer_function: Dyadic,
+    inner_function: Dyadic,
+    a: &View<'_>,
+    b: &View<'_>,
+    joined: usize,
+) -> Result<Vec<i64>, Stop>
+    requires { joined_length (length_or_one (last_axis a.now) a.now) (length_or_one 0 b.now) ≡ Ok joined }
+    ensures { Answers (λ v. v.items) (all_folded outer_function (met_items inner_function (joined_item (last_axis a.now) a.now) (joined_item 0 b.now) (last_axis a.now) joined) (indices (without (last_axis a.now) a.now.shape ++ without 0 b.now.shape))) result }
+{
+    let a = a.copied(alloc)?;
+    let b = b.copied(alloc)?;
+    let (a_others, left) = without_last(a.shape());
+    let (b_others, right) = without_first(b.shape());
+    let joint = Joint {
+        rows: size(a_others),
+        columns: size(b_others),
+        left,
+        right,
+        joined,
+    };
+    fold_elements(
+        alloc,
+        outer_function,
+        inner_function,
+        a.ravel(),
+        b.ravel(),
+        &joint,
+    )
+}
+
+/// The inner product along the last axis of one array and the first axis of another: the inner function of the elements there, and then
+/// the folds of its values by the outer function, in the shape of the other axes of the first array and then the second one's.
+///
+/// A scalar serves as a vector of one element, and an axis of length 1 extends. Other axes of unequal lengths are a length fault. Then it is
+/// a limit fault where no array may have the shape. Then the first fault of the inner function decides, in ravel order of the result and then
+/// along the axis, and at last the first fault of the folds.
+pub fn inner<A: Cells, B: Cells>(
+    alloc: Global,
+    outer_function: Dyadic,
+    inner_function: Dyadic,
+    a: &A,
+    b: &B,
+) -> Result<Array, Stop>
+    ensures { Answers (λ r. r) (inner_product outer_function inner_function (A.array a.now) (B.array b.now)) result }
+{
+    let a = a.view();
+    let b = b.view();
+    let a_shape = a.shape();
+    let b_shape = b.shape();
+    let (a_others, left) = without_last(a_shape.as_slice());
+    let (b_others, right) = without_first(b_shape.as_slice());
+    let length = joined(left, right)?;
+    let shape = joined_shape(a_others, b_others);
+    within_limits(shape.as_slice())?;
+    let values = inner_values(alloc, outer_function, inner_function, &a, &b, length)?;
+    Ok(shaped(shape.as_slice(), values)?)
+}

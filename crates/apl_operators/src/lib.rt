@@ -1,0 +1,17 @@
+//! Outer and inner products of arrays.
+#![tactic(auto)]
+
+mod inner_product;
+mod joint;
+mod line;
+mod outer_product;
+mod shape;
+mod standing;
+mod turned;
+
+pub use apl_folds::{reduce, scan};
+pub use inner_product::inner;
+pub use outer_product::outer;
+
+#[cfg(test)]
+mod tests;

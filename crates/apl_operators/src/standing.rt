@@ -1,0 +1,143 @@
+// Numbers that stand for the elements of two arrays under a function, so that there are loops over numbers alone.
+ghost use Rattle.std.specs.Prelude.{◌≡◌, ℕ, IfOk, Bool, MatchBool, nat_eq, map, pos, replicate, Err};
+ghost use Rattle.apl_arrays.specs.Ravels.{items_of};
+ghost use Rattle.apl_arrays.specs.Cells.{Numbers, Characters};
+ghost use Rattle.apl_scalar.specs.Functions.{dyadic_of};
+ghost use Rattle.apl_scalar.specs.Extension.{compared};
+ghost use Rattle.apl_operators.specs.Standing.{held, StandOrFail};
+
+use apl_arrays::Ravel;
+use apl_charset::Ch;
+use apl_faults::Fault;
+use apl_scalar::Dyadic;
+use std::alloc::{AllocError, Global};
+
+/// Numbers of an array, or made.
+#[derive(Drop)]
+pub(crate) enum Held<'a> {
+    Lent(&'a [i64]),
+    Made(Vec<i64>),
+}
+
+impl<'a> Held<'a> {
+    pub(crate) fn as_slice(&self) -> &[i64]
+        ensures { result.now ≡ held self.now }
+    {
+        match self {
+            Held::Lent(numbers) => numbers,
+            Held::Made(numbers) => numbers.as_slice(),
+        }
+    }
+}
+
+/// Numbers for the elements of two arrays.
+#[derive(Drop)]
+pub(crate) struct StandIns<'a> {
+    pub(crate) left: Held<'a>,
+    pub(crate) right: Held<'a>,
+}
+
+/// Whether a function takes characters: then it gives what it gives for their codes.
+fn takes_characters(function: Dyadic) -> bool
+    ensures { MatchBool result ((c d : ℕ) → compared function (nat_eq c d) ≡ dyadic_of function (pos c) (pos d)) ((same : Bool) → compared function same ≡ Err Fault.Domain) }
+{
+    match function {
+        Dyadic::Equal => true,
+        Dyadic::NotEqual => true,
+        _ => false,
+    }
+}
+
+/// The codes of characters.
+fn codes(alloc: Global, characters: &[Ch]) -> Result<Vec<i64>, AllocError>
+    ensures { IfOk result (λ v. v.items ≡ map pos characters.now) }
+{
+    let mut numbers = Vec::with_capacity(alloc, characters.len())?;
+    for character in characters {
+        numbers.push(character.code() as u32 as i64)?;
+    }
+    Ok(numbers)
+}
+
+/// The codes of two texts.
+fn coded(alloc: Global, a: &[Ch], b: &[Ch]) -> Result<StandIns<'static>, AllocError>
+    ensures left { IfOk result (λ numbers. held numbers.left ≡ map pos a.now) }
+    ensures right { IfOk result (λ numbers. held numbers.right ≡ map pos b.now) }
+{
+    let left = codes(alloc, a)?;
+    let right = codes(alloc, b)?;
+    Ok(StandIns {
+        left: Held::Made(left),
+        right: Held::Made(right),
+    })
+}
+
+/// So many numbers for each of two arrays, each of which differs from each of the other's.
+fn apart(alloc: Global, a: usize, b: usize) -> Result<StandIns<'static>, AllocError>
+    ensures left { IfOk result (λ numbers. held numbers.left ≡ replicate a (pos 0)) }
+    ensures right { IfOk result (λ numbers. held numbers.right ≡ replicate b (pos 1)) }
+{
+    let left = vec![in alloc; 0i64; a]?;
+    let right = vec![in alloc; 1i64; b]?;
+    Ok(StandIns {
+        left: Held::Made(left),
+        right: Held::Made(right),
+    })
+}
+
+/// What stands for numbers and the elements of another array.
+fn beside_numbers<'a>(
+    alloc: Global,
+    function: Dyadic,
+    a: &'a [i64],
+    b: &'a Ravel,
+) -> Result<Option<StandIns<'a>>, AllocError>
+    ensures { IfOk result (λ found. StandOrFail function (Numbers a.now) (items_of b.now) found) }
+{
+    match b {
+        Ravel::Nums(b) => Ok(Some(StandIns {
+            left: Held::Lent(a),
+            right: Held::Lent(b.as_slice()),
+        })),
+        Ravel::Chars(b) => {
+            if takes_characters(function) {
+                Ok(Some(apart(alloc, a.len(), b.len())?))
+            } else {
+                Ok(None)
+            }
+        }
+    }
+}
+
+/// What stands for characters and the elements of another array.
+fn beside_characters<'a>(
+    alloc: Global,
+    function: Dyadic,
+    a: &'a [Ch],
+    b: &'a Ravel,
+) -> Result<Option<StandIns<'a>>, AllocError>
+    ensures { IfOk result (λ found. StandOrFail function (Characters a.now) (items_of b.now) found) }
+{
+    if !takes_characters(function) {
+        return Ok(None);
+    }
+    match b {
+        Ravel::Nums(b) => Ok(Some(apart(alloc, a.len(), b.len())?)),
+        Ravel::Chars(b) => Ok(Some(coded(alloc, a, b.as_slice())?)),
+    }
+}
+
+/// Numbers that stand for the elements of two arrays under a function. Where there are none, each pair of elements is a domain fault.
+pub(crate) fn standing<'a>(
+    alloc: Global,
+    function: Dyadic,
+    a: &'a Ravel,
+    b: &'a Ravel,
+) -> Result<Option<StandIns<'a>>, AllocError>
+    ensures { IfOk result (λ found. StandOrFail function (items_of a.now) (items_of b.now) found) }
+{
+    match a {
+        Ravel::Nums(a) => beside_numbers(alloc, function, a.as_slice(), b),
+        Ravel::Chars(a) => beside_characters(alloc, function, a.as_slice(), b),
+    }
+}

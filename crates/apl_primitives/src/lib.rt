@@ -1,0 +1,13 @@
+//! The values of phrases whose functions are primitives.
+#![tactic(auto)]
+
+mod arguments;
+mod operators;
+mod table;
+mod value;
+
+pub use arguments::Arguments;
+pub use value::phrase_value;
+
+#[cfg(test)]
+mod tests;

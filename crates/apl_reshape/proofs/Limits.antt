@@ -1,0 +1,53 @@
+-- Lengths within the limits of an array.
+use Rattle.std.proofs.Common.{suc, zero, ◌≡◌, ℕ, ◌*◌, ◌<◌, ◌≤◌, max, List, [], ◌∷◌, length, get_or, replicate, refl, ap, sym, ◌∙◌, arith}
+use Rattle.std.proofs.Math.Nat.{mul-le-mul_right}
+use Rattle.apl_arrays.specs.Index.{size_of, bound_of}
+use Rattle.apl_arrays.specs.Cells.{Arr, Items, cells_of}
+use Rattle.apl_reshape.specs.Take.{with_axes}
+use Rattle.apl_arrays.proofs.Places.{bound_of-pos, mul_low}
+
+-- no length is more than the bound
+pub length_low : (s : List ℕ) (k : ℕ) → k < length s → get_or s k 0 ≤ bound_of s
+length_low [] k h = absurd (omega arith)
+length_low (n ∷ s) zero h = omega (arith, mul_low (max n 1) (bound_of s) (bound_of-pos s))
+length_low (n ∷ s) (suc k) h = omega (arith, length_low s k (omega arith), other (max n 1) (bound_of s) (omega arith))
+  where
+    other : (a b : ℕ) → 1 ≤ a → b ≤ a * b
+    other a b h = let g : 1 * b ≤ a * b = mul-le-mul_right b h in omega arith
+
+-- axes of length 1
+pub size-ones : (n : ℕ) → size_of (replicate n 1) ≡ 1
+size-ones zero = refl
+size-ones (suc n) = omega (arith, size-ones n)
+
+pub bound-ones : (n : ℕ) → bound_of (replicate n 1) ≡ 1
+bound-ones zero = refl
+bound-ones (suc n) = omega (arith, bound-ones n)
+
+-- the lengths with which an operand takes part
+pub size-axes : (n : ℕ) (s : List ℕ) → size_of (with_axes n s) ≡ size_of s
+size-axes n [] = size-ones n
+size-axes n (m ∷ s) = refl
+
+pub bound-axes : (n : ℕ) (s : List ℕ) → bound_of (with_axes n s) ≡ bound_of s
+bound-axes n [] = bound-ones n
+bound-axes n (m ∷ s) = refl
+
+-- an operand that takes part with these lengths has an element for each index list, and is within the limits
+pub room_axes : (b : Arr) (n : ℕ) (s t u : List ℕ) (items : Items) → s ≡ t → t ≡ with_axes n u → u ≡ b.shape → items ≡ b.items → length (cells_of b.items) ≡ size_of b.shape → size_of s ≡ length (cells_of items)
+room_axes b n s t u items e f g h full =
+    ap size_of (e ∙ f ∙ ap (with_axes n) g) ∙ size-axes n b.shape ∙ sym full ∙ ap (λ (i : Items). length (cells_of i)) (sym h)
+
+pub small_axes : (b : Arr) (n : ℕ) (s t u : List ℕ) → s ≡ t → t ≡ with_axes n u → u ≡ b.shape → bound_of b.shape ≤ 1000000 → bound_of s ≤ 1000000
+small_axes b n s t u e f g small = rw (ap bound_of (e ∙ f ∙ ap (with_axes n) g) ∙ bound-axes n b.shape) small
+
+pub few_is_enough : (a b : ℕ) → a ≡ b → a ≤ b
+few_is_enough a b e = omega arith
+
+-- a scalar's elements, in axes of length 1
+pub full_ones : (n : ℕ) (s t u : List ℕ) (items old : Items) → s ≡ t → t ≡ replicate n 1 → length u ≡ 0 → length (cells_of old) ≡ size_of u → items ≡ old → length (cells_of items) ≡ size_of s
+full_ones n s t [] items old e f h full g = ap (λ (i : Items). length (cells_of i)) g ∙ full ∙ sym (ap size_of (e ∙ f) ∙ size-ones n)
+full_ones n s t (m ∷ u) items old e f h full g = absurd (omega arith)
+
+pub small_ones : (n : ℕ) (s t : List ℕ) → s ≡ t → t ≡ replicate n 1 → bound_of s ≤ 1000000
+small_ones n s t e f = omega (arith, ap bound_of (e ∙ f), bound-ones n)

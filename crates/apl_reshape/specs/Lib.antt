@@ -1,0 +1,2 @@
+pub mod Reshape
+pub mod Take

@@ -1,0 +1,60 @@
+// What is left without the first or last elements along each axis.
+ghost use Rattle.std.specs.Prelude.{◌≡◌, ◌≤◌, length, IfOk, true};
+ghost use Rattle.apl_arrays.specs.Answers.{Answers};
+ghost use Rattle.apl_reshape.specs.Take.{dropped, dropped_by, fits_axes, widened};
+
+use crate::formed::formed;
+use crate::lengths::{fronts_left, lengths_left, ones};
+use crate::named::counts_named;
+use crate::parts::part_of;
+use apl_arrays::{Array, MAX_RANK, Stop};
+use apl_faults::Fault;
+use std::alloc::{AllocError, Global};
+
+/// What is left of an array with as many axes as there are counts.
+fn left_of(alloc: Global, counts: &[i64], b: &Array) -> Result<Array, AllocError>
+    requires { length counts.now ≡ length b.now.shape }
+    ensures { IfOk result (λ r. r ≡ dropped_by counts.now b.now) }
+{
+    let shape = b.shape();
+    let fronts = fronts_left(shape, counts);
+    let lengths = lengths_left(shape, counts);
+    part_of(alloc, b, fronts.as_slice(), lengths.as_slice())
+}
+
+/// A scalar with so many axes of length 1.
+fn with_ones(count: usize, b: &Array) -> Result<Array, AllocError>
+    requires count { count ≤ MAX_RANK }
+    requires scalar { length b.now.shape ≡ 0 }
+    ensures { IfOk result (λ r. r ≡ widened count b.now) }
+{
+    let shape = ones(count);
+    Ok(formed(shape.as_slice(), b.ravel().copy()?))
+}
+
+/// What is left of an array, where a scalar gets as many axes as there are counts.
+fn left_of_widened(alloc: Global, counts: &[i64], b: &Array) -> Result<Array, AllocError>
+    requires few { length counts.now ≤ MAX_RANK }
+    requires fits { fits_axes (length counts.now) b.now.shape ≡ true }
+    ensures { IfOk result (λ r. r ≡ dropped_by counts.now (widened (length counts.now) b.now)) }
+{
+    if b.rank() == 0 {
+        let scalar = with_ones(counts.len(), b)?;
+        return left_of(alloc, counts, &scalar);
+    }
+    left_of(alloc, counts, b)
+}
+
+/// What is left of B without the first so many elements along each axis, or without the last where the number in A is below 0.
+///
+/// A is a scalar or a vector, else it is a rank fault. It is a length fault where it has not a number for each axis, though a scalar B gets
+/// as many axes as there are numbers. Characters are a domain fault. It is a limit fault where a scalar gets too many axes.
+pub fn drop_items(alloc: Global, a: &Array, b: &Array) -> Result<Array, Stop>
+    ensures { Answers (λ r. r) (dropped a.now b.now) result }
+{
+    let counts = counts_named(a, b.shape())?;
+    if counts.len() > MAX_RANK {
+        return Err(Stop::Fault(Fault::Limit));
+    }
+    Ok(left_of_widened(alloc, counts, b)?)
+}

@@ -1,0 +1,68 @@
+// Shapes that numbers name.
+ghost use Rattle.std.specs.Prelude.{unsigned_abs, ◌≡◌, IfOk, length, true, ◌≤◌, map, pos, not, IsTrue, ◌↔◌};
+ghost use Rattle.std.specs.Int.{is_negative};
+ghost use Rattle.std.specs.List.{list_any};
+ghost use Rattle.apl_arrays.specs.Checks.{limited};
+ghost use Rattle.apl_arrays.specs.Results.{ok_map};
+ghost use Rattle.apl_reshape.specs.Reshape.{named_shape, shape_named};
+ghost use Rattle.apl_reshape.specs.Take.{fits_axes, named_counts};
+
+use apl_arrays::{Array, MAX_RANK, numbers_in, within_limits};
+use apl_faults::Fault;
+use arrayvec::ArrayVec;
+
+/// The magnitudes of numbers as a shape, if it is within the limits.
+pub(crate) fn magnitudes(numbers: &[i64]) -> Result<ArrayVec<usize, MAX_RANK>, Fault>
+    ensures { limited (map unsigned_abs numbers.now) ≡ ok_map (λ s. s.items) result }
+{
+    if numbers.len() > MAX_RANK {
+        return Err(Fault::Limit);
+    }
+    let mut lengths = ArrayVec::new();
+    for number in numbers {
+        lengths.push(number.unsigned_abs() as usize);
+    }
+    within_limits(lengths.as_slice())?;
+    Ok(lengths)
+}
+
+/// Whether a number is below 0.
+fn any_negative(numbers: &[i64]) -> bool
+    ensures { result ≡ list_any is_negative numbers.now }
+{
+    numbers.iter().any(|number| *number < 0)
+}
+
+/// The shape of these lengths.
+fn shape_of_lengths(numbers: &[i64]) -> Result<ArrayVec<usize, MAX_RANK>, Fault>
+    ensures { shape_named numbers.now ≡ ok_map (λ s. s.items) result }
+{
+    if any_negative(numbers) {
+        return Err(Fault::Domain);
+    }
+    magnitudes(numbers)
+}
+
+/// The shape that a scalar or a vector of lengths names.
+pub(crate) fn shape_named_by(a: &Array) -> Result<ArrayVec<usize, MAX_RANK>, Fault>
+    ensures { named_shape a.now ≡ ok_map (λ s. s.items) result }
+{
+    if a.rank() > 1 {
+        return Err(Fault::Rank);
+    }
+    shape_of_lengths(numbers_in(a.ravel())?)
+}
+
+/// The numbers of A, one for each axis of a shape. For a scalar's any count serves.
+pub(crate) fn counts_named<'a>(a: &'a Array, shape: &[usize]) -> Result<&'a [i64], Fault>
+    ensures value { named_counts a.now shape.now ≡ ok_map (λ counts. counts.now) result }
+    ensures fits { IfOk result (λ counts. fits_axes (length counts.now) shape.now ≡ true) }
+{
+    if a.rank() > 1 {
+        return Err(Fault::Rank);
+    }
+    if !shape.is_empty() && a.ravel().len() != shape.len() {
+        return Err(Fault::Length);
+    }
+    numbers_in(a.ravel())
+}

@@ -1,0 +1,204 @@
+// The first or last elements along each axis, with fills where there are too few.
+ghost use Rattle.std.specs.Prelude.{◌≡◌, ◌<◌, ◌≤◌, ◌+◌, ◌++◌, ◌^◌, length, IfOk, OnOk, map, pos, slice_index_or, unsigned_abs};
+ghost use Rattle.std.specs.Int.{is_negative};
+ghost use Rattle.std.specs.List.{range_with_len};
+ghost use Rattle.apl_arrays.specs.Answers.{Answers};
+ghost use Rattle.apl_arrays.specs.Cells.{cells_of};
+ghost use Rattle.apl_arrays.specs.Index.{bound_of, indices, size_of};
+ghost use Rattle.apl_arrays.specs.Ravels.{items_of};
+ghost use Rattle.apl_reshape.specs.Take.{found_or_filled, on_axes, place_from_end, place_taken, taken, taken_from, taken_index};
+
+use crate::formed::{formed, repeat};
+use crate::lengths::axes_of;
+use crate::named::{counts_named, magnitudes};
+use apl_arrays::{Array, MAX_ELEMENTS, Ravel, Stop, size};
+use apl_charset::Ch;
+use std::alloc::{AllocError, Global};
+
+/// Whether the first count is from the end.
+fn is_from_end(counts: &[i64]) -> bool
+    requires { 0 < length counts.now }
+    ensures { result ≡ is_negative (slice_index_or counts.now 0 (pos 0)) }
+{
+    counts[0] < 0
+}
+
+/// Which element of an axis is the one for an index among so many, or its length where there is none.
+fn place_of(from_end: bool, length: usize, wanted: usize, index: usize) -> usize
+    requires { index + length < 2 ^ 64 }
+    ensures { result ≡ place_taken from_end length wanted index }
+{
+    if !from_end {
+        index
+    } else if wanted <= index + length {
+        index + length - wanted
+    } else {
+        length
+    }
+}
+
+/// Appends the first of these items, with fills behind them where there are too few.
+fn push_first<T: Copy>(
+    out: &mut Vec<T>,
+    items: &[T],
+    fill: T,
+    wanted: usize,
+) -> Result<(), AllocError>
+    ensures { OnOk result (out.new.items ≡ out.old.items ++ map (λ k. slice_index_or items.now k fill) (range_with_len 0 wanted)) }
+{
+    let kept = wanted.min(items.len());
+    out.extend_from_slice(items.split_at(kept).0)?;
+    repeat(out, fill, wanted - kept)?;
+    Ok(())
+}
+
+/// Appends the last of these items, with fills before them where there are too few.
+fn push_last<T: Copy>(
+    out: &mut Vec<T>,
+    items: &[T],
+    fill: T,
+    wanted: usize,
+) -> Result<(), AllocError>
+    ensures { OnOk result (out.new.items ≡ out.old.items ++ map (λ k. slice_index_or items.now (place_from_end (length items.now) wanted k) fill) (range_with_len 0 wanted)) }
+{
+    let kept = wanted.min(items.len());
+    repeat(out, fill, wanted - kept)?;
+    out.extend_from_slice(items.split_at(items.len() - kept).1)?;
+    Ok(())
+}
+
+/// Appends so many of these items from the front or from the end, with fills where there are too few.
+fn push_line<T: Copy>(
+    out: &mut Vec<T>,
+    items: &[T],
+    fill: T,
+    from_end: bool,
+    wanted: usize,
+) -> Result<(), AllocError>
+    ensures { OnOk result (out.new.items ≡ out.old.items ++ map (λ k. slice_index_or items.now (place_taken from_end (length items.now) wanted k) fill) (range_with_len 0 wanted)) }
+{
+    if from_end {
+        push_last(out, items, fill, wanted)?;
+        return Ok(());
+    }
+    push_first(out, items, fill, wanted)?;
+    Ok(())
+}
+
+/// Appends what is taken of items in a shape, row by row, where the lengths are the magnitudes of the counts. The last axis has a loop of
+/// its own.
+fn push_taken<T: Copy>(
+    out: &mut Vec<T>,
+    items: &[T],
+    fill: T,
+    shape: &[usize],
+    counts: &[i64],
+    lengths: &[usize],
+) -> Result<(), AllocError>
+    requires axes { length shape.now ≡ length counts.now }
+    requires lengths { lengths.now ≡ map unsigned_abs counts.now }
+    requires room { size_of shape.now ≤ length items.now }
+    requires shape_small { bound_of shape.now ≤ MAX_ELEMENTS }
+    requires small { bound_of lengths.now ≤ MAX_ELEMENTS }
+    ensures { OnOk result (out.new.items ≡ out.old.items ++ map (taken_from shape.now counts.now items.now fill) (indices lengths.now)) }
+{
+    if counts.is_empty() {
+        out.push(items[0])?;
+        return Ok(());
+    }
+    let from_end = is_from_end(counts);
+    if counts.len() == 1 {
+        push_line(out, items.split_at(shape[0]).0, fill, from_end, lengths[0])?;
+        return Ok(());
+    }
+    let others = shape.split_at(1).1;
+    let step = size(others);
+    let fills = size(lengths.split_at(1).1);
+    for index in 0..lengths[0] {
+        let place = place_of(from_end, shape[0], lengths[0], index);
+        if place >= shape[0] {
+            repeat(out, fill, fills)?;
+            continue;
+        }
+        let row = items.split_at(place * step).1;
+        push_taken(
+            out,
+            row,
+            fill,
+            others,
+            counts.split_at(1).1,
+            lengths.split_at(1).1,
+        )?;
+    }
+    Ok(())
+}
+
+/// What is taken of items in a shape.
+fn items_taken<T: Copy>(
+    alloc: Global,
+    items: &[T],
+    fill: T,
+    shape: &[usize],
+    counts: &[i64],
+    lengths: &[usize],
+) -> Result<Vec<T>, AllocError>
+    requires axes { length shape.now ≡ length counts.now }
+    requires lengths { lengths.now ≡ map unsigned_abs counts.now }
+    requires room { size_of shape.now ≤ length items.now }
+    requires shape_small { bound_of shape.now ≤ MAX_ELEMENTS }
+    requires small { bound_of lengths.now ≤ MAX_ELEMENTS }
+    ensures { IfOk result (λ v. v.items ≡ map (taken_from shape.now counts.now items.now fill) (indices lengths.now)) }
+{
+    let mut out = Vec::with_capacity(alloc, size(lengths))?;
+    push_taken(&mut out, items, fill, shape, counts, lengths)?;
+    Ok(out)
+}
+
+/// What is taken of a ravel in a shape.
+fn ravel_taken(
+    alloc: Global,
+    ravel: &Ravel,
+    shape: &[usize],
+    counts: &[i64],
+    lengths: &[usize],
+) -> Result<Ravel, AllocError>
+    requires axes { length shape.now ≡ length counts.now }
+    requires lengths { lengths.now ≡ map unsigned_abs counts.now }
+    requires room { size_of shape.now ≤ length (cells_of (items_of ravel.now)) }
+    requires shape_small { bound_of shape.now ≤ MAX_ELEMENTS }
+    requires small { bound_of lengths.now ≤ MAX_ELEMENTS }
+    ensures { IfOk result (λ r. items_of r ≡ found_or_filled shape.now (items_of ravel.now) (on_axes taken_index shape.now counts.now) (indices lengths.now)) }
+{
+    match ravel {
+        Ravel::Nums(numbers) => {
+            let taken = items_taken(alloc, numbers.as_slice(), 0, shape, counts, lengths)?;
+            Ok(Ravel::Nums(taken))
+        }
+        Ravel::Chars(characters) => {
+            let blank = Ch::ascii(b' ');
+            let taken = items_taken(alloc, characters.as_slice(), blank, shape, counts, lengths)?;
+            Ok(Ravel::Chars(taken))
+        }
+    }
+}
+
+/// The first so many elements of B along each axis, or the last where the number in A is below 0, with fills, 0 or blank, where there are
+/// too few.
+///
+/// A is a scalar or a vector, else it is a rank fault. It is a length fault where it has not a number for each axis, though a scalar B gets
+/// as many axes as there are numbers. Characters are a domain fault. It is a limit fault where the result is beyond the limits.
+pub fn take_items(alloc: Global, a: &Array, b: &Array) -> Result<Array, Stop>
+    ensures { Answers (λ r. r) (taken a.now b.now) result }
+{
+    let counts = counts_named(a, b.shape())?;
+    let lengths = magnitudes(counts)?;
+    let shape = axes_of(counts.len(), b.shape());
+    let ravel = ravel_taken(
+        alloc,
+        b.ravel(),
+        shape.as_slice(),
+        counts,
+        lengths.as_slice(),
+    )?;
+    Ok(formed(lengths.as_slice(), ravel))
+}

@@ -1,0 +1,10 @@
+pub mod Orders
+pub mod Rising
+pub mod Firsts
+pub mod Products
+pub mod Values
+pub mod Digits
+pub mod Shapes
+pub mod Grades
+pub mod Lookups
+pub mod Searches

@@ -1,0 +1,6 @@
+pub mod Counted
+pub mod Ordered
+pub mod Found
+pub mod Decoded
+pub mod Flat
+pub mod Mirrored

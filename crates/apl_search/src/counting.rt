@@ -1,0 +1,64 @@
+// The numbers up to a count.
+ghost use Rattle.std.specs.Prelude.{◌≡◌, ◌+◌, ◌≤◌, ◌^◌, ◌<◌, IfOk, map, pos};
+ghost use Rattle.std.specs.List.{range_with_len};
+ghost use Rattle.apl_arrays.specs.Answers.{Answers};
+ghost use Rattle.apl_search.specs.Counted.{natural, count_named, iota};
+
+use crate::result::array_of;
+use apl_arrays::{Array, Ravel, Stop, numbers_in, within_limits};
+use apl_faults::Fault;
+use std::alloc::{AllocError, Global};
+
+/// A number that is not negative.
+fn as_count(number: i64) -> Result<usize, Fault>
+    ensures { result ≡ natural number }
+{
+    if number < 0 {
+        Err(Fault::Domain)
+    } else {
+        Ok(number as usize)
+    }
+}
+
+/// The count that an array of one number names.
+fn count_in(b: &Array) -> Result<usize, Fault>
+    ensures { result ≡ count_named b.now }
+{
+    if b.rank() > 1 {
+        return Err(Fault::Rank);
+    }
+    if b.ravel().len() != 1 {
+        return Err(Fault::Length);
+    }
+    match numbers_in(b.ravel()) {
+        Ok([number]) => as_count(*number),
+        Ok(_) => Err(Fault::Length),
+        Err(fault) => Err(fault),
+    }
+}
+
+/// So many numbers from a number on.
+fn numbers_from(alloc: Global, first: usize, count: usize) -> Result<Vec<i64>, AllocError>
+    requires { first + count < 2 ^ 63 }
+    ensures { IfOk result (λ v. v.items ≡ map pos (range_with_len first count)) }
+{
+    let mut numbers = Vec::with_capacity(alloc, count)?;
+    for number in first..first + count {
+        numbers.push(number as i64)?;
+    }
+    Ok(numbers)
+}
+
+/// The numbers from the index origin on, as many as an array of one number says, as a vector.
+///
+/// More than one axis is a rank fault, then another count of elements a length fault, then a character or a negative number a domain
+/// fault, then a vector over the limits a limit fault.
+pub fn iota(alloc: Global, b: &Array, origin: usize) -> Result<Array, Stop>
+    requires { origin ≤ 1 }
+    ensures { Answers (λ r. r) (iota b.now origin) result }
+{
+    let count = count_in(b)?;
+    within_limits(&[count])?;
+    let numbers = numbers_from(alloc, origin, count)?;
+    array_of(&[count], Ravel::Nums(numbers))
+}

@@ -1,0 +1,20 @@
+//! Functions that count, order, look up and write numbers by bases.
+#![tactic(auto)]
+
+mod counting;
+mod decoding;
+mod grading;
+mod listing;
+mod lookup;
+mod membership;
+mod places;
+mod result;
+
+pub use counting::iota;
+pub use decoding::decode;
+pub use grading::{grade_down, grade_up};
+pub use membership::member;
+pub use places::index_of;
+
+#[cfg(test)]
+mod tests;

@@ -1,0 +1,9 @@
+pub mod Lists
+pub mod Reaching
+pub mod Laying
+pub mod Overlay
+pub mod Exits
+pub mod Indexes
+pub mod Crossing
+pub mod Picking
+pub mod Choosing

@@ -1,0 +1,23 @@
+use Rattle.std.proofs.Common.{◌≡◌, ℤ, pos, ℕ, ◌+◌, ◌*◌, ◌<◌, ◌≤◌, ◌++◌, ◌∷◌, [], List, length, get_or, take, drop, arith, ap, sym, ◌∙◌, true, false, Some}
+use Rattle.std.proofs.lemmas.List.Sums.{count_by_more_yes, count_by_more_no}
+use Rattle.apl_select.specs.Compress.{is_one}
+use Rattle.apl_select.proofs.Choosing.{spread_no, spread_yes}
+use Rattle.apl_select.proofs.bits.spread.Goals as goal
+
+pub loop-k-preserved-then-not-is_one_at : goal.loop-k-preserved-then-not-is_one_at
+loop-k-preserved-then-not-is_one_at c =
+    let bit : is_one (get_or c.args.bits.now c.loop-k.k (pos 0)) ≡ false = sym c.is_one_at.ensures ∙ c.if-not-is_one_at.true in
+    record {
+      next = c.loop-k.invariant.next ∙ sym (count_by_more_no is_one c.args.bits.now c.loop-k.k (pos 0) c.loop-k-test.true bit);
+      places = spread_no c.args.bits.now c.args.len c.loop-k.k c.loop-k.places.items c.push.new.self.items c.loop-k.invariant.places c.in_ok-push.ensures.items bit;
+    }
+
+pub loop-k-preserved : goal.loop-k-preserved
+loop-k-preserved c =
+    let bit : is_one (get_or c.args.bits.now c.loop-k.k (pos 0)) ≡ true = sym c.is_one_at.ensures ∙ c.if-not-is_one_at.false in
+    record {
+      next = ap (λ n. n + 1) c.loop-k.invariant.next ∙ sym (count_by_more_yes is_one c.args.bits.now c.loop-k.k (pos 0) c.loop-k-test.true bit);
+      places =
+          spread_yes c.args.bits.now c.args.len c.loop-k.k c.loop-k.next c.loop-k.places.items c.push-in-loop-k.new.self.items c.loop-k.invariant.next c.loop-k.invariant.places
+          (c.in_ok-push-2.ensures.items ∙ ap (λ j. c.loop-k.places.items ++ Some j ∷ []) c.extended.ensures) bit;
+    }

@@ -1,0 +1,12 @@
+use Rattle.std.proofs.Common.{◌≡◌, map, take}
+use Rattle.std.specs.Prelude.{count_by}
+use Rattle.std.specs.List.{range_with_len}
+use Rattle.apl_select.specs.Compress.{is_one}
+use Rattle.apl_select.proofs.Choosing.{spread_at}
+use Rattle.apl_select.proofs.bits.spread.Given as goal
+
+abbrev pub invariant-loop-k : goal.invariant-loop-k
+invariant-loop-k l = record {
+  next : l.next ≡ count_by is_one (take l.k l.bits);
+  places : l.places.items ≡ map (spread_at l.bits l.len) (range_with_len 0 l.k);
+}

@@ -1,0 +1,7 @@
+use Rattle.std.proofs.Common.{◌≡◌, ℤ, pos, ℕ, ◌+◌, ◌*◌, ◌<◌, ◌≤◌, ◌++◌, List, length, get_or, take, drop, arith, ap, sym, ◌∙◌}
+use Rattle.apl_select.proofs.Choosing.{kept_below}
+use Rattle.apl_select.proofs.compression.compress_along.Goals as goal
+
+pub laid-requires-clause-places : goal.laid-requires-clause-places
+laid-requires-clause-places c =
+    kept_below c.in_ok-bits.bits.now c.len.result (get_or c.args.shape.now c.args.axis 0) c.in_ok-count.count c.as_slice.result.now (c.as_slice.ensures.value ∙ c.in_ok-places.ensures) (sym c.in_ok-count.ensures)

@@ -1,0 +1,20 @@
+use Rattle.std.proofs.Common.{◌≡◌, ℕ, ◌+◌, ◌-◌, ◌*◌, ◌<◌, ◌≤◌, ◌++◌, ◌∷◌, [], List, map, length, get_or, take, drop, arith, ap, sym, ◌∙◌}
+use Rattle.std.proofs.lemmas.List.{take_all}
+use Rattle.apl_select.specs.Reached.{crossed}
+use Rattle.apl_select.proofs.Lists.{all_piece}
+use Rattle.apl_select.proofs.Crossing.{crossed_more}
+use Rattle.apl_select.proofs.reach.gather.Goals as goal
+
+pub gather_line-requires-clause-within : goal.gather_line-requires-clause-within
+gather_line-requires-clause-within g c =
+    all_piece (λ q. q < length c.args.raw.now) (λ s. map (λ k. s * c.args.len + k) c.args.places.now) c.args.starts.now c.loop-start.start-index 0 c.loop-start-test.true c.requires.within
+
+pub loop-start-preserved : goal.loop-start-preserved
+loop-start-preserved g c =
+    λ d. crossed_more (λ q. get_or c.args.raw.now q d) c.args.out.now.items c.loop-start.out.items c.gather_line.new.out.items c.args.starts.now c.args.places.now c.args.len c.loop-start.start-index c.loop-start-test.true
+    (c.loop-start.invariant d) (c.in_ok-gather_line.ensures d)
+
+pub returns : goal.returns
+returns g c =
+    λ d. c.loop-start.invariant d
+    ∙ ap (λ z. c.args.out.now.items ++ map (λ q. get_or c.args.raw.now q d) (crossed z c.args.len c.args.places.now)) (take_all c.loop-start.start-index c.args.starts.now (omega arith))

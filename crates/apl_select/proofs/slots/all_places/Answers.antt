@@ -1,0 +1,6 @@
+use Rattle.std.proofs.Common.{◌≡◌, ℤ, pos, ℕ, ◌+◌, ◌-◌, ◌*◌, ◌<◌, ◌≤◌, ◌++◌, ◌∷◌, [], List, length, get_or, take, drop, arith, ap, sym, ◌∙◌, true, false, Some, Ok}
+use Rattle.apl_select.proofs.Lists.{range_next}
+use Rattle.apl_select.proofs.slots.all_places.Goals as goal
+
+pub loop-k-preserved : goal.loop-k-preserved
+loop-k-preserved c = range_next c.loop-k.k c.loop-k.places.items c.push.new.self.items c.loop-k.invariant c.in_ok-push.ensures.items

@@ -1,0 +1,28 @@
+use Rattle.std.proofs.Common.{◌≡◌, ℤ, pos, ℕ, ◌+◌, ◌-◌, ◌*◌, ◌<◌, ◌≤◌, ◌++◌, ◌∷◌, [], List, length, get_or, take, drop, arith, ap, sym, ◌∙◌, true, false, Some, Ok}
+use Rattle.std.specs.List.{range_with_len}
+use Rattle.apl_arrays.proofs.InTurn.{turns_start, turns_step, turns_fault, turns_end}
+use Rattle.apl_select.specs.Indexing.{place_numbered}
+use Rattle.apl_select.proofs.Picking.{by_number}
+use Rattle.apl_select.proofs.slots.places_in.Goals as goal
+
+pub loop-k-init : goal.loop-k-init
+loop-k-init c =
+    turns_start (λ k. place_numbered c.args.len c.args.origin (get_or c.args.numbers.now k (pos 0))) c.in_ok-places.places.items (length c.args.numbers.now) c.in_ok-places.ensures.items
+    ∙ by_number (place_numbered c.args.len c.args.origin) c.args.numbers.now
+
+pub loop-k-preserved : goal.loop-k-preserved
+loop-k-preserved c =
+    turns_step (λ k. place_numbered c.args.len c.args.origin (get_or c.args.numbers.now k (pos 0))) c.loop-k.places.items _ c.in-Ok.place c.loop-k.k (length c.args.numbers.now) c.loop-k-test.true
+    (sym c.in-Ok.ensures) c.in_ok-push-in-Ok.ensures.items
+    ∙ c.loop-k.invariant
+
+pub returns-in-Err : goal.returns-in-Err
+returns-in-Err c =
+    sym c.loop-k.invariant
+    ∙ turns_fault (λ k. place_numbered c.args.len c.args.origin (get_or c.args.numbers.now k (pos 0))) c.loop-k.places.items c.in-Err.fault c.loop-k.k (length c.args.numbers.now) c.loop-k-test.true
+    (sym c.in-Err.ensures)
+
+pub returns : goal.returns
+returns c =
+    sym c.loop-k.invariant
+    ∙ turns_end (λ k. place_numbered c.args.len c.args.origin (get_or c.args.numbers.now k (pos 0))) c.loop-k.places.items c.loop-k.k (length c.args.numbers.now) (omega arith)

@@ -1,0 +1,6 @@
+pub mod Lined
+pub mod Compress
+pub mod Indexing
+pub mod Assignment
+pub mod Reached
+pub mod Laying

@@ -1,0 +1,150 @@
+// Zeros and ones, and the places that they choose on an axis.
+ghost use Rattle.std.specs.Prelude.{◌≡◌, ◌≢◌, ◌+◌, ◌<◌, ◌≤◌, ◌==◌, ◌||◌, length, pos, slice_index_or, count_by, IfOk, Ok};
+ghost use Rattle.std.specs.List.{list_all};
+ghost use Rattle.apl_arrays.specs.Checks.{demand};
+ghost use Rattle.apl_arrays.specs.Ravels.{items_of};
+ghost use Rattle.apl_arrays.specs.Results.{ok_map};
+ghost use Rattle.apl_select.specs.Compress.{bits_of, common_count, is_bit, is_one, kept, ones, spread};
+ghost use Rattle.apl_select.specs.Lined.{extended};
+
+use apl_arrays::{Ravel, numbers_in};
+use apl_faults::Fault;
+use std::alloc::{AllocError, Global};
+
+/// Whether a number is 1.
+#[inline(always)]
+fn is_one(number: i64) -> bool
+    ensures { result ≡ is_one number }
+{
+    number == 1
+}
+
+/// Whether the number at a place is 1.
+#[inline(always)]
+fn is_one_at(numbers: &[i64], place: usize) -> bool
+    requires { place < length numbers.now }
+    ensures { result ≡ is_one (slice_index_or numbers.now place (pos 0)) }
+{
+    is_one(numbers[place])
+}
+
+/// Whether a number is 0 or 1.
+#[inline(always)]
+fn is_bit(number: i64) -> bool
+    ensures { result ≡ is_bit number }
+{
+    number == 0 || number == 1
+}
+
+/// Whether all numbers are 0 or 1.
+fn are_bits(numbers: &[i64]) -> bool
+    ensures { result ≡ list_all is_bit numbers.now }
+{
+    numbers.iter().all(|number| is_bit(*number))
+}
+
+/// The numbers of a ravel, which are 0 or 1 each. Anything else is a domain fault.
+pub(crate) fn bits_in(ravel: &Ravel) -> Result<&[i64], Fault>
+    ensures { bits_of (items_of ravel.now) ≡ ok_map (λ bits. bits.now) result }
+{
+    let numbers = numbers_in(ravel)?;
+    if are_bits(numbers) {
+        Ok(numbers)
+    } else {
+        Err(Fault::Domain)
+    }
+}
+
+/// How many numbers are 1.
+fn count_ones(numbers: &[i64]) -> usize
+    ensures { result ≡ count_by is_one numbers.now }
+{
+    numbers.iter().filter(|number| is_one(**number)).count()
+}
+
+/// How many elements are 1. No character is.
+pub(crate) fn ones(ravel: &Ravel) -> usize
+    ensures { result ≡ ones (items_of ravel.now) }
+{
+    match ravel {
+        Ravel::Nums(numbers) => count_ones(numbers.as_slice()),
+        Ravel::Chars(_) => 0,
+    }
+}
+
+/// How many items there are of each, where either extends from 1. Other unequal counts are a length fault.
+pub(crate) fn common_count(m: usize, n: usize) -> Result<usize, Fault>
+    ensures { result ≡ common_count m n }
+{
+    if m == 1 {
+        Ok(n)
+    } else if n == 1 {
+        Ok(m)
+    } else if m == n {
+        Ok(n)
+    } else {
+        Err(Fault::Length)
+    }
+}
+
+/// It is a length fault where there are neither as many ones as places nor a single place, which serves at each.
+pub(crate) fn fits_ones(ones: usize, len: usize) -> Result<(), Fault>
+    ensures { result ≡ demand (len == 1 || ones == len) Fault.Length }
+{
+    if len == 1 {
+        Ok(())
+    } else if ones == len {
+        Ok(())
+    } else {
+        Err(Fault::Length)
+    }
+}
+
+/// The place for `k` among so many items, of which a single one serves at each.
+#[inline(always)]
+pub(crate) fn extended(count: usize, k: usize) -> usize
+    ensures { result ≡ extended count k }
+{
+    if count == 1 { 0 } else { k }
+}
+
+/// Of so many places on an axis those at a 1.
+pub(crate) fn kept(
+    alloc: Global,
+    bits: &[i64],
+    len: usize,
+    count: usize,
+) -> Result<Vec<Option<usize>>, AllocError>
+    requires { common_count (length bits.now) len ≡ Ok count }
+    ensures { IfOk result (λ v. v.items ≡ kept bits.now len count) }
+{
+    let mut places = Vec::with_capacity(alloc, count)?;
+    for k in 0..count {
+        if !is_one_at(bits, extended(bits.len(), k)) {
+            continue;
+        }
+        places.push(Some(extended(len, k)))?;
+    }
+    Ok(places)
+}
+
+/// At each 1 the next place on an axis, at each 0 none.
+pub(crate) fn spread(
+    alloc: Global,
+    bits: &[i64],
+    len: usize,
+) -> Result<Vec<Option<usize>>, AllocError>
+    ensures { IfOk result (λ v. v.items ≡ spread bits.now len) }
+{
+    let mut places = Vec::with_capacity(alloc, bits.len())?;
+    let mut next = 0usize;
+    for k in 0..bits.len() {
+        if !is_one_at(bits, k) {
+            places.push(None)?;
+            continue;
+        }
+        places.push(Some(extended(len, next)))?;
+        next += 1;
+    }
+    Ok(places)
+}

@@ -1,0 +1,101 @@
+// Compression and expansion.
+ghost use Rattle.std.specs.Prelude.{◌≡◌, ◌<◌, ◌≤◌, nat_le, length};
+ghost use Rattle.apl_arrays.specs.Answers.{Answers};
+ghost use Rattle.apl_arrays.specs.Cells.{cells_of};
+ghost use Rattle.apl_arrays.specs.Checks.{vector_rank};
+ghost use Rattle.apl_arrays.specs.Index.{bound_of, size_of};
+ghost use Rattle.apl_arrays.specs.Ravels.{items_of};
+ghost use Rattle.apl_select.specs.Compress.{compressed, compressed_along, expanded, expanded_along};
+
+use crate::bits::{bits_in, common_count, fits_ones, kept, ones, spread};
+use crate::lines::{axis_in, laid, lined_shape};
+use apl_arrays::{Along, Array, MAX_ELEMENTS, Ravel, Stop};
+use apl_faults::Fault;
+use std::alloc::Global;
+
+/// It is a rank fault where an array has more than one axis.
+fn within_a_vector(array: &Array) -> Result<(), Fault>
+    ensures { result ≡ vector_rank array.now }
+{
+    if array.rank() <= 1 {
+        Ok(())
+    } else {
+        Err(Fault::Rank)
+    }
+}
+
+/// The compression of elements in a shape, along an axis.
+fn compress_along(
+    alloc: Global,
+    a: &Array,
+    axis: usize,
+    shape: &[usize],
+    ravel: &Ravel,
+) -> Result<Array, Stop>
+    requires axis { axis < length shape.now }
+    requires full { length (cells_of (items_of ravel.now)) ≡ size_of shape.now }
+    requires small { bound_of shape.now ≤ MAX_ELEMENTS }
+    ensures { Answers (λ r. r) (compressed_along a.now axis (record { shape = shape.now; items = items_of ravel.now })) result }
+{
+    let count = common_count(a.ravel().len(), shape[axis])?;
+    let bits = bits_in(a.ravel())?;
+    let places = kept(alloc, bits, shape[axis], count)?;
+    laid(alloc, ravel, shape, axis, places.as_slice())
+}
+
+/// The expansion of elements in a shape, along an axis.
+fn expand_along(
+    alloc: Global,
+    a: &Array,
+    axis: usize,
+    shape: &[usize],
+    ravel: &Ravel,
+) -> Result<Array, Stop>
+    requires axis { axis < length shape.now }
+    requires full { length (cells_of (items_of ravel.now)) ≡ size_of shape.now }
+    requires small { bound_of shape.now ≤ MAX_ELEMENTS }
+    ensures { Answers (λ r. r) (expanded_along a.now axis (record { shape = shape.now; items = items_of ravel.now })) result }
+{
+    fits_ones(ones(a.ravel()), shape[axis])?;
+    let bits = bits_in(a.ravel())?;
+    let places = spread(alloc, bits, shape[axis])?;
+    laid(alloc, ravel, shape, axis, places.as_slice())
+}
+
+/// The elements of `b` along an axis where `a` has a 1. A single element of either extends over the other, and a scalar `b` is a vector.
+///
+/// A named axis that isn't one of `b`'s is an axis fault, then more than one axis of `a` a rank fault, then unequal lengths are a length
+/// fault, then anything but zeros and ones in `a` is a domain fault. A result beyond the limits of an array is a limit fault.
+pub fn compress(
+    alloc: Global,
+    along: Along,
+    a: &Array,
+    b: &Array,
+    origin: usize,
+) -> Result<Array, Stop>
+    ensures { Answers (λ r. r) (compressed along.entry a.now b.now origin) result }
+{
+    let axis = axis_in(along, b.rank(), origin)?;
+    within_a_vector(a)?;
+    compress_along(alloc, a, axis, lined_shape(b.shape()), b.ravel())
+}
+
+/// The elements of `b` along an axis at the ones of `a`, and fills, 0 or blank, at its zeros. A single place of `b` serves at each one, and
+/// a scalar `b` is a vector.
+///
+/// A named axis that isn't one of `b`'s is an axis fault, then more than one axis of `a` a rank fault, then another count of ones than of
+/// places is a length fault, then anything but zeros and ones in `a` is a domain fault. A result beyond the limits of an array is a limit
+/// fault.
+pub fn expand(
+    alloc: Global,
+    along: Along,
+    a: &Array,
+    b: &Array,
+    origin: usize,
+) -> Result<Array, Stop>
+    ensures { Answers (λ r. r) (expanded along.entry a.now b.now origin) result }
+{
+    let axis = axis_in(along, b.rank(), origin)?;
+    within_a_vector(a)?;
+    expand_along(alloc, a, axis, lined_shape(b.shape()), b.ravel())
+}

@@ -1,0 +1,133 @@
+// Places in a ravel that slots lead to, and the elements there.
+ghost use Rattle.std.specs.Prelude.{◌≡◌, ℕ, ◌+◌, ◌*◌, ◌^◌, ◌<◌, ◌≤◌, [], ◌∷◌, ◌++◌, drop, length, map, slice_index_or, IfOk, OnOk};
+ghost use Rattle.std.specs.List.{All};
+ghost use Rattle.apl_arrays.specs.Index.{bound_of, size_of};
+ghost use Rattle.apl_select.specs.Indexing.{joined_shape};
+ghost use Rattle.apl_select.specs.Reached.{crossed, reached, AreOnAxes};
+
+use crate::slots::Picked;
+use apl_arrays::{MAX_ELEMENTS, MAX_RANK};
+use std::alloc::{AllocError, Global};
+
+/// Appends the places of an axis, counted from one on.
+fn cross_row(first: usize, places: &[usize], out: &mut Vec<usize>) -> Result<(), AllocError>
+    requires first { first ≤ MAX_ELEMENTS }
+    requires places { All (λ k. k < MAX_ELEMENTS) places.now }
+    ensures { OnOk result (out.new.items ≡ out.old.items ++ map (λ k. first + k) places.now) }
+{
+    for place in places {
+        out.push(first + *place)?;
+    }
+    Ok(())
+}
+
+/// From each start so many rows of an axis on, its places.
+fn cross(
+    alloc: Global,
+    starts: &[usize],
+    len: usize,
+    places: &[usize],
+) -> Result<Vec<usize>, AllocError>
+    requires near { All (λ s. s * len ≤ MAX_ELEMENTS) starts.now }
+    requires places { All (λ k. k < MAX_ELEMENTS) places.now }
+    requires room { length starts.now * length places.now ≤ MAX_ELEMENTS }
+    ensures { IfOk result (λ v. v.items ≡ crossed starts.now len places.now) }
+{
+    let mut out = Vec::with_capacity(alloc, starts.len() * places.len())?;
+    for start in starts {
+        cross_row(*start * len, places, &mut out)?;
+    }
+    Ok(out)
+}
+
+/// The places that are reached along the first so many axes.
+pub(crate) fn starts_of(
+    alloc: Global,
+    shape: &[usize],
+    picks: &[Picked],
+    axes: usize,
+) -> Result<Vec<usize>, AllocError>
+    requires on_axes { AreOnAxes shape.now picks.now }
+    requires small { bound_of shape.now ≤ MAX_ELEMENTS }
+    requires room { bound_of (joined_shape picks.now) ≤ MAX_ELEMENTS }
+    requires axes { axes ≤ length shape.now }
+    requires few { length shape.now ≤ MAX_RANK }
+    ensures way { IfOk result (λ v. reached v.items (drop axes shape.now) (drop axes picks.now) ≡ reached (0 ∷ []) shape.now picks.now) }
+    ensures near { IfOk result (λ v. All (λ s. (s + 1) * bound_of (drop axes shape.now) ≤ MAX_ELEMENTS) v.items) }
+{
+    let mut starts = Vec::with_capacity(alloc, 1)?;
+    starts.push(0)?;
+    for k in 0..axes {
+        let crossed = cross(alloc, starts.as_slice(), shape[k], picks[k].places())?;
+        starts = crossed;
+    }
+    Ok(starts)
+}
+
+/// Appends the elements at the places of an axis, counted from one on.
+fn gather_line<T: Copy>(
+    raw: &[T],
+    first: usize,
+    places: &[usize],
+    out: &mut Vec<T>,
+) -> Result<(), AllocError>
+    requires within { All (λ q. q < length raw.now) (map (λ k. first + k) places.now) }
+    requires small { length raw.now ≤ MAX_ELEMENTS }
+    ensures { OnOk result ((d : T) → out.new.items ≡ out.old.items ++ map (λ k. slice_index_or raw.now (first + k) d) places.now) }
+{
+    for place in places {
+        out.push(raw[first + *place])?;
+    }
+    Ok(())
+}
+
+/// Appends the elements at the places of the last axis, counted from each start so many rows of it on.
+fn gather<T: Copy>(
+    raw: &[T],
+    starts: &[usize],
+    len: usize,
+    places: &[usize],
+    out: &mut Vec<T>,
+) -> Result<(), AllocError>
+    requires near { All (λ s. s * len ≤ MAX_ELEMENTS) starts.now }
+    requires within { All (λ q. q < length raw.now) (crossed starts.now len places.now) }
+    requires small { length raw.now ≤ MAX_ELEMENTS }
+    ensures { OnOk result ((d : T) → out.new.items ≡ out.old.items ++ map (λ q. slice_index_or raw.now q d) (crossed starts.now len places.now)) }
+{
+    for start in starts {
+        gather_line(raw, *start * len, places, out)?;
+    }
+    Ok(())
+}
+
+/// The elements at all places that are reached, with room for so many. The last axis has a loop of its own.
+pub(crate) fn read<T: Copy>(
+    alloc: Global,
+    room: usize,
+    raw: &[T],
+    shape: &[usize],
+    picks: &[Picked],
+) -> Result<Vec<T>, AllocError>
+    requires full { length raw.now ≡ size_of shape.now }
+    requires on_axes { AreOnAxes shape.now picks.now }
+    requires small { bound_of shape.now ≤ MAX_ELEMENTS }
+    requires few { length shape.now ≤ MAX_RANK }
+    requires room { bound_of (joined_shape picks.now) ≤ MAX_ELEMENTS }
+    ensures { IfOk result (λ v. (d : T) → v.items ≡ map (λ q. slice_index_or raw.now q d) (reached (0 ∷ []) shape.now picks.now)) }
+{
+    let mut out = Vec::with_capacity(alloc, room)?;
+    if shape.is_empty() {
+        out.push(raw[0])?;
+        return Ok(out);
+    }
+    let last = shape.len() - 1;
+    let starts = starts_of(alloc, shape, picks, last)?;
+    gather(
+        raw,
+        starts.as_slice(),
+        shape[last],
+        picks[last].places(),
+        &mut out,
+    )?;
+    Ok(out)
+}

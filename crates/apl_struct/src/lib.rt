@@ -1,0 +1,12 @@
+//! The functions of structure and selection by their symbols.
+#![tactic(auto)]
+
+mod dyadic;
+mod monadic;
+
+pub use apl_select::index;
+pub use dyadic::structural2;
+pub use monadic::structural1;
+
+#[cfg(test)]
+mod tests;

@@ -1,0 +1,5 @@
+pub mod Parts
+pub mod Rounds
+pub mod Blocks
+pub mod Rotated
+pub mod Numbered

@@ -1,0 +1,55 @@
+// Results that are copied out of views.
+ghost use Rattle.std.specs.Prelude.{◌≡◌, ◌-◌, ◌≤◌, map, Ok};
+ghost use Rattle.std.specs.List.{range_with_len};
+ghost use Rattle.apl_arrays.specs.Answers.{Answers};
+ghost use Rattle.apl_turns.specs.Turns.{transposed, transposed_by, reversed_along};
+
+use crate::numbered_axes::named_axes;
+use apl_arrays::{Along, Array, MAX_RANK, Stop, View};
+use arrayvec::ArrayVec;
+use std::alloc::Global;
+
+/// What each of so many axes becomes, where they stand in the other order.
+fn other_order(rank: usize) -> ArrayVec<usize, MAX_RANK>
+    requires { rank ≤ MAX_RANK }
+    ensures { result.items ≡ map (λ m. rank - 1 - m) (range_with_len 0 rank) }
+{
+    let mut axes = ArrayVec::new();
+    for m in 0..rank {
+        axes.push(rank - 1 - m);
+    }
+    axes
+}
+
+/// The axes of an array in the other order.
+pub fn transpose(alloc: Global, b: &Array) -> Result<Array, Stop>
+    ensures { Answers (λ r. r) (Ok (transposed b.now)) result }
+{
+    let axes = other_order(b.rank());
+    Ok(View::whole(b).turned(axes.as_slice()).copied(alloc)?)
+}
+
+/// The axes of `b` as the numbers of `a` say: axis m becomes axis `a[m]`, counted from the index origin. Axes that become one show the
+/// elements whose indices on them are equal.
+///
+/// More than one axis of `a` is a rank fault, another count than that of the axes of `b` a length fault. A character is a domain fault, and
+/// so is a number below the origin, or a gap between the numbers.
+pub fn transpose_by(alloc: Global, a: &Array, b: &Array, origin: usize) -> Result<Array, Stop>
+    ensures { Answers (λ r. r) (transposed_by origin a.now b.now) result }
+{
+    let axes = named_axes(a, b.rank(), origin)?;
+    Ok(View::whole(b).turned(axes.as_slice()).copied(alloc)?)
+}
+
+/// An array with an axis taken the other way. A scalar stays.
+///
+/// The faults are those of [`Along::axis`].
+pub fn reverse(alloc: Global, along: Along<'_>, b: &Array, origin: usize) -> Result<Array, Stop>
+    ensures { Answers (λ r. r) (reversed_along along.entry origin b.now) result }
+{
+    let whole = View::whole(b);
+    match along.axis(b.rank(), origin)? {
+        Some(axis) => Ok(whole.reversed(axis).copied(alloc)?),
+        None => Ok(whole.copied(alloc)?),
+    }
+}
