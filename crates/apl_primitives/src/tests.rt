@@ -32,13 +32,28 @@ fn operators(rt: HostRuntime) -> Result<(), Fail> {
     let minus = Function::Primitive(Primitive::Minus);
     let times = Function::Primitive(Primitive::Times);
     let plus = Function::Primitive(Primitive::Plus);
-    let reduced = phrase_value(alloc, Row::Reduce(minus, Operator::Slash), Arguments::One(&pair), 1)?;
+    let reduced = phrase_value(
+        alloc,
+        Row::Reduce(minus, Operator::Slash),
+        Arguments::One(&pair),
+        1,
+    )?;
     assert_eq!(rt; reduced.at(&[]), Some(Cell::Num(3)));
-    let scanned = phrase_value(alloc, Row::Reduce(minus, Operator::Slope), Arguments::One(&pair), 1)?;
+    let scanned = phrase_value(
+        alloc,
+        Row::Reduce(minus, Operator::Slope),
+        Arguments::One(&pair),
+        1,
+    )?;
     assert_eq!(rt; scanned.at(&[0]), Some(Cell::Num(5)));
     let crossed = phrase_value(alloc, Row::Outer(times), Arguments::Two(&pair, &pair), 1)?;
     assert_eq!(rt; crossed.at(&[0, 1]), Some(Cell::Num(10)));
-    let inner = phrase_value(alloc, Row::Inner(plus, times), Arguments::Two(&pair, &pair), 1)?;
+    let inner = phrase_value(
+        alloc,
+        Row::Inner(plus, times),
+        Arguments::Two(&pair, &pair),
+        1,
+    )?;
     assert_eq!(rt; inner.at(&[]), Some(Cell::Num(29)));
     Ok(())
 }

@@ -71,7 +71,14 @@ fn by_one(alloc: Global, row: Row, b: &Array, origin: usize) -> Result<Array, St
         Row::Group => Ok(b.copy()?),
         Row::Monadic(Function::Primitive(function)) => of_one(alloc, function, b, origin),
         Row::Reduce(Function::Primitive(function), operator) => {
-            derived(alloc, operator, dyadic_of(function), own_axis(operator), b, origin)
+            derived(
+                alloc,
+                operator,
+                dyadic_of(function),
+                own_axis(operator),
+                b,
+                origin,
+            )
         }
         _ => Err(Stop::Fault(Fault::Syntax)),
     }
@@ -111,7 +118,14 @@ fn by_axis_and_one(
             structural1(alloc, function, Some(axis), b, origin)
         }
         Row::ReduceAxis(Function::Primitive(function), operator) => {
-            derived(alloc, operator, dyadic_of(function), Along::Named(axis), b, origin)
+            derived(
+                alloc,
+                operator,
+                dyadic_of(function),
+                Along::Named(axis),
+                b,
+                origin,
+            )
         }
         _ => Err(Stop::Fault(Fault::Syntax)),
     }
