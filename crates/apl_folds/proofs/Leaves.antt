@@ -1,5 +1,6 @@
 -- Walks over no axis.
-use Rattle.std.proofs.Common.{◌≡◌, ℕ, ℤ, ◌<◌, List, [], ◌∷◌, ◌++◌, length, Option, None, Some, Result, Ok, Err, ap, sym, ◌∙◌, arith, true}
+use Rattle.std.proofs.Common.{◌≡◌, ℕ, ℤ, ◌<◌, List, [], ◌∷◌, ◌++◌, length, Option, None, Some, Result, Ok, Err, refl, ap, map, sym, subst, ◌∙◌, ◌+◌, arith, true}
+use Rattle.std.specs.List.{flat_map, range_with_len}
 use Rattle.std.specs.Option.{IfSome}
 use Rattle.apl_faults.specs.declared.fault.Fault.{Fault}
 use Rattle.apl_arrays.specs.declared.axis.Axis.{Axis}
@@ -7,7 +8,7 @@ use Rattle.apl_arrays.specs.Index.{indices, is_within}
 use Rattle.apl_arrays.specs.Results.{and_then, ok_map, all_ok}
 use Rattle.apl_arrays.specs.Strides.{lengths}
 use Rattle.apl_arrays.proofs.InTurn.{all_ok-same}
-use Rattle.apl_arrays.proofs.Order.{all_within}
+use Rattle.apl_arrays.proofs.Order.{all_within, within_cons}
 use Rattle.apl_folds.specs.Lines.{start_at, count_at, made}
 
 pub asked : (has : ℕ → ℕ → Type 0) (p n : ℕ) (depth : Option ℕ) (xs : List Axis) → xs ≡ [] → IfSome depth (λ m. m < length xs) → has (start_at p depth [] []) (count_at n depth []) → has p n
@@ -39,3 +40,27 @@ pub made_same : (f g : ℕ → ℕ → Result ℤ Fault) (p n : ℕ) (depth : Op
 made_same f g p n depth xs h =
     all_ok-same (λ is. is_within (lengths xs) is ≡ true) (λ is. f (start_at p depth xs is) (count_at n depth is)) (λ is. g (start_at p depth xs is) (count_at n depth is))
     (λ is w. h (start_at p depth xs is) (count_at n depth is)) (indices (lengths xs)) (all_within (lengths xs))
+
+-- a walk over one axis that moves along the lines
+abbrev pub at_fronts : (ℕ → ℕ → Result ℤ Fault) → ℕ → Axis → Result (List ℤ) Fault
+at_fronts gives p axis = all_ok (λ k. gives p (k + 1)) (range_with_len 0 axis.length)
+
+one_along : (gives : ℕ → ℕ → Result ℤ Fault) (p n : ℕ) (axis : Axis) → at_fronts gives p axis ≡ made gives p n (Some 0) (axis ∷ [])
+one_along gives p n axis = sym (each (range_with_len 0 axis.length))
+  where
+    each : (ks : List ℕ) → all_ok (λ is. gives (start_at p (Some 0) (axis ∷ []) is) (count_at n (Some 0) is)) (flat_map (λ i. map (λ is. i ∷ is) (indices [])) ks) ≡ all_ok (λ k. gives p (k + 1)) ks
+    each [] = refl
+    each (k ∷ ks) = ap (λ (r : Result (List ℤ) Fault). and_then (gives p (k + 1)) (λ y. ok_map (λ ys. y ∷ ys) r)) (each ks)
+
+pub fronts_made : (gives : ℕ → ℕ → Result ℤ Fault) (p n : ℕ) (depth : Option ℕ) (xs : List Axis) (axis : Axis) (rest : List Axis) → xs ≡ axis ∷ rest → rest ≡ [] → depth ≡ Some 0 →
+    at_fronts gives p axis ≡ made gives p n depth xs
+fronts_made gives p n depth xs axis rest e f d =
+    one_along gives p n axis
+    ∙ sym (ap (λ (o : Option ℕ). made gives p n o xs) d ∙ ap (made gives p n (Some 0)) (e ∙ ap (λ (l : List Axis). axis ∷ l) f))
+
+pub fronts_asked : (has : ℕ → ℕ → Type 0) (p n : ℕ) (depth : Option ℕ) (xs : List Axis) (axis : Axis) (rest : List Axis) → xs ≡ axis ∷ rest → rest ≡ [] → depth ≡ Some 0 →
+    ((is : List ℕ) → is_within (lengths xs) is ≡ true → has (start_at p depth xs is) (count_at n depth is)) → (k : ℕ) → k < axis.length → has p (k + 1)
+fronts_asked has p n depth xs axis rest e f d h k l =
+    let P : List Axis → Type 0 = λ ys. (is : List ℕ) → is_within (lengths ys) is ≡ true → has (start_at p (Some 0) ys is) (count_at n (Some 0) is) in
+    let Q : Option ℕ → Type 0 = λ o. (is : List ℕ) → is_within (lengths xs) is ≡ true → has (start_at p o xs is) (count_at n o is) in
+    subst P (e ∙ ap (λ (l : List Axis). axis ∷ l) f) (subst Q d h) (k ∷ []) (within_cons axis.length k [] [] l refl)

@@ -6,3 +6,5 @@ pub mod Taken
 pub mod Shapes
 pub mod Along
 pub mod Comparisons
+pub mod Totals
+pub mod Associative

@@ -1,5 +1,5 @@
 -- The items of lines.
-use Rattle.std.proofs.Common.{suc, zero, ◌≡◌, ℕ, ◌+◌, ◌-◌, ◌*◌, ◌<◌, ◌≤◌, List, ◌∷◌, map, length, get_or, take, drop, refl, ap, ◌∙◌, arith}
+use Rattle.std.proofs.Common.{suc, zero, ◌≡◌, ℕ, ◌+◌, ◌-◌, ◌*◌, ◌<◌, ◌≤◌, List, [], ◌∷◌, map, length, get_or, take, drop, refl, ap, sym, ◌∙◌, ◌++◌, add-one, arith}
 use Rattle.std.specs.Prelude.{slice_range}
 use Rattle.std.specs.List.{range_with_len}
 use Rattle.std.proofs.lemmas.List.{length-map, length-take-le, length-drop, get_or-take, get_or-drop}
@@ -45,3 +45,22 @@ line_within axis p count n u d h = last axis.up axis.down (count - 1) (axis.leng
   where
     last : (u d k m p n count : ℕ) → u ≡ 1 → d ≡ 0 → count ≡ k + 1 → p + (u * k + d * m) < n → p + count ≤ n
     last u d k m p n count e f s h = let g : p + (1 * k + 0 * m) < n = rw (e, f) at h in omega arith
+
+range_more : {A : Type 0} (h : ℕ → A) (a n : ℕ) → map h (range_with_len a (suc n)) ≡ map h (range_with_len a n) ++ h (a + n) ∷ []
+range_more {A = A} h a zero = ap (λ (k : ℕ). h k ∷ []) (same a)
+  where
+    same : (a : ℕ) → a ≡ a + 0
+    same a = omega arith
+range_more {A = A} h a (suc n) = ap (λ (l : List A). h a ∷ l) (range_more h (a + 1) n ∙ ap (λ (k : ℕ). map h (range_with_len (a + 1) n) ++ h k ∷ []) (same a n))
+  where
+    same : (a n : ℕ) → a + 1 + n ≡ a + suc n
+    same a n = omega arith
+
+-- one item more
+pub line_more : {A : Type 0} (none : A) (raw : List A) (axis : Axis) (p k : ℕ) → line_of none raw axis p k ++ get_or raw (p + step_at axis k) none ∷ [] ≡ line_of none raw axis p (k + 1)
+line_more {A = A} none raw axis p k =
+    sym (ap (λ (m : ℕ). line_of none raw axis p m) (add-one k) ∙ range_more (λ k. get_or raw (p + step_at axis k) none) 0 k
+    ∙ ap (λ (m : ℕ). line_of none raw axis p k ++ get_or raw (p + step_at axis m) none ∷ []) (none_before k))
+  where
+    none_before : (k : ℕ) → 0 + k ≡ k
+    none_before k = omega arith

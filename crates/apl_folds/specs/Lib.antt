@@ -1,3 +1,5 @@
 pub mod Folds
 pub mod Scans
 pub mod Lines
+pub mod Sums
+pub mod Chains

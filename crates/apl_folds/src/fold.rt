@@ -1,15 +1,16 @@
 // Folds of rows of numbers.
-ghost use Rattle.std.specs.Prelude.{◌≡◌, ◌<◌, map, length};
+ghost use Rattle.std.specs.Prelude.{◌≡◌, ◌<◌, map, length, drop, Ok};
 ghost use Rattle.apl_arrays.specs.declared.cell.Cell.TheVariants.{Num};
 ghost use Rattle.apl_scalar.specs.Functions.{dyadic_of};
 ghost use Rattle.apl_folds.specs.Folds.{folded, identity};
 ghost use Rattle.apl_folds.specs.Lines.{fold_by};
 
+use crate::sums::sum_row;
 use crate::swapped::Swapped;
 use apl_faults::Fault;
 use apl_scalar::{
     And, Difference, Dyadic, Equal, Less, Logical, Maximum, Minimum, Nand, Nor, NotEqual,
-    NotGreater, Or, Power, Product, Quotient, Residue, Scalar, Sum,
+    NotGreater, Or, Power, Product, Quotient, Residue, Scalar,
 };
 
 /// The fold of no number, which [`Dyadic::Nand`] and [`Dyadic::Nor`] have not.
@@ -38,14 +39,14 @@ pub(crate) fn identity_of(function: Dyadic) -> Result<i64, Fault>
     }
 }
 
-/// The fold of one or more numbers from the right, each step tested.
-pub(crate) fn fold_right<F: Scalar>(numbers: &[i64]) -> Result<i64, Fault>
-    requires { 0 < length numbers.now }
+/// The fold of numbers from the right, each step tested, where that of those from a place on is known.
+pub(crate) fn fold_from<F: Scalar>(numbers: &[i64], from: usize, known: i64) -> Result<i64, Fault>
+    requires within { from < length numbers.now }
+    requires known { fold_by F.meaning (drop from numbers.now) ≡ Ok known }
     ensures { result ≡ fold_by F.meaning numbers.now }
 {
-    let last = numbers.len() - 1;
-    let mut all = numbers[last];
-    for k in (0..last).rev() {
+    let mut all = known;
+    for k in (0..from).rev() {
         match F::apply(numbers[k], all) {
             Ok(value) => all = value,
             Err(fault) => return Err(fault),
@@ -54,13 +55,22 @@ pub(crate) fn fold_right<F: Scalar>(numbers: &[i64]) -> Result<i64, Fault>
     Ok(all)
 }
 
+/// The fold of one or more numbers from the right, each step tested.
+pub(crate) fn fold_right<F: Scalar>(numbers: &[i64]) -> Result<i64, Fault>
+    requires { 0 < length numbers.now }
+    ensures { result ≡ fold_by F.meaning numbers.now }
+{
+    let last = numbers.len() - 1;
+    fold_from::<F>(numbers, last, numbers[last])
+}
+
 /// The fold of one or more numbers.
 fn fold_some(function: Dyadic, numbers: &[i64]) -> Result<i64, Fault>
     requires { 0 < length numbers.now }
     ensures { result ≡ fold_by (dyadic_of function) numbers.now }
 {
     match function {
-        Dyadic::Plus => fold_right::<Sum>(numbers),
+        Dyadic::Plus => sum_row(numbers),
         Dyadic::Minus => fold_right::<Difference>(numbers),
         Dyadic::Times => fold_right::<Product>(numbers),
         Dyadic::Divide => fold_right::<Quotient>(numbers),

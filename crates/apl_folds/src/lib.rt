@@ -1,12 +1,15 @@
 //! Folds of numbers, and reduction and scan along an axis.
 #![tactic(auto)]
 
+mod chains;
 mod characters;
 mod fold;
 mod line;
 mod lines;
 mod reduction;
+mod running;
 mod scanning;
+mod sums;
 mod swapped;
 mod walk;
 

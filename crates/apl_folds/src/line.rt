@@ -20,7 +20,7 @@ pub(crate) struct Fold<'a, F: Scalar> {
 
 /// The number at an index of an axis.
 #[inline(always)]
-fn nth(numbers: &[i64], axis: &Axis, at: usize, index: usize) -> i64
+pub(crate) fn nth(numbers: &[i64], axis: &Axis, at: usize, index: usize) -> i64
     requires within { index < axis.now.length }
     requires near { at + (axis.now.up + axis.now.down) * axis.now.length < 2 ^ 63 }
     requires placed { at + step_at axis.now index < length numbers.now }
@@ -30,7 +30,7 @@ fn nth(numbers: &[i64], axis: &Axis, at: usize, index: usize) -> i64
 }
 
 /// The fold of the first numbers along an axis from a place on, each step tested.
-fn fold_strided<F: Scalar>(
+pub(crate) fn fold_strided<F: Scalar>(
     numbers: &[i64],
     axis: &Axis,
     at: usize,
@@ -52,7 +52,7 @@ fn fold_strided<F: Scalar>(
 
 /// The numbers from a place on.
 #[inline(always)]
-fn row(numbers: &[i64], at: usize, count: usize) -> &[i64]
+pub(crate) fn row(numbers: &[i64], at: usize, count: usize) -> &[i64]
     requires { at + count ≤ length numbers.now }
     ensures { result.now ≡ slice_range numbers.now at (at + count) }
 {
@@ -60,7 +60,12 @@ fn row(numbers: &[i64], at: usize, count: usize) -> &[i64]
 }
 
 /// The fold of the first numbers along an axis from a place on. Where they lie side by side it is that of a row.
-fn fold_line<F: Scalar>(numbers: &[i64], axis: &Axis, at: usize, count: usize) -> Result<i64, Fault>
+pub(crate) fn fold_line<F: Scalar>(
+    numbers: &[i64],
+    axis: &Axis,
+    at: usize,
+    count: usize,
+) -> Result<i64, Fault>
     requires { IsLine (length numbers.now) axis.now at count }
     ensures { result ≡ fold_by F.meaning (line_of (pos 0) numbers.now axis.now at count) }
 {

@@ -3,13 +3,17 @@ ghost use Rattle.std.specs.Prelude.{◌≡◌, ◌^◌, ◌<◌, ◌≤◌, ℕ,
 ghost use Rattle.apl_arrays.specs.Answers.{Answers};
 ghost use Rattle.apl_arrays.specs.Index.{is_within};
 ghost use Rattle.apl_arrays.specs.Strides.{lengths, reach_of};
+ghost use Rattle.apl_scalar.specs.declared.function.Dyadic.TheVariants as two;
 ghost use Rattle.apl_scalar.specs.Functions.{dyadic_of};
+ghost use Rattle.apl_folds.specs.Chains.{IsAssociative};
 ghost use Rattle.apl_folds.specs.Folds.{identity};
 ghost use Rattle.apl_folds.specs.Lines.{start_at, count_at, made, line_folds, line_comparisons, AreLines};
 
+use crate::chains::Chain;
 use crate::characters::{Comparison, compare};
 use crate::fold::identity_of;
 use crate::line::Fold;
+use crate::running::Total;
 use crate::swapped::Swapped;
 use crate::walk::{Leaf, Start, walk};
 use apl_arrays::{Axis, Stop};
@@ -17,7 +21,7 @@ use apl_charset::Ch;
 use apl_faults::Fault;
 use apl_scalar::{
     And, Difference, Dyadic, Equal, Less, Logical, Maximum, Minimum, Nand, Nor, NotEqual,
-    NotGreater, Or, Power, Product, Quotient, Residue, Scalar, Sum,
+    NotGreater, Or, Power, Product, Quotient, Residue, Scalar,
 };
 use std::alloc::Global;
 use std::marker::PhantomData;
@@ -56,6 +60,36 @@ fn fold_each<F: Scalar>(alloc: Global, numbers: &[i64], lines: &Lines<'_>) -> Re
     walked(alloc, &leaf, lines)
 }
 
+/// The folds of the numbers of each line by an associative function, or the first fault.
+fn chain_each<F: Scalar>(
+    alloc: Global,
+    numbers: &[i64],
+    lines: &Lines<'_>,
+) -> Result<Vec<i64>, Stop>
+    requires lines { AreLines (length numbers.now) lines.now }
+    requires associative { IsAssociative F.meaning }
+    ensures { Answers (λ v. v.items) (line_folds F.meaning numbers.now lines.now) result }
+{
+    let leaf: Chain<'_, F> = Chain {
+        numbers,
+        axis: lines.inner,
+        by: PhantomData,
+    };
+    walked(alloc, &leaf, lines)
+}
+
+/// The sums of the numbers of each line, or the first fault.
+fn sum_each(alloc: Global, numbers: &[i64], lines: &Lines<'_>) -> Result<Vec<i64>, Stop>
+    requires { AreLines (length numbers.now) lines.now }
+    ensures { Answers (λ v. v.items) (line_folds (dyadic_of two.Plus) numbers.now lines.now) result }
+{
+    let leaf = Total {
+        numbers,
+        axis: lines.inner,
+    };
+    walked(alloc, &leaf, lines)
+}
+
 /// The folds of the numbers of each line, or the first fault.
 pub(crate) fn folds_of_numbers(
     alloc: Global,
@@ -67,13 +101,13 @@ pub(crate) fn folds_of_numbers(
     ensures { Answers (λ v. v.items) (line_folds (dyadic_of function) numbers.now lines.now) result }
 {
     match function {
-        Dyadic::Plus => fold_each::<Sum>(alloc, numbers, lines),
+        Dyadic::Plus => sum_each(alloc, numbers, lines),
         Dyadic::Minus => fold_each::<Difference>(alloc, numbers, lines),
         Dyadic::Times => fold_each::<Product>(alloc, numbers, lines),
         Dyadic::Divide => fold_each::<Quotient>(alloc, numbers, lines),
         Dyadic::Power => fold_each::<Power>(alloc, numbers, lines),
-        Dyadic::Maximum => fold_each::<Maximum>(alloc, numbers, lines),
-        Dyadic::Minimum => fold_each::<Minimum>(alloc, numbers, lines),
+        Dyadic::Maximum => chain_each::<Maximum>(alloc, numbers, lines),
+        Dyadic::Minimum => chain_each::<Minimum>(alloc, numbers, lines),
         Dyadic::Residue => fold_each::<Residue>(alloc, numbers, lines),
         Dyadic::Less => fold_each::<Less>(alloc, numbers, lines),
         Dyadic::NotGreater => fold_each::<NotGreater>(alloc, numbers, lines),
@@ -81,8 +115,8 @@ pub(crate) fn folds_of_numbers(
         Dyadic::NotLess => fold_each::<Swapped<NotGreater>>(alloc, numbers, lines),
         Dyadic::Greater => fold_each::<Swapped<Less>>(alloc, numbers, lines),
         Dyadic::NotEqual => fold_each::<NotEqual>(alloc, numbers, lines),
-        Dyadic::And => fold_each::<Logical<And>>(alloc, numbers, lines),
-        Dyadic::Or => fold_each::<Logical<Or>>(alloc, numbers, lines),
+        Dyadic::And => chain_each::<Logical<And>>(alloc, numbers, lines),
+        Dyadic::Or => chain_each::<Logical<Or>>(alloc, numbers, lines),
         Dyadic::Nand => fold_each::<Logical<Nand>>(alloc, numbers, lines),
         Dyadic::Nor => fold_each::<Logical<Nor>>(alloc, numbers, lines),
     }

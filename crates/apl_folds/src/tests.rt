@@ -66,6 +66,32 @@ fn rows_of_numbers(rt: HostRuntime) {
         fold_numbers(Dyadic::Plus, &[-1, MOST, 1]),
         Err(Fault::Limit)
     );
+    assert_eq!(rt; fold_numbers(Dyadic::Plus, &[1, MOST]), Err(Fault::Limit));
+    assert_eq!(rt; fold_numbers(Dyadic::Plus, &[-1, MOST]), Ok(MOST - 1));
+}
+
+/// More numbers than a block has: by Gauss, and with a wide one among them.
+#[test]
+fn long_sums(rt: HostRuntime) -> Result<(), Fail> {
+    let mut numbers = Vec::new(rt.alloc());
+    for number in 0..40_000u32 {
+        numbers.push(i64::from(number))?;
+    }
+    assert_eq!(rt;
+        fold_numbers(Dyadic::Plus, numbers.as_slice()),
+        Ok(799_980_000)
+    );
+    numbers.push(MOST)?;
+    assert_eq!(rt;
+        fold_numbers(Dyadic::Plus, numbers.as_slice()),
+        Err(Fault::Limit)
+    );
+    numbers.push(-800_000_000)?;
+    assert_eq!(rt;
+        fold_numbers(Dyadic::Plus, numbers.as_slice()),
+        Ok(MOST - 20_000)
+    );
+    Ok(())
 }
 
 #[test]
@@ -179,5 +205,49 @@ fn scans_at_the_limit(rt: HostRuntime) -> Result<(), Fail> {
     let wide = array(alloc, &[3], &[MOST, -1, -1])?;
     let fronts = scan(alloc, Dyadic::Plus, Along::Last, &wide, 1);
     assert!(rt; is_array(&fronts, &[3], &[MOST, MOST - 1, MOST - 2]));
+    Ok(())
+}
+
+/// The greatest and the least number so far, and whether all so far are true, or one is.
+#[test]
+fn scans_by_associative_functions(rt: HostRuntime) -> Result<(), Fail> {
+    let alloc = rt.alloc();
+    let row = array(alloc, &[5], &[3, 1, 4, 1, 5])?;
+    let most = scan(alloc, Dyadic::Maximum, Along::Last, &row, 1);
+    assert!(rt; is_array(&most, &[5], &[3, 3, 4, 4, 5]));
+    let least = scan(alloc, Dyadic::Minimum, Along::Last, &row, 1);
+    assert!(rt; is_array(&least, &[5], &[3, 1, 1, 1, 1]));
+    let truths = array(alloc, &[2, 3], &[1, 0, 1, 0, 1, 0])?;
+    let all = scan(alloc, Dyadic::And, Along::Last, &truths, 1);
+    assert!(rt; is_array(&all, &[2, 3], &[1, 0, 0, 0, 0, 0]));
+    let some = scan(alloc, Dyadic::Or, Along::Last, &truths, 1);
+    assert!(rt; is_array(&some, &[2, 3], &[1, 1, 1, 0, 1, 1]));
+    let down = scan(alloc, Dyadic::Or, Along::First, &truths, 1);
+    assert!(rt; is_array(&down, &[2, 3], &[1, 0, 1, 1, 1, 1]));
+    let wide = array(alloc, &[2], &[5, 1])?;
+    let fault = scan(alloc, Dyadic::And, Along::Last, &wide, 1);
+    assert!(rt; is_fault(&fault, Fault::Domain));
+    Ok(())
+}
+
+/// While magnitudes are small each sum comes from the one before it, and then each front is summed anew.
+#[test]
+fn running_sums(rt: HostRuntime) -> Result<(), Fail> {
+    let alloc = rt.alloc();
+    let row = array(alloc, &[6], &[3, -1, 4, -1, 5, -9])?;
+    let sums = scan(alloc, Dyadic::Plus, Along::Last, &row, 1);
+    assert!(rt; is_array(&sums, &[6], &[3, 2, 6, 5, 10, 1]));
+    let wide = array(alloc, &[4], &[2, MOST, -2, 1])?;
+    let limit = scan(alloc, Dyadic::Plus, Along::Last, &wide, 1);
+    assert!(rt; is_fault(&limit, Fault::Limit));
+    let turned = array(alloc, &[2, 4], &[-2, MOST, -1, -1, 1, 1, 1, 1])?;
+    let rows = scan(alloc, Dyadic::Plus, Along::Last, &turned, 1);
+    assert!(rt;
+        is_array(
+            &rows,
+            &[2, 4],
+            &[-2, MOST - 2, MOST - 3, MOST - 4, 1, 2, 3, 4]
+        )
+    );
     Ok(())
 }

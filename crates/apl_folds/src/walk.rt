@@ -1,8 +1,10 @@
 // Walks over the index lists of axes, each of which leads to the beginning of a line.
-ghost use Rattle.std.specs.Prelude.{◌≡◌, ◌^◌, ◌∷◌, ℕ, ℤ, List, Result, ◌<◌, ◌≤◌, ◌+◌, ◌*◌, length, true, IfSome};
+ghost use Rattle.std.specs.Prelude.{◌≡◌, ◌^◌, ◌∷◌, ℕ, ℤ, List, Result, ◌<◌, ◌≤◌, ◌+◌, ◌*◌, length, true, IfSome, IsTrue, Some, []};
+ghost use Rattle.std.specs.List.{range_with_len};
 ghost use Rattle.apl_faults.specs.declared.fault.Fault.{Fault};
 ghost use Rattle.apl_arrays.specs.Answers.{Appends};
 ghost use Rattle.apl_arrays.specs.Index.{is_within};
+ghost use Rattle.apl_arrays.specs.Results.{all_ok};
 ghost use Rattle.apl_arrays.specs.Strides.{lengths, reach_of};
 ghost use Rattle.apl_arrays.specs.declared.axis.Axis.{Axis};
 ghost use Rattle.apl_folds.specs.Lines.{start_at, count_at, made};
@@ -21,6 +23,20 @@ pub(crate) trait Leaf {
     fn value(&self, at: usize, count: usize) -> Result<i64, Fault>
         requires { has self.now at count }
         ensures { result ≡ gives self.now at count };
+
+    /// Appends what it makes of the first item of a line, of the first two and so on, up to all.
+    fn push_fronts(&self, at: usize, length: usize, out: &mut Vec<i64>) -> Result<(), Stop>
+        requires { (k : ℕ) → k < length → has self.now at (k + 1) }
+        ensures { Appends out.old.items out.new.items (all_ok (λ k. gives self.now at (k + 1)) (range_with_len 0 length)) result }
+    {
+        for k in 0..length {
+            match self.value(at, k + 1) {
+                Ok(value) => out.push(value)?,
+                Err(fault) => return Err(Stop::Fault(fault)),
+            }
+        }
+        Ok(())
+    }
 }
 
 /// Where a walk is: the place at which the line begins so far, how many of its items are asked for, and how many axes before the one whose
@@ -60,6 +76,16 @@ fn stepped(start: Start, axis: &Axis, index: usize) -> Start
     }
 }
 
+/// Whether the next axis is the last one, and moves along the lines.
+fn is_along(start: Start, rest: &[Axis]) -> bool
+    ensures { IsTrue result → (rest.now ≡ []) × (start.depth ≡ Some 0) }
+{
+    match start.depth {
+        Some(0) => rest.is_empty(),
+        _ => false,
+    }
+}
+
 /// Appends what a leaf makes of each line, in the order of the index lists.
 pub(crate) fn walk<L: Leaf>(
     leaf: &L,
@@ -81,6 +107,10 @@ pub(crate) fn walk<L: Leaf>(
             Err(fault) => Err(Stop::Fault(fault)),
         },
         [axis, rest @ ..] => {
+            if is_along(start, rest) {
+                leaf.push_fronts(start.at, axis.length, out)?;
+                return Ok(());
+            }
             for index in 0..axis.length {
                 match walk(leaf, stepped(start, axis, index), rest, out) {
                     Ok(()) => {}

@@ -11,9 +11,9 @@ ghost use Rattle.apl_machine.specs.Flat.{flat_rest};
 
 use crate::frame::FrameBuf;
 use apl_charset::{Ch, Text};
-use apl_symbols::Symbol;
+use apl_symbols::{Class, Symbol};
 use apl_tokens::{Kind, Token};
-use apl_translate::{Class, bind, translate};
+use apl_translate::{bind, translate};
 use std::alloc::{AllocError, Global};
 
 /// A typed statement that is being done.

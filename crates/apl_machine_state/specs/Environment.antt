@@ -2,8 +2,8 @@
 use Rattle.std.specs.Prelude.{ℕ, zero, suc, List, [], ◌∷◌, Bool, true, false, Option, Some, None, if◌then◌else◌}
 use Rattle.std.specs.Str.{bytes_eq}
 use Rattle.apl_arrays.specs.Cells.{Arr}
-use Rattle.apl_translate.specs.declared.form.Class.{Class}
-use Rattle.apl_translate.specs.declared.form.Class.TheVariants as classes
+use Rattle.apl_symbols.specs.declared.class.Class.{Class}
+use Rattle.apl_symbols.specs.declared.class.Class.TheVariants as classes
 use Rattle.apl_defn.specs.Definitions.{Text, Definition}
 use Rattle.apl_machine_state.specs.Definitions.{Vectors, function_named}
 use Rattle.apl_machine_state.specs.Items.{Rest}

@@ -4,3 +4,7 @@ pub mod Limits
 pub mod TakenRows
 pub mod Axes
 pub mod Cuts
+pub mod Joins
+pub mod JoinedRows
+pub mod InBlocks
+pub mod Joined

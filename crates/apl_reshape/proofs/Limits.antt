@@ -1,6 +1,6 @@
 -- Lengths within the limits of an array.
-use Rattle.std.proofs.Common.{suc, zero, ◌≡◌, ℕ, ◌*◌, ◌<◌, ◌≤◌, max, List, [], ◌∷◌, length, get_or, replicate, refl, ap, sym, ◌∙◌, arith}
-use Rattle.std.proofs.Math.Nat.{mul-le-mul_right}
+use Rattle.std.proofs.Common.{suc, zero, ◌≡◌, ℕ, ◌*◌, ◌<◌, ◌≤◌, max, List, [], ◌∷◌, length, take, get_or, replicate, refl, ap, sym, ◌∙◌, arith}
+use Rattle.std.proofs.Math.Nat.{mul-le-mul_left, mul-le-mul_right}
 use Rattle.apl_arrays.specs.Index.{size_of, bound_of}
 use Rattle.apl_arrays.specs.Cells.{Arr, Items, cells_of}
 use Rattle.apl_reshape.specs.Take.{with_axes}
@@ -14,6 +14,15 @@ length_low (n ∷ s) (suc k) h = omega (arith, length_low s k (omega arith), oth
   where
     other : (a b : ℕ) → 1 ≤ a → b ≤ a * b
     other a b h = let g : 1 * b ≤ a * b = mul-le-mul_right b h in omega arith
+
+-- the first axes are within the bound too
+pub bound-take : (s : List ℕ) (k m : ℕ) → bound_of s ≤ m → bound_of (take k s) ≤ m
+bound-take s k m h = omega (arith, less s k)
+  where
+    less : (s : List ℕ) (k : ℕ) → bound_of (take k s) ≤ bound_of s
+    less s zero = bound_of-pos s
+    less [] (suc k) = omega arith
+    less (n ∷ ns) (suc k) = mul-le-mul_left (max n 1) (less ns k)
 
 -- axes of length 1
 pub size-ones : (n : ℕ) → size_of (replicate n 1) ≡ 1

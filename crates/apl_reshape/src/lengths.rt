@@ -18,7 +18,7 @@ pub(crate) fn ones(count: usize) -> ArrayVec<usize, MAX_RANK>
 }
 
 /// The lengths again.
-fn same_lengths(shape: &[usize]) -> ArrayVec<usize, MAX_RANK>
+pub(crate) fn same_lengths(shape: &[usize]) -> ArrayVec<usize, MAX_RANK>
     requires { length shape.now ≤ MAX_RANK }
     ensures { result.items ≡ shape.now }
 {

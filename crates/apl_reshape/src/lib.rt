@@ -1,16 +1,21 @@
-//! Shape, ravel and reshape, and the first or last elements along each axis and the others.
+//! Arrays in another shape: shape, ravel and reshape, the first or last elements along each axis and the others, and arrays joined.
 #![tactic(auto)]
 
+mod beside;
+mod blocks;
 mod dropping;
 mod formed;
+mod joining;
 mod lengths;
 mod named;
+mod pairs;
 mod parts;
 mod rounds;
 mod shapes;
 mod taking;
 
 pub use dropping::drop_items;
+pub use joining::catenate;
 pub use shapes::{ravel, reshape, shape};
 pub use taking::take_items;
 

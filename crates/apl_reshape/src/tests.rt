@@ -1,6 +1,6 @@
 // Values from outside: rows of the language's tables.
 use super::*;
-use apl_arrays::{Array, Cell, Ravel, Stop};
+use apl_arrays::{Along, Array, Cell, Ravel, Stop};
 use apl_charset::Ch;
 use apl_faults::Fault;
 use std::alloc::Global;
@@ -93,6 +93,17 @@ fn taken(alloc: Global, counts: &[i64], b: &Array) -> Result<Array, Stop> {
 fn dropped(alloc: Global, counts: &[i64], b: &Array) -> Result<Array, Stop> {
     let counts = numbers(alloc, counts)?;
     drop_items(alloc, &counts, b)
+}
+
+/// Two arrays joined along the last axis.
+fn joined(alloc: Global, a: &Array, b: &Array) -> Result<Array, Stop> {
+    catenate(alloc, Along::Last, a, b, 1)
+}
+
+/// Two arrays joined along an axis, counted from 1.
+fn joined_along(alloc: Global, axis: i64, a: &Array, b: &Array) -> Result<Array, Stop> {
+    let slots = [Some(scalar(alloc, axis)?)];
+    catenate(alloc, Along::Named(&slots), a, b, 1)
 }
 
 #[test]
@@ -224,5 +235,104 @@ fn elements_dropped_of_a_scalar(rt: HostRuntime) -> Result<(), Fail> {
     assert!(rt; shows(&same, &[1, 1], &[5]));
     assert!(rt; fails(&dropped(alloc, &[0; 9], &five), Fault::Limit));
     assert!(rt; fails(&dropped(alloc, &[1], &matrix(alloc)?), Fault::Length));
+    Ok(())
+}
+
+#[test]
+fn vectors_joined(rt: HostRuntime) -> Result<(), Fail> {
+    let alloc = rt.alloc();
+    let ones = numbers(alloc, &[1, 1, 1])?;
+    let five = joined(alloc, &ones, &numbers(alloc, &[-3, 7])?)?;
+    assert!(rt; shows(&five, &[5], &[1, 1, 1, -3, 7]));
+    Ok(())
+}
+
+#[test]
+fn scalars_joined(rt: HostRuntime) -> Result<(), Fail> {
+    let alloc = rt.alloc();
+    let three = scalar(alloc, 3)?;
+    let vector = joined(alloc, &numbers(alloc, &[1, 2])?, &three)?;
+    assert!(rt; shows(&vector, &[3], &[1, 2, 3]));
+    let two = joined(alloc, &scalar(alloc, 1)?, &three)?;
+    assert!(rt; shows(&two, &[2], &[1, 3]));
+    Ok(())
+}
+
+#[test]
+fn matrices_joined(rt: HostRuntime) -> Result<(), Fail> {
+    let alloc = rt.alloc();
+    let square = reshaped(alloc, &[2, 2], &[1, 2, 3, 4])?;
+    let beside = joined(alloc, &square, &matrix(alloc)?)?;
+    assert!(rt; shows(&beside, &[2, 5], &[1, 2, 1, 2, 3, 3, 4, 4, 5, 6]));
+    Ok(())
+}
+
+#[test]
+fn vectors_joined_to_matrices(rt: HostRuntime) -> Result<(), Fail> {
+    let alloc = rt.alloc();
+    let square = reshaped(alloc, &[2, 2], &[1, 2, 3, 4])?;
+    let vector = numbers(alloc, &[5, 6])?;
+    let wider = joined(alloc, &square, &vector)?;
+    assert!(rt; shows(&wider, &[2, 3], &[1, 2, 5, 3, 4, 6]));
+    let higher = joined_along(alloc, 1, &vector, &square)?;
+    assert!(rt; shows(&higher, &[3, 2], &[5, 6, 1, 2, 3, 4]));
+    Ok(())
+}
+
+#[test]
+fn scalars_joined_to_matrices(rt: HostRuntime) -> Result<(), Fail> {
+    let alloc = rt.alloc();
+    let square = reshaped(alloc, &[2, 2], &[1, 2, 3, 4])?;
+    let nine = scalar(alloc, 9)?;
+    let wider = joined(alloc, &nine, &square)?;
+    assert!(rt; shows(&wider, &[2, 3], &[9, 1, 2, 9, 3, 4]));
+    let higher = joined_along(alloc, 1, &square, &nine)?;
+    assert!(rt; shows(&higher, &[3, 2], &[1, 2, 3, 4, 9, 9]));
+    Ok(())
+}
+
+#[test]
+fn empty_operands_joined(rt: HostRuntime) -> Result<(), Fail> {
+    let alloc = rt.alloc();
+    let no_number = numbers(alloc, &[])?;
+    let letter = joined(alloc, &no_number, &letters(alloc, 1)?)?;
+    assert!(rt; spells(&letter, &[1], b"a"));
+    let no_letter = letters(alloc, 0)?;
+    let text = joined(alloc, &no_number, &no_letter)?;
+    assert!(rt; spells(&text, &[0], b""));
+    let none = joined(alloc, &no_letter, &no_number)?;
+    assert!(rt; shows(&none, &[0], &[]));
+    Ok(())
+}
+
+#[test]
+fn ranks_that_do_not_join(rt: HostRuntime) -> Result<(), Fail> {
+    let alloc = rt.alloc();
+    let cube = reshaped(alloc, &[2, 2, 2], &[0])?;
+    assert!(rt; fails(&joined(alloc, &cube, &letters(alloc, 3)?), Fault::Rank));
+    let one = scalar(alloc, 1)?;
+    assert!(rt; fails(&joined_along(alloc, 1, &one, &one), Fault::Axis));
+    Ok(())
+}
+
+#[test]
+fn lengths_that_do_not_join(rt: HostRuntime) -> Result<(), Fail> {
+    let alloc = rt.alloc();
+    let square = reshaped(alloc, &[2, 2], &[0])?;
+    let one = numbers(alloc, &[1])?;
+    assert!(rt; fails(&joined(alloc, &one, &square), Fault::Length));
+    let three = letters(alloc, 3)?;
+    assert!(rt; fails(&joined(alloc, &three, &square), Fault::Length));
+    assert!(rt; fails(&joined(alloc, &three, &one), Fault::Domain));
+    Ok(())
+}
+
+#[test]
+fn too_many_joined(rt: HostRuntime) -> Result<(), Fail> {
+    let alloc = rt.alloc();
+    let million = reshaped(alloc, &[1_000_000], &[0])?;
+    let letter = letters(alloc, 1)?;
+    assert!(rt; fails(&joined(alloc, &million, &letter), Fault::Domain));
+    assert!(rt; fails(&joined(alloc, &million, &scalar(alloc, 1)?), Fault::Limit));
     Ok(())
 }

@@ -8,3 +8,7 @@ pub mod Shapes
 pub mod Grades
 pub mod Lookups
 pub mod Searches
+pub mod Rounded
+pub mod LastFirst
+pub mod Lessened
+pub mod Encodings

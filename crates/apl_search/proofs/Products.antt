@@ -6,7 +6,7 @@ use Rattle.std.proofs.lemmas.Int.{ints}
 use mir.Syntax.{w128}
 use mir.Val.{SFits}
 
-least : (m n : ℕ) → m ≤ 2 ^ 63 → n ≤ 2 ^ 63 → m * n ≤ 2 ^ 126
+pub least : (m n : ℕ) → m ≤ 2 ^ 63 → n ≤ 2 ^ 63 → m * n ≤ 2 ^ 126
 least m n h k =
     let first : m * n ≤ m * (2 ^ 63) = mul-le-mul_left m k in
     omega arith

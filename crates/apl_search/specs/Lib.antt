@@ -4,3 +4,4 @@ pub mod Found
 pub mod Decoded
 pub mod Flat
 pub mod Mirrored
+pub mod Encoded

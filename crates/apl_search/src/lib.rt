@@ -3,6 +3,8 @@
 
 mod counting;
 mod decoding;
+mod dividing;
+mod encoding;
 mod grading;
 mod listing;
 mod lookup;
@@ -12,6 +14,7 @@ mod result;
 
 pub use counting::iota;
 pub use decoding::decode;
+pub use encoding::encode;
 pub use grading::{grade_down, grade_up};
 pub use membership::member;
 pub use places::index_of;

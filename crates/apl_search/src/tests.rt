@@ -1,4 +1,4 @@
-// Values from outside: worked rows of counting, grading, looking up and decoding.
+// Values from outside: worked rows of counting, grading, looking up, decoding and encoding.
 ghost use Rattle.std.specs.Prelude.{◌≡◌, ◌≤◌, length};
 ghost use Rattle.apl_arrays.specs.Index.{size_of};
 
@@ -192,5 +192,58 @@ fn values_of_digits(rt: HostRuntime) -> Result<(), Fail> {
         &simple(alloc, &[4_611_686_018_427_387_904, -1])?,
     );
     assert!(rt; is_array(&least, &[], &[i64::MAX]));
+    Ok(())
+}
+
+#[test]
+fn digits_of_one_number(rt: HostRuntime) -> Result<(), Fail> {
+    let alloc = rt.alloc();
+    let hours = simple(alloc, &[24, 60, 60])?;
+    let seconds = encode(alloc, &hours, &simple(alloc, &[3661])?);
+    assert!(rt; is_array(&seconds, &[3], &[1, 1, 1]));
+    let more = encode(alloc, &hours, &simple(alloc, &[3725])?);
+    assert!(rt; is_array(&more, &[3], &[1, 2, 5]));
+    let ten = simple(alloc, &[10])?;
+    let scalar = encode(alloc, &ten, &simple(alloc, &[5])?);
+    assert!(rt; is_array(&scalar, &[], &[5]));
+    let negative = simple(alloc, &[-3])?;
+    assert!(rt; is_array(&encode(alloc, &ten, &negative), &[], &[7]));
+    let rest = simple(alloc, &[0, 10])?;
+    assert!(rt; is_array(&encode(alloc, &rest, &negative), &[2], &[-1, 7]));
+    let downward = encode(alloc, &simple(alloc, &[0, -5])?, &simple(alloc, &[3])?);
+    assert!(rt; is_array(&downward, &[2], &[-1, -2]));
+    Ok(())
+}
+
+#[test]
+fn digits_of_arrays(rt: HostRuntime) -> Result<(), Fail> {
+    let alloc = rt.alloc();
+    let tens = simple(alloc, &[10, 10])?;
+    let matrix = array(alloc, &[2, 2], &[12, 34, 56, 78])?;
+    let digits = encode(alloc, &tens, &matrix);
+    assert!(rt; is_array(&digits, &[2, 2, 2], &[1, 3, 5, 7, 2, 4, 6, 8]));
+    let none = simple(alloc, &[])?;
+    assert!(rt; is_array(&encode(alloc, &none, &tens), &[0, 2], &[]));
+    assert!(rt; is_fault(&encode(alloc, &matrix, &tens), Fault::Rank));
+    let letter = Array::scalar(alloc, Cell::Char(Ch::ascii(b'A')))?;
+    assert!(rt; is_fault(&encode(alloc, &letter, &tens), Fault::Domain));
+    assert!(rt; is_fault(&encode(alloc, &tens, &letter), Fault::Domain));
+    Ok(())
+}
+
+#[test]
+fn digits_over_the_limits(rt: HostRuntime) -> Result<(), Fail> {
+    let alloc = rt.alloc();
+    let bases = iota(alloc, &simple(alloc, &[1001])?, 1)?;
+    let numbers = iota(alloc, &simple(alloc, &[1000])?, 1)?;
+    assert!(rt; is_fault(&encode(alloc, &bases, &numbers), Fault::Limit));
+    // The rest of the least number leaves 64 bits, and may come back.
+    let least = simple(alloc, &[i64::MIN])?;
+    let rest = simple(alloc, &[0, -1])?;
+    assert!(rt; is_fault(&encode(alloc, &rest, &least), Fault::Limit));
+    let twice = simple(alloc, &[0, -1, -1])?;
+    assert!(rt; is_array(&encode(alloc, &twice, &least), &[3], &[i64::MIN, 0, 0]));
+    let digit = simple(alloc, &[5, -1])?;
+    assert!(rt; is_array(&encode(alloc, &digit, &least), &[2], &[3, 0]));
     Ok(())
 }

@@ -1,17 +1,16 @@
 -- The places that zeros and ones choose.
-use Rattle.std.proofs.Common.{zero, suc, ◌≡◌, ℕ, ℤ, pos, ◌+◌, ◌<◌, ◌≤◌, ◌||◌, ◌==◌, Bool, true, false, cond, List, [], ◌∷◌, ◌++◌, map, take, length, get_or, refl, ap, sym, ◌∙◌, arith, add-one, append-nil, Option, None, Some, Result, Ok, Err}
+use Rattle.std.proofs.Common.{zero, suc, ◌≡◌, ℕ, ℤ, pos, ◌+◌, ◌<◌, ◌||◌, ◌==◌, Bool, true, false, cond, List, [], ◌∷◌, ◌++◌, map, take, length, get_or, refl, ap, sym, ◌∙◌, arith, add-one, append-nil, Option, None, Some, Ok, Err}
 use Rattle.std.specs.Prelude.{count_by}
 use Rattle.std.specs.List.{filter, list_all, range_with_len, AllByRecursion, All}
 use Rattle.std.proofs.lemmas.Bool.{eqb-true}
 use Rattle.std.proofs.lemmas.List.{map-append}
 use Rattle.std.proofs.lemmas.List.Elements.{filter-append}
-use Rattle.std.proofs.lemmas.List.Sums.{length-filter, count_by_more_yes, count_by_more_no}
+use Rattle.std.proofs.lemmas.List.Sums.{length-filter}
 use Rattle.std.proofs.lemmas.List.FromFn.{map-range_with_len_more}
-use Rattle.apl_faults.specs.declared.fault.Fault.{Fault}
 use Rattle.apl_faults.specs.declared.fault.Fault.TheVariants.{Domain, Length}
 use Rattle.apl_arrays.specs.Cells.{Items, Numbers, Characters}
 use Rattle.apl_arrays.specs.Checks.{demand}
-use Rattle.apl_arrays.specs.Results.{and_then, ok_map}
+use Rattle.apl_arrays.specs.Results.{ok_map}
 use Rattle.apl_arrays.proofs.InTurn.{range_below}
 use Rattle.apl_select.specs.Compress.{is_one, is_bit, bits_of, ones, common_count, kept, spread}
 use Rattle.apl_select.specs.Laying.{IsBelow}

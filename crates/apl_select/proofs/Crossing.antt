@@ -1,11 +1,11 @@
 -- Places along one axis after another, as loops have them.
-use Rattle.std.proofs.Common.{zero, suc, ◌≡◌, ℕ, ◌+◌, ◌-◌, ◌*◌, ◌<◌, ◌≤◌, List, [], ◌∷◌, ◌++◌, map, take, drop, length, get_or, refl, ap, sym, ◌∙◌, arith, append-nil, append_assoc, length-append, subst}
-use Rattle.std.specs.List.{flat_map, All}
+use Rattle.std.proofs.Common.{zero, suc, ◌≡◌, ℕ, ◌+◌, ◌*◌, ◌<◌, ◌≤◌, List, [], ◌∷◌, ◌++◌, map, take, drop, length, get_or, refl, ap, sym, ◌∙◌, arith, append-nil, append_assoc, length-append, subst}
+use Rattle.std.specs.List.{All}
 use Rattle.std.proofs.lemmas.Grind.{flat_map-append}
 use Rattle.std.proofs.lemmas.List.{length-map, map-append, take_more, drop_all}
 use Rattle.std.proofs.lemmas.List.Elements.{recursion_from_All}
 use Rattle.std.proofs.Math.Nat.{mul-le-mul_left, mul-le-mul_right}
-use Rattle.apl_arrays.specs.Index.{size_of, bound_of}
+use Rattle.apl_arrays.specs.Index.{bound_of}
 use Rattle.apl_arrays.proofs.Places.{rest_of, room_step, room_so_far, size_le_bound, bound_of-pos, mul_low}
 use Rattle.apl_arrays.proofs.Order.{map_map}
 use Rattle.apl_select.specs.Indexing.{Places, joined_shape}

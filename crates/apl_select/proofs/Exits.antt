@@ -3,7 +3,7 @@ use Rattle.std.proofs.Common.{◌≡◌, Result, Ok, Err, ap}
 use Rattle.apl_faults.specs.declared.fault.Fault.{Fault}
 use Rattle.apl_arrays.specs.declared.stop.Stop.{Stop}
 use Rattle.apl_arrays.specs.Answers.{Answers}
-use Rattle.apl_arrays.specs.Results.{and_then, ok_map}
+use Rattle.apl_arrays.specs.Results.{and_then}
 use Rattle.apl_arrays.proofs.Exits.{answers_along}
 
 -- a check that lets something through

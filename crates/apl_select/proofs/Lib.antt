@@ -7,3 +7,6 @@ pub mod Indexes
 pub mod Crossing
 pub mod Picking
 pub mod Choosing
+pub mod Writing
+pub mod Fits
+pub mod Assigned

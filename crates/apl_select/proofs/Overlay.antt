@@ -1,8 +1,8 @@
 -- The last write to each place stands.
-use Rattle.std.proofs.Common.{zero, suc, ◌≡◌, ◌≢◌, ℕ, ◌+◌, ◌*◌, ◌<◌, ◌≤◌, ◌&&◌, ◌==◌, Bool, true, false, nat_lt, cond, List, [], ◌∷◌, ◌++◌, map, length, get_or, refl, ap, sym, ◌∙◌, arith, Option, None, Some}
+use Rattle.std.proofs.Common.{◌≡◌, ℕ, ◌&&◌, Bool, true, false, cond, List, [], ◌∷◌, ◌++◌, map, length, get_or, refl, ap, sym, ◌∙◌, Option, None, Some}
 use Rattle.std.specs.Prelude.{nat_eq}
 use Rattle.std.specs.Option.{option_map}
-use Rattle.std.specs.List.{range_with_len, AllByRecursion, All}
+use Rattle.std.specs.List.{range_with_len, AllByRecursion}
 use Rattle.std.proofs.lemmas.Bool.{eqb-true, eq-eqb}
 use Rattle.apl_arrays.specs.Index.{size_of, indices, is_within, position_in}
 use Rattle.apl_arrays.specs.Checks.{same}
@@ -14,7 +14,7 @@ use Rattle.apl_select.specs.Lined.{extended, item_or}
 use Rattle.apl_select.specs.Indexing.{Places, joined_shape, led_to}
 use Rattle.apl_select.specs.Assignment.{either_of, last_where, last_to, overlaid}
 use Rattle.apl_select.specs.Reached.{AreOnAxes}
-use Rattle.apl_select.proofs.Lists.{range_more}
+use Rattle.apl_select.specs.Written.{put_at}
 use Rattle.apl_select.proofs.Reaching.{led, led_within}
 
 either_none : {A : Type 0} (o : Option A) → either_of o None ≡ o
@@ -47,7 +47,7 @@ last_where_same P p q h [] a = refl
 last_where_same P p q h (x ∷ xs) a =
     ap (λ b. either_of (last_where p xs) (cond b (Some x) None)) (h x a.0) ∙ ap (λ o. either_of o (cond (q x) (Some x) None)) (last_where_same P p q h xs a.1)
 
-same_is : (s t : List ℕ) → same s t ≡ true → s ≡ t
+pub same_is : (s t : List ℕ) → same s t ≡ true → s ≡ t
 same_is [] [] h = refl
 same_is [] (n ∷ ns) h = absurd (cc)
 same_is (m ∷ ms) [] h = absurd (cc)
@@ -73,10 +73,6 @@ same_place s i j w v = cases (same i j) (nat_eq (position_in s i) (position_in s
     cases true false f g h k = sym (k (f refl))
     cases false true f g h k = h (g refl)
     cases false false f g h k = refl
-
--- what stands at a place where ys are written to places one after another, so many of them
-abbrev pub put_at : {A : Type 0} → List A → List A → List ℕ → ℕ → ℕ → A → A
-put_at xs ys places count q d = item_or (get_or xs q d) ys (option_map (extended (length ys)) (last_where (λ k. nat_eq (get_or places k 0) q) (range_with_len 0 count)))
 
 -- the last index list that leads to one is the last place that is its place
 last_led : (shape : List ℕ) (ps : List Places) (i : List ℕ) → AreOnAxes shape ps → is_within shape i ≡ true →

@@ -1,15 +1,15 @@
 -- What slots reach axis after axis is what the index lists of their joined shape lead to.
-use Rattle.std.proofs.Common.{zero, suc, ◌≡◌, ℕ, ◌+◌, ◌*◌, ◌<◌, ◌≤◌, ◌&&◌, Bool, true, false, nat_lt, List, [], ◌∷◌, ◌++◌, map, drop, length, get_or, refl, ap, sym, ◌∙◌, arith, append-nil, max}
-use Rattle.std.specs.List.{flat_map, range_with_len, AllByRecursion, All}
+use Rattle.std.proofs.Common.{zero, suc, ◌≡◌, ℕ, ◌+◌, ◌*◌, ◌<◌, ◌≤◌, true, nat_lt, List, [], ◌∷◌, ◌++◌, map, drop, length, get_or, refl, ap, sym, ◌∙◌, arith, append-nil, max}
+use Rattle.std.specs.List.{flat_map, range_with_len, All}
 use Rattle.std.proofs.lemmas.List.Folds.{flat_map-map}
-use Rattle.std.proofs.lemmas.List.Elements.{All-get_or, recursion_from_All}
-use Rattle.std.proofs.Math.Nat.{mul-le-mul_left, mul-le-mul_right}
+use Rattle.std.proofs.lemmas.List.Elements.{All-get_or}
+use Rattle.std.proofs.Math.Nat.{mul-le-mul_right}
 use Rattle.apl_arrays.specs.Index.{size_of, bound_of, indices, is_within, position_in}
 use Rattle.apl_arrays.proofs.Places.{both, position_in-lt, within_head}
 use Rattle.apl_arrays.proofs.Order.{map_map, places_in_order, all_within, within_cons}
 use Rattle.apl_select.specs.Indexing.{Places, joined_shape, led_to}
 use Rattle.apl_select.specs.Reached.{crossed, reached, AreOnAxes}
-use Rattle.apl_select.proofs.Lists.{flat_map_flat_map, map_flat_map, flat_map_same, flat_map_equal, map_equal, all_read, all_flat, all_mapped}
+use Rattle.apl_select.proofs.Lists.{flat_map_flat_map, map_flat_map, flat_map_same, flat_map_equal, map_equal, all_read, all_mapped}
 
 -- the index lists of two shapes one after the other
 pub indices_joined : {A : Type 0} (h : List ℕ → A) (s t : List ℕ) → map h (indices (s ++ t)) ≡ flat_map (λ i. map (λ j. h (i ++ j)) (indices t)) (indices s)

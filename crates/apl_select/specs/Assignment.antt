@@ -1,5 +1,5 @@
 -- Indexed assignment.
-use Rattle.std.specs.Prelude.{ℕ, ℤ, pos, ◌==◌, ◌||◌, Bool, true, false, not, cond, List, [], ◌∷◌, map, length, slice_index_or, Option, None, Some, Result, Ok}
+use Rattle.std.specs.Prelude.{ℕ, pos, ◌==◌, ◌||◌, Bool, true, false, not, cond, List, [], ◌∷◌, map, length, slice_index_or, Option, None, Some, Result, Ok}
 use Rattle.std.specs.Option.{option_map}
 use Rattle.std.specs.List.{filter}
 use Rattle.apl_faults.specs.declared.fault.Fault.{Fault}

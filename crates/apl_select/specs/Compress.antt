@@ -1,5 +1,5 @@
 -- Compression and expansion: a vector of zeros and ones along an axis.
-use Rattle.std.specs.Prelude.{ℕ, ℤ, pos, negsuc, ◌==◌, ◌||◌, nat_lt, nat_le, Bool, true, false, cond, List, map, take, length, slice_index_or, count_by, Option, None, Some, Result, Ok, Err}
+use Rattle.std.specs.Prelude.{ℕ, ℤ, pos, negsuc, ◌==◌, ◌||◌, nat_lt, nat_le, Bool, false, cond, List, map, take, length, slice_index_or, count_by, Option, None, Some, Result, Ok, Err}
 use Rattle.std.specs.List.{filter, list_all, range_with_len}
 use Rattle.apl_faults.specs.declared.fault.Fault.{Fault}
 use Rattle.apl_faults.specs.declared.fault.Fault.TheVariants.{Domain, Rank, Length}

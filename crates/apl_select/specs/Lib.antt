@@ -4,3 +4,4 @@ pub mod Indexing
 pub mod Assignment
 pub mod Reached
 pub mod Laying
+pub mod Written

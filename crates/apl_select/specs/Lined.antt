@@ -1,5 +1,5 @@
 -- Elements taken anew along an axis.
-use Rattle.std.specs.Prelude.{ℕ, ℤ, pos, ◌==◌, cond, List, [], ◌∷◌, map, length, slice_index_or, Option, None, Some, Result}
+use Rattle.std.specs.Prelude.{ℕ, pos, ◌==◌, cond, List, [], ◌∷◌, map, length, slice_index_or, Option, None, Some, Result}
 use Rattle.std.specs.Option.{option_map}
 use Rattle.apl_faults.specs.declared.fault.Fault.{Fault}
 use Rattle.apl_arrays.specs.declared.axis_choice.Along.{Along}

@@ -1,14 +1,18 @@
 //! Elements chosen from arrays: compression, expansion, indexing and indexed assignment.
 #![tactic(auto)]
 
+mod assignment;
 mod bits;
 mod compression;
+mod fitting;
 mod indexing;
 mod lay;
 mod lines;
+mod overwrite;
 mod reach;
 mod slots;
 
+pub use assignment::index_assign;
 pub use compression::{compress, expand};
 pub use indexing::index;
 

@@ -1,9 +1,9 @@
-// Values from outside: worked rows of compression, expansion and indexing.
+// Values from outside: worked rows of compression, expansion, indexing and indexed assignment.
 ghost use Rattle.std.specs.Prelude.{◌≡◌, ◌≤◌, length};
 ghost use Rattle.apl_arrays.specs.Index.{size_of};
 
 use super::*;
-use apl_arrays::{Along, Array, Ravel, Stop};
+use apl_arrays::{Along, Array, MAX_ELEMENTS, Ravel, Stop};
 use apl_charset::Ch;
 use apl_faults::Fault;
 use std::alloc::Global;
@@ -146,5 +146,116 @@ fn elements_by_slots(rt: HostRuntime) -> Result<(), Fail> {
     assert!(rt; is_fault(&index(alloc, &few, &beyond, 1), Fault::Index));
     let letter = [Some(text(alloc, &[Ch::ascii(b'a')])?)];
     assert!(rt; is_fault(&index(alloc, &few, &letter, 1), Fault::Domain));
+    Ok(())
+}
+
+/// A vector of so many ones.
+fn ones(alloc: Global, count: usize) -> Result<Array, Stop>
+    requires { count ≤ MAX_ELEMENTS }
+{
+    Ok(Array::from_nums(vec![in alloc; 1i64; count]?))
+}
+
+#[test]
+fn assignments_by_slots(rt: HostRuntime) -> Result<(), Fail> {
+    let alloc = rt.alloc();
+    let few = array(alloc, &[3], &[1, 2, 3])?;
+    let twice = [Some(array(alloc, &[2], &[1, 1])?)];
+    let pair = array(alloc, &[2], &[5, 6])?;
+    assert!(rt;
+        is_array(
+            &index_assign(alloc, &few, &twice, &pair, 1),
+            &[3],
+            &[6, 2, 3]
+        )
+    );
+    let both = [Some(array(alloc, &[2], &[3, 1])?)];
+    let nine = array(alloc, &[], &[9])?;
+    assert!(rt;
+        is_array(
+            &index_assign(alloc, &few, &both, &pair, 1),
+            &[3],
+            &[6, 2, 5]
+        )
+    );
+    assert!(rt;
+        is_array(
+            &index_assign(alloc, &few, &both, &nine, 1),
+            &[3],
+            &[9, 2, 9]
+        )
+    );
+    Ok(())
+}
+
+#[test]
+fn assignments_by_slots_of_all_and_of_characters(rt: HostRuntime) -> Result<(), Fail> {
+    let alloc = rt.alloc();
+    let rows = matrix(alloc)?;
+    let first = [Some(array(alloc, &[], &[0])?), None];
+    let row = array(alloc, &[1, 3], &[7, 8, 9])?;
+    assert!(rt;
+        is_array(
+            &index_assign(alloc, &rows, &first, &row, 0),
+            &[2, 3],
+            &[7, 8, 9, 4, 5, 6]
+        )
+    );
+    let letters = text(alloc, &[Ch::ascii(b'a'), Ch::ascii(b'b')])?;
+    let second = [Some(array(alloc, &[], &[2])?)];
+    let star = text(alloc, &[Ch::ascii(b'*')])?;
+    let starred = [Ch::ascii(b'a'), Ch::ascii(b'*')];
+    assert!(rt;
+        is_text(
+            &index_assign(alloc, &letters, &second, &star, 1),
+            &[2],
+            &starred
+        )
+    );
+    Ok(())
+}
+
+#[test]
+fn assignments_at_fault(rt: HostRuntime) -> Result<(), Fail> {
+    let alloc = rt.alloc();
+    let few = array(alloc, &[3], &[1, 2, 3])?;
+    let nine = array(alloc, &[], &[9])?;
+    let pair = array(alloc, &[2], &[5, 6])?;
+    let star = text(alloc, &[Ch::ascii(b'*')])?;
+    let beyond = [Some(array(alloc, &[], &[4])?)];
+    assert!(rt; is_fault(&index_assign(alloc, &few, &beyond, &nine, 1), Fault::Index));
+    let two_axes = [None, None];
+    assert!(rt; is_fault(&index_assign(alloc, &few, &two_axes, &nine, 1), Fault::Rank));
+    let whole = [None];
+    let rows = matrix(alloc)?;
+    assert!(rt; is_fault(&index_assign(alloc, &few, &whole, &rows, 1), Fault::Rank));
+    assert!(rt; is_fault(&index_assign(alloc, &few, &whole, &pair, 1), Fault::Length));
+    assert!(rt; is_fault(&index_assign(alloc, &few, &whole, &star, 1), Fault::Domain));
+    let none = [Some(array(alloc, &[0], &[])?)];
+    assert!(rt;
+        is_array(
+            &index_assign(alloc, &few, &none, &star, 1),
+            &[3],
+            &[1, 2, 3]
+        )
+    );
+    Ok(())
+}
+
+#[test]
+fn assignments_within_limits(rt: HostRuntime) -> Result<(), Fail> {
+    let alloc = rt.alloc();
+    let rows = matrix(alloc)?;
+    let zero = array(alloc, &[], &[0])?;
+    let many = [Some(ones(alloc, 1001)?), Some(ones(alloc, 1000)?)];
+    assert!(rt; is_fault(&index_assign(alloc, &rows, &many, &zero, 1), Fault::Limit));
+    let most = [Some(ones(alloc, 1000)?), Some(ones(alloc, 1000)?)];
+    assert!(rt;
+        is_array(
+            &index_assign(alloc, &rows, &most, &zero, 1),
+            &[2, 3],
+            &[0, 2, 3, 4, 5, 6]
+        )
+    );
     Ok(())
 }

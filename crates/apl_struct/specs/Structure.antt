@@ -9,12 +9,14 @@ use Rattle.apl_symbols.specs.declared.primitive.Primitive.{Primitive}
 use Rattle.apl_symbols.specs.declared.primitive.Primitive.TheVariants as primitives
 use Rattle.apl_reshape.specs.Reshape.{shape_of, raveled, reshaped}
 use Rattle.apl_reshape.specs.Take.{taken, dropped}
+use Rattle.apl_reshape.specs.Catenate.{catenated}
 use Rattle.apl_turns.specs.Turns.{transposed, transposed_by, reversed_along, rotated}
 use Rattle.apl_select.specs.Compress.{compressed, expanded}
 use Rattle.apl_search.specs.Counted.{iota}
 use Rattle.apl_search.specs.Ordered.{graded, rising, falling}
 use Rattle.apl_search.specs.Found.{index_of, membership}
 use Rattle.apl_search.specs.Decoded.{decode}
+use Rattle.apl_search.specs.Encoded.{encode}
 
 -- `F B`; a function that takes no single array is SYNTAX ERROR
 abbrev pub plain1 : Primitive → Arr → ℕ → Result Arr Fault
@@ -42,6 +44,7 @@ structural1 f (Some axis) b origin = along1 f axis b origin
 -- `B F B`; a function that takes no two arrays is SYNTAX ERROR
 abbrev pub plain2 : Primitive → Arr → Arr → ℕ → Result Arr Fault
 plain2 primitives.Rho a b origin = reshaped a b
+plain2 primitives.Comma a b origin = catenated Last origin a b
 plain2 primitives.CircleStile a b origin = rotated Last origin a b
 plain2 primitives.CircleBar a b origin = rotated First origin a b
 plain2 primitives.CircleSlope a b origin = transposed_by origin a b
@@ -54,10 +57,12 @@ plain2 primitives.SlopeBar a b origin = expanded First a b origin
 plain2 primitives.Iota a b origin = index_of a b origin
 plain2 primitives.Epsilon a b origin = Ok (membership a b)
 plain2 primitives.UpTack a b origin = decode a b
+plain2 primitives.DownTack a b origin = encode a b
 plain2 f a b origin = Err Syntax
 
 -- `B F K B`; a function that takes no axis is SYNTAX ERROR
 abbrev pub along2 : Primitive → List (Option Arr) → Arr → Arr → ℕ → Result Arr Fault
+along2 primitives.Comma axis a b origin = catenated (named axis) origin a b
 along2 primitives.CircleStile axis a b origin = rotated (named axis) origin a b
 along2 primitives.CircleBar axis a b origin = rotated (named axis) origin a b
 along2 primitives.Slash axis a b origin = compressed (named axis) a b origin

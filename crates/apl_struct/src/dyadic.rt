@@ -5,8 +5,8 @@ ghost use Rattle.apl_struct.specs.Structure.{along2, plain2, structural2};
 
 use apl_arrays::{Along, Array, Stop};
 use apl_faults::Fault;
-use apl_reshape::{drop_items, reshape, take_items};
-use apl_search::{decode, index_of, member};
+use apl_reshape::{catenate, drop_items, reshape, take_items};
+use apl_search::{decode, encode, index_of, member};
 use apl_select::{compress, expand};
 use apl_symbols::Primitive;
 use apl_turns::{rotate, transpose_by};
@@ -25,6 +25,7 @@ fn plain2(
 {
     match function {
         Primitive::Rho => reshape(alloc, a, b),
+        Primitive::Comma => catenate(alloc, Along::Last, a, b, origin),
         Primitive::CircleStile => rotate(alloc, Along::Last, a, b, origin),
         Primitive::CircleBar => rotate(alloc, Along::First, a, b, origin),
         Primitive::CircleSlope => transpose_by(alloc, a, b, origin),
@@ -37,6 +38,7 @@ fn plain2(
         Primitive::Iota => index_of(alloc, a, b, origin),
         Primitive::Epsilon => member(alloc, a, b),
         Primitive::UpTack => decode(alloc, a, b),
+        Primitive::DownTack => encode(alloc, a, b),
         _ => Err(Stop::Fault(Fault::Syntax)),
     }
 }
@@ -54,6 +56,7 @@ fn along2(
     ensures { Answers (λ r. r) (along2 function slots.now a.now b.now origin) result }
 {
     match function {
+        Primitive::Comma => catenate(alloc, Along::Named(slots), a, b, origin),
         Primitive::CircleStile => rotate(alloc, Along::Named(slots), a, b, origin),
         Primitive::CircleBar => rotate(alloc, Along::Named(slots), a, b, origin),
         Primitive::Slash => compress(alloc, Along::Named(slots), a, b, origin),
@@ -65,10 +68,10 @@ fn along2(
 }
 
 /// A function of structure or selection of two arrays, along the axis that index slots name if there are any:
-/// `⍴ ⌽ ⊖ ⍉ ↑ ↓ / ⌿ \ ⍀ ⍳ ∊ ⊥`.
+/// `⍴ , ⌽ ⊖ ⍉ ↑ ↓ / ⌿ \ ⍀ ⍳ ∊ ⊥ ⊤`.
 ///
 /// Indices, axes and places count from the origin, 0 or 1. Another function is a syntax fault, and so is an axis but for
-/// `⌽ ⊖ / ⌿ \ ⍀`. Every other fault is the function's own.
+/// `, ⌽ ⊖ / ⌿ \ ⍀`. Every other fault is the function's own.
 pub fn structural2(
     alloc: Global,
     function: Primitive,

@@ -4,7 +4,7 @@
 mod dyadic;
 mod monadic;
 
-pub use apl_select::index;
+pub use apl_select::{index, index_assign};
 pub use dyadic::structural2;
 pub use monadic::structural1;
 

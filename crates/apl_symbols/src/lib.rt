@@ -2,6 +2,7 @@
 //! and the other symbols.
 #![tactic(auto)]
 
+mod class;
 mod name;
 mod primitive;
 mod symbol;
@@ -9,6 +10,7 @@ mod system;
 #[cfg(test)]
 mod tests;
 
+pub use class::Class;
 pub use name::{MOST, Name};
 pub use primitive::{Operator, Primitive};
 pub use symbol::{Symbol, symbols_by_glyph};

@@ -8,7 +8,7 @@ use Rattle.apl_tokens.specs.declared.token.Kind.{Kind}
 use Rattle.apl_tokens.specs.declared.token.Kind.TheVariants as tokens
 use Rattle.apl_tokens.specs.declared.token.Token.{Token}
 use Rattle.apl_arrays.specs.Cells.{Arr}
-use Rattle.apl_translate.specs.declared.form.Class.{Class}
+use Rattle.apl_symbols.specs.declared.class.Class.{Class}
 use Rattle.apl_translate.specs.declared.form.Word.{Word}
 use Rattle.apl_translate.specs.declared.form.Form.{Form}
 use Rattle.apl_translate.specs.declared.form.Form.TheVariants as forms

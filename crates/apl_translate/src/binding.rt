@@ -4,10 +4,10 @@ ghost use Rattle.std.specs.List.{flat_map};
 ghost use Rattle.apl_symbols.specs.Primitives.{operator_of};
 ghost use Rattle.apl_translate.specs.Binding.{without_label, is_name, is_colon, nothing_left, class_at, name_word, system_word, primitive_word, closing, symbol_word, word_of, form_of, neighbour_of, placed, takes_axis, axes_after, with_item, items_from, constant_in, bound_of, elements_in};
 
-use crate::form::{Bound, Class, Form, Placed, Word};
+use crate::form::{Bound, Form, Placed, Word};
 use apl_arrays::Array;
 use apl_code::{Function, Variable};
-use apl_symbols::{Name, Primitive, Symbol, SystemName};
+use apl_symbols::{Class, Name, Primitive, Symbol, SystemName};
 use apl_tokens::{Kind, Token};
 use std::alloc::{AllocError, Global};
 use std::marker::Model;

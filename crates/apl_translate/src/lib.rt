@@ -10,5 +10,5 @@ mod tests;
 mod translation;
 
 pub use binding::bind;
-pub use form::{Bound, Class, Form, Placed, Word};
+pub use form::{Bound, Form, Placed, Word};
 pub use translation::translate;

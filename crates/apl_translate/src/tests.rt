@@ -2,11 +2,11 @@
 ghost use Rattle.std.specs.Prelude.{length};
 
 use crate::binding::bind;
-use crate::form::{Bound, Class};
+use crate::form::Bound;
 use crate::translation::translate;
 use apl_charset::decode_line;
 use apl_code::{Action, Code, Ending, Function, Row, Source, Variable};
-use apl_symbols::{Name, Operator, Primitive, SystemName};
+use apl_symbols::{Class, Name, Operator, Primitive, SystemName};
 use apl_tokens::tokens;
 use std::alloc::Global;
 use std::test::Fail;

@@ -1,4 +1,4 @@
-use Rattle.std.proofs.Common.{◌≡◌, ℤ, pos, ℕ, ◌+◌, ◌*◌, ◌<◌, ◌≤◌, ◌++◌, ◌∷◌, [], List, length, get_or, take, drop, arith, ap, sym, ◌∙◌, true, false, Some}
+use Rattle.std.proofs.Common.{◌≡◌, pos, ◌+◌, ◌++◌, ◌∷◌, [], get_or, ap, sym, ◌∙◌, true, false, Some}
 use Rattle.std.proofs.lemmas.List.Sums.{count_by_more_yes, count_by_more_no}
 use Rattle.apl_select.specs.Compress.{is_one}
 use Rattle.apl_select.proofs.Choosing.{spread_no, spread_yes}

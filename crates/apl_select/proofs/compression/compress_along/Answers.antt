@@ -1,4 +1,4 @@
-use Rattle.std.proofs.Common.{◌≡◌, ℤ, pos, ℕ, ◌+◌, ◌*◌, ◌<◌, ◌≤◌, ◌++◌, List, length, get_or, take, drop, arith, ap, sym, ◌∙◌}
+use Rattle.std.proofs.Common.{get_or, sym, ◌∙◌}
 use Rattle.apl_select.proofs.Choosing.{kept_below}
 use Rattle.apl_select.proofs.compression.compress_along.Goals as goal
 

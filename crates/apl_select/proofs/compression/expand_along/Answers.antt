@@ -1,4 +1,4 @@
-use Rattle.std.proofs.Common.{◌≡◌, ℤ, pos, ℕ, ◌+◌, ◌*◌, ◌<◌, ◌≤◌, ◌++◌, List, length, get_or, take, drop, arith, ap, sym, ◌∙◌}
+use Rattle.std.proofs.Common.{get_or, ap, sym, ◌∙◌}
 use Rattle.std.proofs.Common.{◌==◌, ◌||◌}
 use Rattle.apl_faults.specs.declared.fault.Fault.TheVariants.{Length}
 use Rattle.apl_arrays.specs.Checks.{demand}

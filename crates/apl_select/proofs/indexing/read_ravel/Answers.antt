@@ -1,4 +1,4 @@
-use Rattle.std.proofs.Common.{◌≡◌, ℕ, ℤ, pos, ◌+◌, ◌<◌, ◌≤◌, ◌++◌, ◌∷◌, [], List, map, length, get_or, ap, sym, ◌∙◌}
+use Rattle.std.proofs.Common.{ℕ, ℤ, pos, List, ap, sym, ◌∙◌}
 use Rattle.apl_arrays.specs.Cells.{Items, Numbers, Characters}
 use Rattle.apl_arrays.specs.Index.{indices, position_in}
 use Rattle.apl_arrays.specs.Ravels.{items_of}

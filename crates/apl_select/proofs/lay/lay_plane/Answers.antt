@@ -1,4 +1,4 @@
-use Rattle.std.proofs.Common.{◌≡◌, ℕ, ◌+◌, ◌*◌, ◌<◌, ◌≤◌, ◌++◌, length, arith, ap, sym, ◌∙◌}
+use Rattle.std.proofs.Common.{◌++◌, ap, sym, ◌∙◌}
 use Rattle.apl_select.specs.Laying.{plane_of}
 use Rattle.apl_select.specs.Lined.{item_or}
 use Rattle.apl_select.proofs.Laying.{plane_single}

@@ -1,4 +1,4 @@
-use Rattle.std.proofs.Common.{◌≡◌, ℤ, pos, ℕ, ◌+◌, ◌*◌, ◌<◌, ◌≤◌, ◌++◌, List, length, get_or, take, drop, arith, ap, sym, ◌∙◌}
+use Rattle.std.proofs.Common.{length, ap, sym, ◌∙◌}
 use Rattle.apl_arrays.specs.Cells.{Items, cells_of}
 use Rattle.apl_arrays.specs.Index.{size_of, indices}
 use Rattle.apl_arrays.specs.Ravels.{items_of}

@@ -1,4 +1,4 @@
-use Rattle.std.proofs.Common.{◌≡◌, ℤ, pos, ℕ, ◌+◌, ◌*◌, ◌<◌, ◌≤◌, ◌++◌, List, length, get_or, take, drop, arith, ap, sym, ◌∙◌}
+use Rattle.std.proofs.Common.{ℤ, pos, ℕ, List, length, ap, sym, ◌∙◌}
 use Rattle.apl_arrays.specs.Cells.{Items, Numbers, Characters}
 use Rattle.apl_arrays.specs.Index.{indices}
 use Rattle.apl_arrays.specs.Ravels.{items_of}

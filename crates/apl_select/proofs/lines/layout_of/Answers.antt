@@ -1,4 +1,4 @@
-use Rattle.std.proofs.Common.{◌≡◌, ℤ, pos, ℕ, ◌+◌, ◌*◌, ◌<◌, ◌≤◌, ◌++◌, List, length, get_or, take, drop, arith, ap, sym, ◌∙◌}
+use Rattle.std.proofs.Common.{◌+◌, ◌≤◌, get_or, arith}
 use Rattle.apl_arrays.specs.Index.{bound_of}
 use Rattle.apl_arrays.proofs.Places.{size_le_bound}
 use Rattle.apl_arrays.proofs.Whole.{bound-drop}

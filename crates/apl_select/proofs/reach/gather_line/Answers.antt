@@ -1,4 +1,4 @@
-use Rattle.std.proofs.Common.{◌≡◌, ℕ, ◌+◌, ◌-◌, ◌*◌, ◌<◌, ◌≤◌, ◌++◌, ◌∷◌, [], List, map, length, get_or, take, drop, arith, ap, sym, ◌∙◌}
+use Rattle.std.proofs.Common.{◌+◌, ◌<◌, ◌++◌, ◌∷◌, [], map, length, get_or, arith, ap, ◌∙◌}
 use Rattle.std.proofs.lemmas.List.{get_or_default, take_all}
 use Rattle.apl_select.proofs.Lists.{all_at}
 use Rattle.apl_select.proofs.Crossing.{taken_more}

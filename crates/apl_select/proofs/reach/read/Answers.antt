@@ -1,6 +1,5 @@
-use Rattle.std.proofs.Common.{zero, suc, ◌==◌, Bool, false, subst, ◌≡◌, ℕ, ◌+◌, ◌-◌, ◌*◌, ◌<◌, ◌≤◌, ◌++◌, ◌∷◌, [], List, map, length, get_or, take, drop, arith, ap, sym, ◌∙◌}
+use Rattle.std.proofs.Common.{zero, suc, ◌==◌, Bool, false, subst, ◌≡◌, ℕ, ◌+◌, ◌-◌, ◌<◌, ◌≤◌, ◌++◌, ◌∷◌, [], List, map, length, get_or, drop, arith, ap, sym, ◌∙◌}
 use Rattle.std.specs.List.{All}
-use Rattle.apl_arrays.specs.Index.{size_of}
 use Rattle.apl_select.specs.Indexing.{Places}
 use Rattle.apl_select.specs.Reached.{crossed, reached}
 use Rattle.apl_select.proofs.Reaching.{length_on_axes, led, reached_led, led_below}

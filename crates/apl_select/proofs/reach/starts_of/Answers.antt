@@ -1,4 +1,4 @@
-use Rattle.std.proofs.Common.{◌≡◌, ℕ, ◌+◌, ◌-◌, ◌*◌, ◌<◌, ◌≤◌, ◌++◌, ◌∷◌, [], List, map, length, get_or, take, drop, arith, ap, sym, ◌∙◌, subst}
+use Rattle.std.proofs.Common.{◌≡◌, ℕ, ◌+◌, ◌*◌, ◌≤◌, List, length, get_or, drop, arith, ap, sym, ◌∙◌, subst}
 use Rattle.apl_arrays.specs.Index.{bound_of}
 use Rattle.std.specs.List.{All}
 use Rattle.apl_select.specs.Indexing.{Places, joined_shape}

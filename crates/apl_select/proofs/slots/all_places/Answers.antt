@@ -1,4 +1,3 @@
-use Rattle.std.proofs.Common.{◌≡◌, ℤ, pos, ℕ, ◌+◌, ◌-◌, ◌*◌, ◌<◌, ◌≤◌, ◌++◌, ◌∷◌, [], List, length, get_or, take, drop, arith, ap, sym, ◌∙◌, true, false, Some, Ok}
 use Rattle.apl_select.proofs.Lists.{range_next}
 use Rattle.apl_select.proofs.slots.all_places.Goals as goal
 

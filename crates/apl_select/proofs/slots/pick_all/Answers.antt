@@ -1,4 +1,4 @@
-use Rattle.std.proofs.Common.{◌≡◌, ℤ, pos, ℕ, ◌+◌, ◌-◌, ◌*◌, ◌<◌, ◌≤◌, ◌++◌, ◌∷◌, [], List, length, get_or, take, drop, arith, ap, sym, ◌∙◌, true, false, Some, Ok}
+use Rattle.std.proofs.Common.{get_or, arith, ap, sym, ◌∙◌}
 use Rattle.apl_select.specs.Indexing.{picked_by}
 use Rattle.apl_select.proofs.Picking.{picked_step, on_axes_more}
 use Rattle.apl_select.proofs.slots.pick_all.Goals as goal

@@ -1,5 +1,4 @@
-use Rattle.std.proofs.Common.{◌≡◌, ℤ, pos, ℕ, ◌+◌, ◌-◌, ◌*◌, ◌<◌, ◌≤◌, ◌++◌, ◌∷◌, [], List, length, get_or, take, drop, arith, ap, sym, ◌∙◌, true, false, Some, Ok}
-use Rattle.std.specs.List.{range_with_len}
+use Rattle.std.proofs.Common.{pos, length, get_or, arith, sym, ◌∙◌}
 use Rattle.apl_arrays.proofs.InTurn.{turns_start, turns_step, turns_fault, turns_end}
 use Rattle.apl_select.specs.Indexing.{place_numbered}
 use Rattle.apl_select.proofs.Picking.{by_number}

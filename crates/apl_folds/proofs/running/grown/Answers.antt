@@ -1,0 +1,9 @@
+use Rattle.std.proofs.Common.{arith, ◌≡◌}
+use Rattle.std.specs.Prelude.{unsigned_abs}
+use Rattle.std.proofs.lemmas.Int.{to_z-of_z}
+use Rattle.apl_folds.proofs.running.grown.Goals as goal
+
+pub returns : goal.returns
+returns c small =
+    let u : c.unsigned_abs.result ≡ unsigned_abs c.args.number = simp (to_z-of_z, c.ranges.number) at c.unsigned_abs.ensures.value in
+    omega (arith, c.saturating_add.ensures)

@@ -1,0 +1,88 @@
+// Sums of lines of numbers, each front from the one before it.
+ghost use Rattle.std.specs.Prelude.{◌≡◌, ◌^◌, ◌<◌, ◌+◌, ◌∷◌, ◌++◌, [], ℤ, List, length, pos, unsigned_abs};
+ghost use Rattle.apl_scalar.specs.declared.function.Dyadic.TheVariants as two;
+ghost use Rattle.apl_scalar.specs.Functions.{dyadic_of};
+ghost use Rattle.apl_folds.specs.Lines.{fold_by, line_of, IsLine};
+ghost use Rattle.apl_folds.specs.Sums.{IsRunning};
+
+use crate::line::nth;
+use crate::sums::{add, sum_line};
+use crate::walk::Leaf;
+use apl_arrays::{Axis, Stop};
+use apl_faults::Fault;
+
+/// The sums of magnitudes below which sums are exact, 2^63.
+const EXACT: u64 = 0x8000_0000_0000_0000;
+
+/// The sum of some numbers and the sum of their magnitudes. While the latter is below 2^63 both are exact: then each sum on the way fits 64
+/// bits, in whatever order they are added.
+#[derive(Clone, Copy)]
+pub(crate) struct Running {
+    sum: i64,
+    magnitude: u64,
+}
+
+/// A magnitude with that of one number more, while the sum is below 2^63.
+#[inline(always)]
+fn grown(magnitude: u64, number: i64) -> u64
+    ensures { result < 2 ^ 63 → result ≡ magnitude + unsigned_abs number }
+{
+    magnitude.saturating_add(number.unsigned_abs())
+}
+
+/// The sums with one number more.
+#[inline(always)]
+fn more(running: Running, number: i64) -> Running
+    ensures { (numbers : List ℤ) → IsRunning running numbers → IsRunning result (numbers ++ number ∷ []) }
+{
+    Running {
+        sum: add(running.sum, number),
+        magnitude: grown(running.magnitude, number),
+    }
+}
+
+/// The numbers along an axis, to be summed.
+#[derive(Drop)]
+pub(crate) struct Total<'a> {
+    pub numbers: &'a [i64],
+    pub axis: Axis,
+}
+
+impl<'a> Total<'a> {
+    /// The fold of the first numbers of a line, of which the sums are known where they are small.
+    fn front(&self, running: Running, at: usize, count: usize) -> Result<i64, Fault>
+        requires line { IsLine (length self.now.numbers.now) self.now.axis at count }
+        requires running { IsRunning running (line_of (pos 0) self.now.numbers.now self.now.axis at count) }
+        ensures { result ≡ fold_by (dyadic_of two.Plus) (line_of (pos 0) self.now.numbers.now self.now.axis at count) }
+    {
+        if running.magnitude < EXACT {
+            return Ok(running.sum);
+        }
+        sum_line(self.numbers, &self.axis, at, count)
+    }
+}
+
+impl<'a> Leaf for Total<'a> {
+    ghost has = { λ s p count. IsLine (length s.numbers.now) s.axis p count };
+
+    ghost gives = { λ s p count. fold_by (dyadic_of two.Plus) (line_of (pos 0) s.numbers.now s.axis p count) };
+
+    fn value(&self, at: usize, count: usize) -> Result<i64, Fault> {
+        sum_line(self.numbers, &self.axis, at, count)
+    }
+
+    fn push_fronts(&self, at: usize, length: usize, out: &mut Vec<i64>) -> Result<(), Stop> {
+        let mut running = Running {
+            sum: 0,
+            magnitude: 0,
+        };
+        for k in 0..length {
+            running = more(running, nth(self.numbers, &self.axis, at, k));
+            match self.front(running, at, k + 1) {
+                Ok(value) => out.push(value)?,
+                Err(fault) => return Err(Stop::Fault(fault)),
+            }
+        }
+        Ok(())
+    }
+}

@@ -1,0 +1,111 @@
+// Sums of rows of numbers, block by block.
+ghost use Rattle.std.specs.Prelude.{◌≡◌, ◌^◌, ◌<◌, ◌≤◌, ◌*◌, ◌++◌, ◌+ℤ◌, ℤ, List, FitsSigned, IfSome, Ok, length, pos, unsigned_abs};
+ghost use Rattle.std.specs.Int.{w64};
+ghost use Rattle.apl_scalar.specs.declared.function.Dyadic.TheVariants as two;
+ghost use Rattle.apl_scalar.specs.Functions.{dyadic_of};
+ghost use Rattle.apl_folds.specs.Lines.{fold_by, line_of, IsLine};
+ghost use Rattle.apl_folds.specs.Sums.{total, magnitudes};
+
+use crate::fold::{fold_from, fold_right};
+use crate::line::{fold_strided, row};
+use apl_arrays::Axis;
+use apl_faults::Fault;
+use apl_scalar::Sum;
+
+/// So many numbers of a magnitude of at most 2^48 have a sum of at most 2^62.
+const BLOCK: usize = 16384;
+
+/// Below this many numbers a test at each step costs less than a block.
+const FEW: usize = 16;
+
+/// The sum where it fits, and some number elsewhere.
+#[inline(always)]
+pub(crate) fn add(x: i64, y: i64) -> i64
+    ensures { FitsSigned w64 (x +ℤ y) → result ≡ x +ℤ y }
+{
+    x.wrapping_add(y)
+}
+
+/// A number that is below 2^49 only where the argument's magnitude is at most 2^48.
+#[inline(always)]
+fn spread(number: i64) -> u64
+    ensures { result < 2 ^ 49 → unsigned_abs number ≤ 2 ^ 48 }
+{
+    number.wrapping_add(0x1_0000_0000_0000).cast_unsigned()
+}
+
+/// A number that is no less than either.
+#[inline(always)]
+fn wider(x: u64, y: u64) -> u64
+    ensures x { x ≤ result }
+    ensures y { y ≤ result }
+{
+    x | y
+}
+
+/// The sum of the numbers, if the second result, by being below 2^49, says that they are small.
+fn sum_small(numbers: &[i64]) -> (i64, u64)
+    requires { length numbers.now ≤ BLOCK }
+    ensures { result.1 < 2 ^ 49 → (result.0 ≡ total numbers.now) × (magnitudes numbers.now ≤ length numbers.now * 2 ^ 48) }
+{
+    let mut sum = 0i64;
+    let mut bound = 0u64;
+    for number in numbers {
+        sum = add(sum, *number);
+        bound = wider(bound, spread(*number));
+    }
+    (sum, bound)
+}
+
+/// The fold of a block and of the numbers after it, of which the fold is known, if all of it is so small that the order is all one.
+fn sum_block(numbers: &[i64], known: i64) -> Option<i64>
+    requires { length numbers.now ≤ BLOCK }
+    ensures { IfSome result (λ all. (rest : List ℤ) → fold_by (dyadic_of two.Plus) rest ≡ Ok known → fold_by (dyadic_of two.Plus) (numbers.now ++ rest) ≡ Ok all) }
+{
+    let (sum, bound) = sum_small(numbers);
+    if bound < 0x2_0000_0000_0000 {
+        if known < 0x4000_0000_0000_0000 {
+            if -0x4000_0000_0000_0000 < known {
+                return Some(add(known, sum));
+            }
+        }
+    }
+    None
+}
+
+/// The sum of one or more numbers from the right: block by block while they are small, and from then on with each step tested.
+pub(crate) fn sum_row(numbers: &[i64]) -> Result<i64, Fault>
+    requires { 0 < length numbers.now }
+    ensures { result ≡ fold_by (dyadic_of two.Plus) numbers.now }
+{
+    if numbers.len() < FEW {
+        return fold_right::<Sum>(numbers);
+    }
+    let mut left = numbers.len() - 1;
+    let mut all = numbers[left];
+    while 0 < left {
+        let from = left.saturating_sub(BLOCK);
+        match sum_block(&numbers[from..left], all) {
+            Some(sum) => {
+                all = sum;
+                left = from;
+            }
+            None => return fold_from::<Sum>(numbers, left, all),
+        }
+    }
+    Ok(all)
+}
+
+/// The sum of the first numbers along an axis from a place on. Where they lie side by side it is that of a row.
+pub(crate) fn sum_line(numbers: &[i64], axis: &Axis, at: usize, count: usize) -> Result<i64, Fault>
+    requires { IsLine (length numbers.now) axis.now at count }
+    ensures { result ≡ fold_by (dyadic_of two.Plus) (line_of (pos 0) numbers.now axis.now at count) }
+{
+    if axis.up != 1 {
+        return fold_strided::<Sum>(numbers, axis, at, count);
+    }
+    if axis.down != 0 {
+        return fold_strided::<Sum>(numbers, axis, at, count);
+    }
+    sum_row(row(numbers, at, count))
+}

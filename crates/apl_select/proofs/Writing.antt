@@ -1,0 +1,120 @@
+-- Writes to places one after another, as loops have them, and what they make of an array.
+use Rattle.std.proofs.Common.{◌≡◌, ℕ, ℤ, pos, ◌+◌, ◌<◌, ◌≤◌, Bool, true, false, cond, List, [], ◌∷◌, map, set, drop, length, get_or, refl, ap, sym, ◌∙◌, arith, add-one, subst, Option, None, Some, get_or-set_same, get_or-set_other}
+use Rattle.std.specs.Prelude.{nat_eq}
+use Rattle.std.specs.Option.{option_map}
+use Rattle.std.specs.List.{range_with_len, All}
+use Rattle.std.proofs.lemmas.Bool.{eqb-true, eqb-false}
+use Rattle.std.proofs.lemmas.List.{get_or_read, length-map, drop_all}
+use Rattle.std.proofs.lemmas.List.FromFn.{fill_by_all, length-range_with_len}
+use Rattle.apl_arrays.specs.declared.cell.Cell.TheVariants.{Num, Char}
+use Rattle.apl_arrays.specs.Index.{size_of, indices, position_in}
+use Rattle.apl_arrays.specs.Cells.{Arr, Items, Numbers, Characters, cells_of}
+use Rattle.apl_arrays.proofs.Order.{length-indices}
+use Rattle.apl_select.specs.Lined.{extended, item_or}
+use Rattle.apl_select.specs.Indexing.{Places, joined_shape, led_to}
+use Rattle.apl_select.specs.Assignment.{either_of, last_where, last_to, overlaid, overlaid_items, written}
+use Rattle.apl_select.specs.Reached.{reached, AreOnAxes}
+use Rattle.apl_select.specs.Written.{put_at, put_all, put_items, AreEnough}
+use Rattle.apl_select.proofs.Lists.{range_more}
+use Rattle.apl_select.proofs.Reaching.{led, reached_led, led_below}
+use Rattle.apl_select.proofs.Overlay.{last_where_more, overlaid_put}
+
+-- one write more
+put_more : {A : Type 0} (xs ys : List A) (places : List ℕ) (k q : ℕ) (d : A) →
+    put_at xs ys places (k + 1) q d ≡ cond (nat_eq (get_or places k 0) q) (get_or ys (extended (length ys) k) (get_or xs q d)) (put_at xs ys places k q d)
+put_more {A = A} xs ys places k q d =
+    ap (λ (n : ℕ). stands (last_where test (range_with_len 0 n))) (add-one k)
+    ∙ ap (λ (l : List ℕ). stands (last_where test l)) (range_more 0 k)
+    ∙ ap stands (last_where_more test (range_with_len 0 k) (0 + k))
+    ∙ ap (λ (j : ℕ). stands (either_of (cond (test j) (Some j) None) (last_where test (range_with_len 0 k)))) (none k)
+    ∙ each (test k)
+  where
+    test : ℕ → Bool
+    test k = nat_eq (get_or places k 0) q
+
+    stands : Option ℕ → A
+    stands o = item_or (get_or xs q d) ys (option_map (extended (length ys)) o)
+
+    none : (k : ℕ) → 0 + k ≡ k
+    none k = omega arith
+
+    each : (b : Bool) → stands (either_of (cond b (Some k) None) (last_where test (range_with_len 0 k))) ≡ cond b (get_or ys (extended (length ys) k) (get_or xs q d)) (stands (last_where test (range_with_len 0 k)))
+    each true = refl
+    each false = refl
+
+-- what stands at q after it
+pub put_step : {A : Type 0} (xs ys out : List A) (places : List ℕ) (k j : ℕ) (v : A) (q : ℕ) (d : A) → get_or places k 0 < length out → j ≡ extended (length ys) k → j < length ys → v ≡ get_or ys j v →
+    get_or out q d ≡ put_at xs ys places k q d → get_or (set out (get_or places k 0) v) q d ≡ put_at xs ys places (k + 1) q d
+put_step {A = A} xs ys out places k j v q d l e m r h =
+    each (nat_eq (get_or places k 0) q) (λ t. eqb-true (get_or places k 0) q t) (λ t. eqb-false (get_or places k 0) q t) ∙ sym (put_more xs ys places k q d)
+  where
+    read : v ≡ get_or ys (extended (length ys) k) (get_or xs q d)
+    read = get_or_read ys j v m r (get_or xs q d) ∙ ap (λ (i : ℕ). get_or ys i (get_or xs q d)) e
+
+    each : (b : Bool) → (b ≡ true → get_or places k 0 ≡ q) → (b ≡ false → get_or places k 0 ≡ q → ⊥) →
+        get_or (set out (get_or places k 0) v) q d ≡ cond b (get_or ys (extended (length ys) k) (get_or xs q d)) (put_at xs ys places k q d)
+    each true f g = ap (λ (i : ℕ). get_or (set out (get_or places k 0) v) i d) (sym (f refl)) ∙ get_or-set_same out (get_or places k 0) v d l ∙ read
+    each false f g = get_or-set_other out (get_or places k 0) q v d (λ s. g refl (sym s)) ∙ h
+
+-- what stands after all writes
+pub put_whole : {A : Type 0} (d : A) (xs ys out : List A) (places : List ℕ) (k : ℕ) → length out ≡ length xs → k ≡ length places → ((q : ℕ) → get_or out q d ≡ put_at xs ys places k q d) →
+    out ≡ put_all d xs ys places
+put_whole d xs ys out places k long e h =
+    fill_by_all (λ q. put_at xs ys places (length places) q d) out (length xs) d long (λ q l. h q ∙ ap (λ (n : ℕ). put_at xs ys places n q d) e)
+
+length-put_all : {A : Type 0} (d : A) (xs ys : List A) (places : List ℕ) → length (put_all d xs ys places) ≡ length xs
+length-put_all d xs ys places = length-map (range_with_len 0 (length xs)) (λ q. put_at xs ys places (length places) q d) ∙ length-range_with_len 0 (length xs)
+
+length-led : (shape : List ℕ) (ps : List Places) → length (led shape ps) ≡ size_of (joined_shape ps)
+length-led shape ps = length-map (indices (joined_shape ps)) (λ i. position_in shape (led_to ps i)) ∙ length-indices (joined_shape ps)
+
+-- writes to all places to which picks lead
+put_led : {A : Type 0} (d : A) (xs ys : List A) (shape : List ℕ) (ps : List Places) (places : List ℕ) → AreOnAxes shape ps → length xs ≡ size_of shape → places ≡ led shape ps →
+    put_all d xs ys places ≡ overlaid d xs ys shape (last_to ps)
+put_led d xs ys shape ps places f full e =
+    ap (λ (l : List ℕ). put_all d xs ys l) e
+    ∙ ap (λ (n : ℕ). map (λ q. put_at xs ys (led shape ps) n q d) (range_with_len 0 (length xs))) (length-led shape ps)
+    ∙ ap (λ (n : ℕ). map (λ q. put_at xs ys (led shape ps) (size_of (joined_shape ps)) q d) (range_with_len 0 n)) full
+    ∙ sym (overlaid_put d xs ys shape ps f)
+
+put_items_led : (v b : Items) (shape : List ℕ) (ps : List Places) (places : List ℕ) → AreOnAxes shape ps → length (cells_of v) ≡ size_of shape → places ≡ led shape ps →
+    put_items v b places ≡ overlaid_items v b shape (last_to ps)
+put_items_led (Numbers xs) (Numbers ys) shape ps places f full e = ap (λ (zs : List ℤ). Numbers zs) (put_led (pos 0) xs ys shape ps places f (sym (length-map xs Num) ∙ full) e)
+put_items_led (Numbers xs) (Characters ys) shape ps places f full e = refl
+put_items_led (Characters xs) (Numbers ys) shape ps places f full e = refl
+put_items_led (Characters xs) (Characters ys) shape ps places f full e = ap (λ (cs : List ℕ). Characters cs) (put_led 0 xs ys shape ps places f (sym (length-map xs Char) ∙ full) e)
+
+-- as many elements as before
+pub length-put_items : (to from : Items) (places : List ℕ) → length (cells_of (put_items to from places)) ≡ length (cells_of to)
+length-put_items (Numbers xs) (Numbers ys) places = length-map (put_all (pos 0) xs ys places) Num ∙ length-put_all (pos 0) xs ys places ∙ sym (length-map xs Num)
+length-put_items (Numbers xs) (Characters ys) places = refl
+length-put_items (Characters xs) (Numbers ys) places = refl
+length-put_items (Characters xs) (Characters ys) places = length-map (put_all 0 xs ys places) Char ∙ length-put_all 0 xs ys places ∙ sym (length-map xs Char)
+
+-- the array that they make
+pub written_is : (v b : Arr) (ps : List Places) (to from items : Items) (places : List ℕ) (r : Arr) → AreOnAxes v.shape ps → length (cells_of v.items) ≡ size_of v.shape → to ≡ v.items → from ≡ b.items →
+    places ≡ led v.shape ps → items ≡ put_items to from places → r ≡ record { shape = v.shape; items = items } → written v ps b ≡ r
+written_is v b ps to from items places r f full d e p g h =
+    sym (h ∙ ap made (g ∙ ap (λ (t : Items). put_items t from places) d ∙ ap (λ (t : Items). put_items v.items t places) e ∙ put_items_led v.items b.items v.shape ps places f full p))
+  where
+    made : Items → Arr
+    made t = record { shape = v.shape; items = t }
+
+-- the places after all axes
+pub all_led : (shape s : List ℕ) (ps : List Places) (axes : ℕ) (starts places : List ℕ) → AreOnAxes shape ps → s ≡ shape → length s ≤ axes → reached starts (drop axes s) (drop axes ps) ≡ reached (0 ∷ []) s ps → places ≡ starts →
+    places ≡ led shape ps
+all_led shape s ps axes starts places f d l g e =
+    e ∙ sym (ap (λ (z : List ℕ). reached starts z (drop axes ps)) (drop_all axes s l)) ∙ g ∙ ap (λ (z : List ℕ). reached (0 ∷ []) z ps) d ∙ reached_led shape ps f
+
+-- they lie within, and are so many
+pub led_inside : (shape : List ℕ) (ps : List Places) (places : List ℕ) (n : ℕ) → AreOnAxes shape ps → places ≡ led shape ps → n ≡ size_of shape → All (λ q. q < n) places
+led_inside shape ps places n f e h =
+    let P : List ℕ → Type 0 = λ l. All (λ q. q < n) l in
+    let Q : ℕ → Type 0 = λ m. All (λ q. q < m) (led shape ps) in
+    subst P (sym e) (subst Q (sym h) (led_below shape ps f))
+
+pub enough_led : (shape : List ℕ) (ps : List Places) (places : List ℕ) (n m : ℕ) → places ≡ led shape ps → m ≡ n → AreEnough n (size_of (joined_shape ps)) → AreEnough m (length places)
+enough_led shape ps places n m e g h =
+    let P : ℕ → Type 0 = λ k. AreEnough k (length places) in
+    let Q : ℕ → Type 0 = λ k. AreEnough n k in
+    subst P (sym g) (subst Q (sym (ap length e ∙ length-led shape ps)) h)
