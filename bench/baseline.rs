@@ -13,53 +13,212 @@ struct Fault;
 type Values = Result<Vec<i64>, Fault>;
 
 /// A value for each pair of elements, or the first fault.
-fn both(a: &[i64], b: &[i64], function: impl Fn(i64, i64) -> Option<i64>) -> Values {
-    let mut values = Vec::with_capacity(a.len());
-    for (x, y) in a.iter().zip(b) {
+fn both(a: &Operand, b: &Operand, function: impl Fn(i64, i64) -> Option<i64>) -> Values {
+    let mut values = Vec::with_capacity(a.numbers.len());
+    for (x, y) in a.numbers.iter().zip(&b.numbers) {
         values.push(function(*x, *y).ok_or(Fault)?);
     }
     Ok(values)
 }
 
 /// A value for each element, or the first fault.
-fn each(b: &[i64], function: impl Fn(i64) -> Option<i64>) -> Values {
-    let mut values = Vec::with_capacity(b.len());
-    for y in b {
+fn each(b: &Operand, function: impl Fn(i64) -> Option<i64>) -> Values {
+    let mut values = Vec::with_capacity(b.numbers.len());
+    for y in &b.numbers {
         values.push(function(*y).ok_or(Fault)?);
     }
     Ok(values)
 }
 
-/// A kernel: its name, its function, and its operands' numbers for a place.
-struct Kernel {
-    name: &'static str,
-    function: fn(&[i64], &[i64]) -> Values,
-    a: fn(u64) -> i64,
-    b: fn(u64) -> i64,
+/// An array of numbers: the lengths of a table, or of a vector in one row.
+struct Operand {
+    rows: usize,
+    columns: usize,
+    numbers: Vec<i64>,
 }
 
+/// How many elements an operand has, for a vector's size.
+#[derive(Clone, Copy)]
+enum Form {
+    /// One number.
+    Scalar,
+    Vector,
+    /// A vector whose outer product with one of its length has so many elements.
+    Edge,
+    /// A square table of so many elements.
+    Square,
+    /// A square table whose inner product with one like it multiplies so many elements.
+    Cube,
+}
+use Form::{Cube, Edge, Scalar, Square, Vector};
+
+/// The numbers of an operand for a place, where a vector has so many elements.
+type Numbers = fn(u64, u64) -> i64;
+
+/// A kernel: its name, its function, and its operands A and B.
+struct Kernel(&'static str, fn(&Operand, &Operand) -> Values, (Form, Numbers), (Form, Numbers));
+
 const KERNELS: &[Kernel] = &[
-    Kernel { name: "a+b", function: |a, b| both(a, b, i64::checked_add), a: wide, b: wide },
-    Kernel { name: "a-b", function: |a, b| both(a, b, i64::checked_sub), a: wide, b: wide },
-    Kernel { name: "a×b", function: |a, b| both(a, b, i64::checked_mul), a: wide, b: wide },
-    Kernel { name: "a÷b", function: |a, b| both(a, b, quotient), a: multiple, b: divisor },
-    Kernel { name: "a|b", function: |a, b| both(a, b, residue), a: divisor, b: wide },
-    Kernel { name: "a⌈b", function: |a, b| both(a, b, |x, y| Some(x.max(y))), a: wide, b: wide },
-    Kernel { name: "a≤b", function: |a, b| both(a, b, |x, y| Some(i64::from(x <= y))), a: wide, b: wide },
-    Kernel { name: "a=b", function: |a, b| both(a, b, |x, y| Some(i64::from(x == y))), a: few, b: few },
-    Kernel { name: "a∧b", function: |a, b| both(a, b, and), a: truth, b: truth },
-    Kernel { name: "7+b", function: |a, b| each(b, with(a, i64::checked_add)), a: seven, b: wide },
-    Kernel { name: "7×b", function: |a, b| each(b, with(a, i64::checked_mul)), a: seven, b: wide },
-    Kernel { name: "a÷7", function: |a, b| { let y = b[0]; each(a, |x| quotient(x, y)) }, a: multiple, b: seven },
-    Kernel { name: "7|b", function: |a, b| each(b, with(a, residue)), a: seven, b: wide },
-    Kernel { name: "7≤b", function: |a, b| each(b, with(a, |x, y| Some(i64::from(x <= y)))), a: seven, b: wide },
-    Kernel { name: "-b", function: |_, b| each(b, i64::checked_neg), a: seven, b: wide },
-    Kernel { name: "|b", function: |_, b| each(b, i64::checked_abs), a: seven, b: wide },
+    Kernel("a+b", |a, b| both(a, b, i64::checked_add), (Vector, wide), (Vector, wide)),
+    Kernel("a-b", |a, b| both(a, b, i64::checked_sub), (Vector, wide), (Vector, wide)),
+    Kernel("a×b", |a, b| both(a, b, i64::checked_mul), (Vector, wide), (Vector, wide)),
+    Kernel("a÷b", |a, b| both(a, b, quotient), (Vector, multiple), (Vector, divisor)),
+    Kernel("a|b", |a, b| both(a, b, residue), (Vector, divisor), (Vector, wide)),
+    Kernel("a⌈b", |a, b| both(a, b, |x, y| Some(x.max(y))), (Vector, wide), (Vector, wide)),
+    Kernel("a≤b", |a, b| both(a, b, |x, y| Some(i64::from(x <= y))), (Vector, wide), (Vector, wide)),
+    Kernel("a=b", |a, b| both(a, b, |x, y| Some(i64::from(x == y))), (Vector, few), (Vector, few)),
+    Kernel("a∧b", |a, b| both(a, b, and), (Vector, truth), (Vector, truth)),
+    Kernel("7+b", |a, b| each(b, with(a, i64::checked_add)), (Scalar, seven), (Vector, wide)),
+    Kernel("7×b", |a, b| each(b, with(a, i64::checked_mul)), (Scalar, seven), (Vector, wide)),
+    Kernel("a÷7", |a, b| { let y = b.numbers[0]; each(a, |x| quotient(x, y)) }, (Vector, multiple), (Scalar, seven)),
+    Kernel("7|b", |a, b| each(b, with(a, residue)), (Scalar, seven), (Vector, wide)),
+    Kernel("7≤b", |a, b| each(b, with(a, |x, y| Some(i64::from(x <= y)))), (Scalar, seven), (Vector, wide)),
+    Kernel("-b", |_, b| each(b, i64::checked_neg), (Scalar, seven), (Vector, wide)),
+    Kernel("|b", |_, b| each(b, i64::checked_abs), (Scalar, seven), (Vector, wide)),
+    Kernel("+/b", |_, b| fold_rows(b, i64::checked_add), (Scalar, seven), (Vector, wide)),
+    Kernel("⌈/b", |_, b| fold_rows(b, |x, y| Some(x.max(y))), (Scalar, seven), (Vector, wide)),
+    Kernel("+⌿B", |_, b| fold_columns(b, i64::checked_add), (Scalar, seven), (Square, wide)),
+    Kernel("+/⍉B", |_, b| fold_rows(&turned(b), i64::checked_add), (Scalar, seven), (Square, wide)),
+    Kernel("+\\b", |_, b| fronts(b, i64::checked_add), (Scalar, seven), (Vector, wide)),
+    Kernel("⌈\\b", |_, b| fronts(b, |x, y| Some(x.max(y))), (Scalar, seven), (Vector, wide)),
+    Kernel("⌽b", |_, b| Ok(b.numbers.iter().rev().copied().collect()), (Scalar, seven), (Vector, wide)),
+    Kernel("⍉B", |_, b| Ok(turned(b).numbers), (Scalar, seven), (Square, wide)),
+    Kernel("⍋b", |_, b| Ok(grade(b)), (Scalar, seven), (Vector, wide)),
+    Kernel("b[a]", chosen, (Vector, index), (Vector, wide)),
+    Kernel("a⍳b", |a, b| Ok(places(a, b)), (Vector, member), (Vector, member)),
+    Kernel("a∊b", |a, b| Ok(members(a, b)), (Vector, member), (Vector, member)),
+    Kernel("a∘.×b", |a, b| outer(a, b, i64::checked_mul), (Edge, wide), (Edge, wide)),
+    Kernel("A+.×B", inner, (Cube, divisor), (Cube, divisor)),
 ];
 
+/// The folds of rows from the right.
+fn fold_rows(b: &Operand, function: impl Fn(i64, i64) -> Option<i64>) -> Values {
+    let mut values = Vec::with_capacity(b.rows);
+    for row in b.numbers.chunks_exact(b.columns) {
+        let [first @ .., last] = row else { return Err(Fault) };
+        let fold = first.iter().rev().try_fold(*last, |all, x| function(*x, all));
+        values.push(fold.ok_or(Fault)?);
+    }
+    Ok(values)
+}
+
+/// The folds of columns from below, row by row.
+fn fold_columns(b: &Operand, function: impl Fn(i64, i64) -> Option<i64>) -> Values {
+    let mut rows = b.numbers.chunks_exact(b.columns).rev();
+    let mut values = rows.next().ok_or(Fault)?.to_vec();
+    for row in rows {
+        for (value, x) in values.iter_mut().zip(row) {
+            *value = function(*x, *value).ok_or(Fault)?;
+        }
+    }
+    Ok(values)
+}
+
+/// The folds of the first numbers by an associative function.
+fn fronts(b: &Operand, function: impl Fn(i64, i64) -> Option<i64>) -> Values {
+    let mut values = Vec::with_capacity(b.numbers.len());
+    let mut front = None;
+    for x in &b.numbers {
+        let value = match front {
+            None => *x,
+            Some(front) => function(front, *x).ok_or(Fault)?,
+        };
+        values.push(value);
+        front = Some(value);
+    }
+    Ok(values)
+}
+
+/// A table with its rows for columns.
+fn turned(b: &Operand) -> Operand {
+    let mut numbers = Vec::with_capacity(b.numbers.len());
+    for column in 0..b.columns {
+        numbers.extend(b.numbers.iter().skip(column).step_by(b.columns));
+    }
+    Operand { rows: b.columns, columns: b.rows, numbers }
+}
+
+/// The places from 1 on that put the numbers in order.
+fn grade(b: &Operand) -> Vec<i64> {
+    let mut places: Vec<i64> = (1..=b.numbers.len() as i64).collect();
+    places.sort_by_key(|place| b.numbers[*place as usize - 1]);
+    places
+}
+
+/// The numbers at places from 1 on.
+fn chosen(a: &Operand, b: &Operand) -> Values {
+    let mut values = Vec::with_capacity(a.numbers.len());
+    for place in &a.numbers {
+        let place = usize::try_from(*place).ok().and_then(|place| place.checked_sub(1));
+        values.push(*place.and_then(|place| b.numbers.get(place)).ok_or(Fault)?);
+    }
+    Ok(values)
+}
+
+/// The first place of each number of B among those of A, from 1 on, or the one after all: by sorting both, which takes half the time of
+/// hash tables of std.
+fn places(a: &Operand, b: &Operand) -> Vec<i64> {
+    let (known, sought) = (in_order(&a.numbers), in_order(&b.numbers));
+    let none = a.numbers.len() as i64 + 1;
+    let mut values = vec![none; b.numbers.len()];
+    let mut known = known.into_iter().peekable();
+    for (y, place) in sought {
+        while known.next_if(|(x, _)| *x < y).is_some() {}
+        if let Some((x, first)) = known.peek() && *x == y {
+            values[place] = *first as i64 + 1;
+        }
+    }
+    values
+}
+
+/// Whether each number of A is in B.
+fn members(a: &Operand, b: &Operand) -> Vec<i64> {
+    let mut all = b.numbers.clone();
+    all.sort_unstable();
+    let mut values = vec![0; a.numbers.len()];
+    let mut all = all.into_iter().peekable();
+    for (x, place) in in_order(&a.numbers) {
+        while all.next_if(|y| *y < x).is_some() {}
+        values[place] = i64::from(all.peek() == Some(&x));
+    }
+    values
+}
+
+/// The numbers with their places, in ascending order.
+fn in_order(numbers: &[i64]) -> Vec<(i64, usize)> {
+    let mut pairs: Vec<(i64, usize)> = numbers.iter().copied().zip(0..).collect();
+    pairs.sort_unstable();
+    pairs
+}
+
+/// A function of each number of A with each of B.
+fn outer(a: &Operand, b: &Operand, function: impl Fn(i64, i64) -> Option<i64>) -> Values {
+    let mut values = Vec::with_capacity(a.numbers.len() * b.numbers.len());
+    for x in &a.numbers {
+        for y in &b.numbers {
+            values.push(function(*x, *y).ok_or(Fault)?);
+        }
+    }
+    Ok(values)
+}
+
+/// The sums of products of rows and columns, added row by row.
+fn inner(a: &Operand, b: &Operand) -> Values {
+    let mut values = vec![0i64; a.rows * b.columns];
+    for (row, sums) in a.numbers.chunks_exact(a.columns).zip(values.chunks_exact_mut(b.columns)) {
+        for (x, ys) in row.iter().zip(b.numbers.chunks_exact(b.columns)).rev() {
+            for (sum, y) in sums.iter_mut().zip(ys) {
+                let product = x.checked_mul(*y).ok_or(Fault)?;
+                *sum = product.checked_add(*sum).ok_or(Fault)?;
+            }
+        }
+    }
+    Ok(values)
+}
+
 /// The function with its first operand given.
-fn with(a: &[i64], function: impl Fn(i64, i64) -> Option<i64>) -> impl Fn(i64) -> Option<i64> {
-    let x = a[0];
+fn with(a: &Operand, function: impl Fn(i64, i64) -> Option<i64>) -> impl Fn(i64) -> Option<i64> {
+    let x = a.numbers[0];
     move |y| function(x, y)
 }
 
@@ -94,33 +253,56 @@ fn spread(place: u64) -> u64 {
     twice >> 33
 }
 
-fn seven(_place: u64) -> i64 {
+fn seven(_place: u64, _size: u64) -> i64 {
     7
 }
 
-fn wide(place: u64) -> i64 {
+fn wide(place: u64, _size: u64) -> i64 {
     spread(place) as i64 - 0x4000_0000
 }
 
-fn few(place: u64) -> i64 {
+fn few(place: u64, _size: u64) -> i64 {
     spread(place) as i64 % 8
 }
 
-fn truth(place: u64) -> i64 {
+fn truth(place: u64, _size: u64) -> i64 {
     spread(place) as i64 % 2
 }
 
-fn divisor(place: u64) -> i64 {
+fn divisor(place: u64, _size: u64) -> i64 {
     1 + spread(place) as i64 % 1000
 }
 
 /// A multiple of 7 and of the second operand's divisor at the same place.
-fn multiple(place: u64) -> i64 {
-    divisor(place.wrapping_add(APART)) * 7 * (spread(place) as i64 % 65_536)
+fn multiple(place: u64, size: u64) -> i64 {
+    divisor(place.wrapping_add(APART), size) * 7 * (spread(place) as i64 % 65_536)
 }
 
-fn operand(numbers: fn(u64) -> i64, from: u64, size: u64) -> Vec<i64> {
-    (0..size).map(|place| numbers(from.wrapping_add(place))).collect()
+/// 1 to the number of elements.
+fn index(place: u64, size: u64) -> i64 {
+    1 + (spread(place) % size) as i64
+}
+
+/// 0 to twice the number of elements, so that about half of those of one operand are in the other one.
+fn member(place: u64, size: u64) -> i64 {
+    (spread(place) % (2 * size)) as i64
+}
+
+/// The side of the largest square, or with a power of 3 of the largest cube, of at most so many elements.
+fn side(size: u64, power: u32) -> u64 {
+    (1..=1000u64).take_while(|side| side.pow(power) <= size).last().unwrap_or(0)
+}
+
+fn operand((form, numbers): (Form, Numbers), from: u64, size: u64) -> Operand {
+    let (rows, columns) = match form {
+        Scalar => (1, 1),
+        Vector => (1, size),
+        Edge => (1, side(size, 2)),
+        Square => (side(size, 2), side(size, 2)),
+        Cube => (side(size, 3), side(size, 3)),
+    };
+    let numbers = (0..rows * columns).map(|place| numbers(from.wrapping_add(place), size));
+    Operand { rows: rows as usize, columns: columns as usize, numbers: numbers.collect() }
 }
 
 /// A number that tells results apart: each element weighs in by its place.
@@ -148,18 +330,18 @@ fn processor_time() -> u128 {
 }
 
 /// Times one kernel. The first application, from which the checksum is taken, is not timed.
-fn time(kernel: &Kernel, size: u64, repeats: u64) -> Result<(), Fault> {
-    let a = operand(kernel.a, 0, size);
-    let b = operand(kernel.b, APART, size);
-    let mut result = (kernel.function)(&a, &b)?;
-    println!("{} {}", kernel.name, checksum(&result));
+fn time(Kernel(name, function, a, b): &Kernel, size: u64, repeats: u64) -> Result<(), Fault> {
+    let a = operand(*a, 0, size);
+    let b = operand(*b, APART, size);
+    let mut result = function(&a, &b)?;
+    println!("{name} {}", checksum(&result));
     let start = processor_time();
     for _ in 0..repeats {
-        result = black_box((kernel.function)(black_box(&a), black_box(&b))?);
+        result = black_box(function(black_box(&a), black_box(&b))?);
     }
     let spent = processor_time() - start;
     drop(result);
-    eprintln!("{} {}", kernel.name, spent / u128::from(repeats.max(1)));
+    eprintln!("{name} {}", spent / u128::from(repeats.max(1)));
     Ok(())
 }
 

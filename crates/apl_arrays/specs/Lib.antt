@@ -13,3 +13,4 @@ pub mod Joins
 pub mod Kinds
 pub mod Checks
 pub mod Along
+pub mod Equality

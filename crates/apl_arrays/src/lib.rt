@@ -8,6 +8,7 @@ mod cell;
 mod cells;
 mod checks;
 mod elements;
+mod equality;
 mod gather;
 mod join;
 mod laws;
@@ -33,6 +34,8 @@ pub use view_elements::ViewElements;
 
 #[cfg(test)]
 mod check_tests;
+#[cfg(test)]
+mod equality_tests;
 #[cfg(test)]
 mod tests;
 #[cfg(test)]

@@ -1,6 +1,8 @@
-//! Times the scalar functions. For each kernel it writes a checksum of the result on standard output, and on standard error the nanoseconds
+//! Times primitive functions and operators. For each kernel it writes a checksum of the result on standard output, and on standard error the nanoseconds
 //! of processor time that one application takes, on the average of so many.
 #![tactic(auto)]
+
+ghost use Rattle.std.specs.Prelude.{◌<◌};
 
 mod kernels;
 mod operands;
@@ -63,15 +65,16 @@ fn time<R: CpuClock + Print + Eprint + AllocGlobal>(
     kernel: &Kernel,
     size: u64,
     repeats: u64,
-) -> Result<(), Ended> {
+) -> Result<(), Ended>
+    requires { 0 < size }
+{
     let alloc = rt.alloc();
-    let a = kernel.left(alloc, size)?;
-    let b = kernel.right(alloc, size)?;
-    let mut result = kernel.apply(alloc, &a, &b)?;
+    let operands = kernel.operands(alloc, size)?;
+    let mut result = kernel.apply(alloc, &operands)?;
     println!(rt; "{} {}", kernel.name(), checksum(&result))?;
     let start = rt.thread_cpu_time()?;
     for _ in 0..repeats {
-        result = kernel.apply(alloc, &a, &b)?;
+        result = kernel.apply(alloc, &operands)?;
     }
     let spent = rt.thread_cpu_time()?.saturating_sub(start);
     eprintln!(rt;
@@ -98,7 +101,7 @@ fn run<R: CpuClock + Env + Print + Eprint + AllocGlobal>(rt: &R) -> Result<(), E
     for kernel in KERNELS {
         if is_asked(plan.kernel, kernel) {
             found = true;
-            time(rt, kernel, plan.size, plan.repeats)?;
+            time(rt, kernel, plan.size.max(1), plan.repeats)?;
         }
     }
     if !found {

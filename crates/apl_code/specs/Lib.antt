@@ -1,1 +1,3 @@
+pub mod Names
+pub mod Instr
 pub mod Code

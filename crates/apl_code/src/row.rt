@@ -3,7 +3,7 @@
 use apl_symbols::{Name, Operator, Primitive, SystemName};
 
 /// What stands as a function.
-#[derive(Clone, Copy, PartialEq, Eq, Debug)]
+#[derive(Clone, Copy, PartialEq, Eq, Hash, Debug)]
 pub enum Function {
     Primitive(Primitive),
     Name(Name),
@@ -11,7 +11,7 @@ pub enum Function {
 }
 
 /// What is read, assigned to or called without arguments.
-#[derive(Clone, Copy, PartialEq, Eq, Debug)]
+#[derive(Clone, Copy, PartialEq, Eq, Hash, Debug)]
 pub enum Variable {
     Name(Name),
     System(SystemName),

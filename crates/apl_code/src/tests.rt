@@ -22,7 +22,7 @@ fn sum(alloc: Global) -> Result<Code, AllocError> {
     instructions.push(Instr {
         action: Action::End(Ending::Shown),
         arguments: Arguments::new(last),
-        at: 1,
+        at: 0,
     })?;
     Ok(Code::new(instructions))
 }
@@ -39,7 +39,7 @@ fn copies(rt: HostRuntime) -> Result<(), Fail> {
         if let (Some(a), Some(b)) = (first, copy.instr(k)) {
             assert_eq!(rt; a.action, b.action);
             assert_eq!(rt; a.arguments.as_slice(), b.arguments.as_slice());
-            assert_eq!(rt; a.at, 2 - k);
+            assert_eq!(rt; a.at, 2 - 2 * k);
         }
     }
     Ok(())

@@ -3,6 +3,7 @@ ghost use Rattle.std.specs.Prelude.{◌≡◌, ◌<◌, ◌+◌, length, pos, Ok
 ghost use Rattle.apl_folds.specs.Chains.{IsAssociative};
 ghost use Rattle.apl_folds.specs.Lines.{fold_by, line_of, IsLine};
 
+use crate::columns::push_columns;
 use crate::line::{fold_line, nth};
 use crate::walk::Leaf;
 use apl_arrays::{Axis, Stop};
@@ -60,5 +61,15 @@ impl<'a, F: Scalar> Leaf for Chain<'a, F> {
             }
         }
         Ok(())
+    }
+
+    fn push_columns(
+        &self,
+        from: usize,
+        till: usize,
+        count: usize,
+        out: &mut Vec<i64>,
+    ) -> Result<(), Stop> {
+        push_columns::<F>(self.numbers, &self.axis, from, till, count, out)
     }
 }

@@ -3,6 +3,7 @@
 
 mod chains;
 mod characters;
+mod columns;
 mod fold;
 mod line;
 mod lines;

@@ -3,9 +3,10 @@ ghost use Rattle.std.specs.Prelude.{◌≡◌, ◌^◌, ◌<◌, ◌≤◌, ◌+
 ghost use Rattle.apl_arrays.specs.Strides.{step_at};
 ghost use Rattle.apl_folds.specs.Lines.{fold_by, line_of, IsLine};
 
+use crate::columns::push_columns;
 use crate::fold::fold_right;
 use crate::walk::Leaf;
-use apl_arrays::{Axis, along};
+use apl_arrays::{Axis, Stop, along};
 use apl_faults::Fault;
 use apl_scalar::Scalar;
 use std::marker::PhantomData;
@@ -85,5 +86,15 @@ impl<'a, F: Scalar> Leaf for Fold<'a, F> {
 
     fn value(&self, at: usize, count: usize) -> Result<i64, Fault> {
         fold_line::<F>(self.numbers, &self.axis, at, count)
+    }
+
+    fn push_columns(
+        &self,
+        from: usize,
+        till: usize,
+        count: usize,
+        out: &mut Vec<i64>,
+    ) -> Result<(), Stop> {
+        push_columns::<F>(self.numbers, &self.axis, from, till, count, out)
     }
 }

@@ -5,11 +5,13 @@ ghost use Rattle.apl_scalar.specs.Functions.{dyadic_of};
 ghost use Rattle.apl_folds.specs.Lines.{fold_by, line_of, IsLine};
 ghost use Rattle.apl_folds.specs.Sums.{IsRunning};
 
+use crate::columns::push_columns;
 use crate::line::nth;
 use crate::sums::{add, sum_line};
 use crate::walk::Leaf;
 use apl_arrays::{Axis, Stop};
 use apl_faults::Fault;
+use apl_scalar::Sum;
 
 /// The sums of magnitudes below which sums are exact, 2^63.
 const EXACT: u64 = 0x8000_0000_0000_0000;
@@ -84,5 +86,15 @@ impl<'a> Leaf for Total<'a> {
             }
         }
         Ok(())
+    }
+
+    fn push_columns(
+        &self,
+        from: usize,
+        till: usize,
+        count: usize,
+        out: &mut Vec<i64>,
+    ) -> Result<(), Stop> {
+        push_columns::<Sum>(self.numbers, &self.axis, from, till, count, out)
     }
 }

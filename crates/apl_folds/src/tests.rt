@@ -139,6 +139,62 @@ fn axes_by_name(rt: HostRuntime) -> Result<(), Fail> {
     Ok(())
 }
 
+/// Lines that begin side by side are folded together, a row at a time.
+#[test]
+fn columns(rt: HostRuntime) -> Result<(), Fail> {
+    let alloc = rt.alloc();
+    let table = array(
+        alloc,
+        &[3, 8],
+        &[
+            1, 2, 3, 4, 5, 6, 7, 8, 9, 10, 11, 12, 13, 14, 15, 16, 17, 18, 19, 20, 21, 22, 23, 24,
+        ],
+    )?;
+    let sums = reduce(alloc, Dyadic::Plus, Along::First, &table, 1);
+    assert!(rt; is_array(&sums, &[8], &[27, 30, 33, 36, 39, 42, 45, 48]));
+    let differences = reduce(alloc, Dyadic::Minus, Along::First, &table, 1);
+    assert!(rt; is_array(&differences, &[8], &[9, 10, 11, 12, 13, 14, 15, 16]));
+    let most = reduce(alloc, Dyadic::Maximum, Along::First, &table, 1);
+    assert!(rt; is_array(&most, &[8], &[17, 18, 19, 20, 21, 22, 23, 24]));
+    let fronts = scan(alloc, Dyadic::Plus, Along::First, &table, 1);
+    assert!(rt;
+        is_array(
+            &fronts,
+            &[3, 8],
+            &[
+                1, 2, 3, 4, 5, 6, 7, 8, 10, 12, 14, 16, 18, 20, 22, 24, 27, 30, 33, 36, 39, 42, 45,
+                48,
+            ]
+        )
+    );
+    Ok(())
+}
+
+/// One column that leaves 64 bits on the way from below is the fault of all, though its sum would fit; another order of it is none.
+#[test]
+fn columns_at_the_limit(rt: HostRuntime) -> Result<(), Fail> {
+    let alloc = rt.alloc();
+    let wide = array(
+        alloc,
+        &[3, 8],
+        &[
+            1, 1, 1, 1, 1, 1, 1, -1, 1, 1, 1, 1, 1, 1, 1, MOST, 1, 1, 1, 1, 1, 1, 1, 1,
+        ],
+    )?;
+    let limit = reduce(alloc, Dyadic::Plus, Along::First, &wide, 1);
+    assert!(rt; is_fault(&limit, Fault::Limit));
+    let near = array(
+        alloc,
+        &[3, 8],
+        &[
+            1, 1, 1, 1, 1, 1, 1, 1, 1, 1, 1, 1, 1, 1, 1, -1, 1, 1, 1, 1, 1, 1, 1, MOST,
+        ],
+    )?;
+    let sums = reduce(alloc, Dyadic::Plus, Along::First, &near, 1);
+    assert!(rt; is_array(&sums, &[8], &[3, 3, 3, 3, 3, 3, 3, MOST]));
+    Ok(())
+}
+
 /// A view whose rows go backward.
 #[test]
 fn views(rt: HostRuntime) -> Result<(), Fail> {

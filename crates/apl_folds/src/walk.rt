@@ -1,5 +1,5 @@
 // Walks over the index lists of axes, each of which leads to the beginning of a line.
-ghost use Rattle.std.specs.Prelude.{◌≡◌, ◌^◌, ◌∷◌, ℕ, ℤ, List, Result, ◌<◌, ◌≤◌, ◌+◌, ◌*◌, length, true, IfSome, IsTrue, Some, []};
+ghost use Rattle.std.specs.Prelude.{◌≡◌, ◌^◌, ◌∷◌, ℕ, ℤ, List, Result, ◌<◌, ◌≤◌, ◌+◌, ◌-◌, ◌*◌, length, true, IfSome, IsTrue, Some, None, []};
 ghost use Rattle.std.specs.List.{range_with_len};
 ghost use Rattle.apl_faults.specs.declared.fault.Fault.{Fault};
 ghost use Rattle.apl_arrays.specs.Answers.{Appends};
@@ -31,6 +31,27 @@ pub(crate) trait Leaf {
     {
         for k in 0..length {
             match self.value(at, k + 1) {
+                Ok(value) => out.push(value)?,
+                Err(fault) => return Err(Stop::Fault(fault)),
+            }
+        }
+        Ok(())
+    }
+
+    /// Appends what it makes of so many items of each of the lines that begin from one place to another, side by side.
+    fn push_columns(
+        &self,
+        from: usize,
+        till: usize,
+        count: usize,
+        out: &mut Vec<i64>,
+    ) -> Result<(), Stop>
+        requires order { from ≤ till }
+        requires lines { (p : ℕ) → from ≤ p → p < till → has self.now p count }
+        ensures { Appends out.old.items out.new.items (all_ok (λ p. gives self.now p count) (range_with_len from (till - from))) result }
+    {
+        for at in from..till {
+            match self.value(at, count) {
                 Ok(value) => out.push(value)?,
                 Err(fault) => return Err(Stop::Fault(fault)),
             }
@@ -86,6 +107,19 @@ fn is_along(start: Start, rest: &[Axis]) -> bool
     }
 }
 
+/// Below this many lines side by side each is taken alone.
+const FEW: usize = 8;
+
+/// Whether the next axis is the last one, and the lines begin side by side along it, and many of them.
+fn is_beside(start: Start, axis: &Axis, rest: &[Axis]) -> bool
+    ensures { IsTrue result → (rest.now ≡ []) × (start.depth ≡ None) × (axis.now.up ≡ 1) × (axis.now.down ≡ 0) }
+{
+    match start.depth {
+        None => { rest.is_empty() && axis.up == 1 && axis.down == 0 && FEW <= axis.length }
+        Some(_) => false,
+    }
+}
+
 /// Appends what a leaf makes of each line, in the order of the index lists.
 pub(crate) fn walk<L: Leaf>(
     leaf: &L,
@@ -109,6 +143,10 @@ pub(crate) fn walk<L: Leaf>(
         [axis, rest @ ..] => {
             if is_along(start, rest) {
                 leaf.push_fronts(start.at, axis.length, out)?;
+                return Ok(());
+            }
+            if is_beside(start, axis, rest) {
+                leaf.push_columns(start.at, start.at + axis.length, start.count, out)?;
                 return Ok(());
             }
             for index in 0..axis.length {

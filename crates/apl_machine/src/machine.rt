@@ -1,19 +1,26 @@
 //! The machine.
-ghost use Rattle.std.specs.Prelude.{◌≡◌, ◌↔◌, [], ◌∷◌, ◌++◌, Some, None, IfOk, IfSome, IfNone, OnOk, OnErr, IsErrOf, IsFalse, IsTrue};
+ghost use Rattle.std.specs.Prelude.{◌≡◌, ◌↔◌, [], ◌∷◌, ◌++◌, Some, None, IfOk, IfSome, IfNone, OnOk, OnErr, IsErrOf, IsFalse, IsTrue, option_copied};
 ghost use Rattle.apl_machine_state.specs.Items.{Rest};
-ghost use Rattle.apl_machine_state.specs.Environment.{rest_at};
+ghost use Rattle.apl_machine_state.specs.Environment.{class_of, rest_at};
 ghost use Rattle.apl_machine_state.specs.Frames.{IsFrame};
-ghost use Rattle.apl_machine_state.specs.State.{State, clear, is_idle, step, turn, progress, interrupt, with_lines};
+ghost use Rattle.apl_machine_state.specs.State.{State, clear, is_idle, step, turn, progress, interrupt, value_of, with_lines};
+ghost use Rattle.apl_machine.specs.Statements.{lines_of, maps_after, origin_after};
 ghost use Rattle.apl_machine_state.specs.Beginning.{begun};
 
 use crate::change::{Change, change_of};
 use crate::frame::Frame;
+use crate::perform::Deed;
 use crate::reports::{token_fault, typed_fault};
+use crate::scene::Scene;
 use crate::statement::{Statement, colon_of};
+use apl_arrays::Array;
 use apl_charset::{Ch, Text};
 use apl_faults::Fault;
 use apl_machine_state::{OutLine, Progress};
+use apl_names::Names;
+use apl_symbols::{Class, Name};
 use apl_tokens::tokens;
+use apl_translate::Cache;
 use std::alloc::{AllocError, Global};
 use std::marker::Model;
 use std::mem;
@@ -23,18 +30,26 @@ use thiserror::Error;
 #[derive(Drop)]
 pub struct Machine {
     alloc: Global,
+    names: Names,
+    /// The index origin of the workspace: 0 or 1.
+    io: usize,
+    /// The translations of the lines that began last.
+    cache: Cache,
     statement: Option<Statement>,
     output: Vec<OutLine>,
 }
 
 impl Model for Machine {
+    ghost use Rattle.std.specs.Prelude.{◌≤◌};
     ghost use Rattle.apl_machine_state.specs.State.{State, clear};
 
     ghost Value = { State };
 
-    ghost use Rattle.apl_machine.specs.Statements.{contexts_of};
+    ghost use Rattle.apl_machine.specs.Statements.{IsAlone, contexts_of, world_of};
 
-    ghost view = { λ m. record clear { contexts = contexts_of m.statement; output = m.output.items } };
+    ghost view = { λ m. record clear { world = world_of m.names m.io; contexts = contexts_of m.statement; output = m.output.items } };
+
+    ghost invariant = { λ m. IsAlone m.names × (m.io ≤ 1) };
 }
 
 /// Why a line did not begin.
@@ -59,6 +74,35 @@ impl From<AllocError> for BeginError {
     }
 }
 
+/// Does what a phrase does beside giving its value. After an error nothing has changed.
+fn commit(
+    deed: Deed,
+    names: &mut Names,
+    io: &mut usize,
+    output: &mut Vec<OutLine>,
+) -> Result<(), AllocError>
+    ensures names { OnOk result (names.new ≡ maps_after deed names.old) }
+    ensures io { OnOk result (io.new ≡ origin_after deed io.old) }
+    ensures output { OnOk result (output.new.items ≡ output.old.items ++ lines_of deed) }
+    ensures err { OnErr result ((names.new ≡ names.old) × (io.new ≡ io.old) × (output.new.items ≡ output.old.items)) }
+{
+    match deed {
+        Deed::Nothing => Ok(()),
+        Deed::Writes(mut lines) => {
+            output.append(&mut lines)?;
+            Ok(())
+        }
+        Deed::Assigns(name, array) => {
+            names.assign(&name, array)?;
+            Ok(())
+        }
+        Deed::SetsOrigin(origin) => {
+            *io = origin;
+            Ok(())
+        }
+    }
+}
+
 impl Machine {
     /// A clear workspace. It takes no memory.
     pub fn new(alloc: Global) -> Self
@@ -66,6 +110,9 @@ impl Machine {
     {
         Machine {
             alloc,
+            names: Names::new(alloc),
+            io: 1,
+            cache: Cache::new(alloc),
             statement: None,
             output: Vec::new(alloc),
         }
@@ -95,7 +142,13 @@ impl Machine {
                     self.output.append(&mut lines)?;
                     return Ok(());
                 }
-                let statement = Statement::begin(self.alloc, text, tokens.as_slice())?;
+                let statement = Statement::begin(
+                    self.alloc,
+                    &self.names,
+                    &mut self.cache,
+                    text,
+                    tokens.as_slice(),
+                )?;
                 self.statement = Some(statement);
                 Ok(())
             }
@@ -117,16 +170,15 @@ impl Machine {
         let Some(statement) = &self.statement else {
             return Ok(Progress::Idle);
         };
-        match change_of(self.alloc, statement)? {
-            Change::Keeps => {
+        let scene = Scene {
+            names: &self.names,
+            io: self.io,
+        };
+        match change_of(self.alloc, scene, statement)? {
+            Change::Goes(given, left, deed) => {
+                commit(deed, &mut self.names, &mut self.io, &mut self.output)?;
                 if let Some(statement) = &mut self.statement {
-                    statement.line.keep();
-                }
-                Ok(Progress::Running)
-            }
-            Change::Gives(operand, left) => {
-                if let Some(statement) = &mut self.statement {
-                    statement.line.go_on(left, operand);
+                    statement.go_on(given, left);
                 }
                 Ok(Progress::Running)
             }
@@ -171,6 +223,25 @@ impl Machine {
         ensures rest { self.new ≡ record self.old { output = [] } }
     {
         mem::replace(&mut self.output, Vec::new(self.alloc))
+    }
+
+    /// The value of a name, as a statement that begins now would read it, if it has one.
+    pub fn value(&self, name: &Name) -> Option<&Array>
+        ensures { option_copied result ≡ value_of self.now name.now }
+    {
+        self.names.lookup(name)
+    }
+
+    /// What a name stands for now.
+    pub fn class_of(&self, name: &Name) -> Class
+        ensures { result ≡ class_of self.now.world self.now.contexts name.now }
+    {
+        self.names.class_of(name)
+    }
+
+    /// The translations of the lines that began last. They change no answer.
+    pub fn cache(&self) -> &Cache {
+        &self.cache
     }
 
     /// The line that the k-th newest context is doing, counted from 0. There is none where that

@@ -1,16 +1,19 @@
 //! Operands of instructions.
-ghost use Rattle.std.specs.Prelude.{◌≡◌, ◌≤◌, ◌↔◌, IsTrue, length, reverse, take, List, [], ◌∷◌, Option, Some, option_copied, option_map};
+ghost use Rattle.std.specs.Prelude.{◌≡◌, ◌≤◌, ◌<◌, IfOk, length, reverse, take, List, [], ◌∷◌, Option, Some, option_copied, option_map};
 ghost use Rattle.apl_code.specs.declared.instr.Source.{Source};
 ghost use Rattle.apl_machine.specs.Flat.{AreThere, fetched, fetched_one, unfetched_one, unfetched};
-ghost use Rattle.apl_machine.specs.Effects.{operand_of, only, one_value};
+ghost use Rattle.apl_arrays.specs.Cells.{Arr};
+ghost use Rattle.apl_machine_state.specs.declared.operand.Operand.TheVariants.{Value};
+ghost use Rattle.apl_machine.specs.Effects.{EndsInValue, last_value, next_operands, operand_of, only, one_value};
+ghost use Rattle.apl_machine_state.specs.Items.{constant_at};
 ghost use Rattle.apl_machine_state.specs.Outcomes.{taken_of, taken_one, taken_two, taken_three};
 ghost use Rattle.apl_primitives.specs.Taken.{taken};
-ghost use Rattle.apl_code.specs.declared.instr.Source.TheVariants.{Stack};
 
 use apl_arrays::Array;
 use apl_code::Source;
 use apl_machine_state::{Operand, Slots};
 use apl_primitives::Arguments;
+use std::alloc::AllocError;
 
 /// An operand where it lies: a constant of the line, or on the operand stack.
 #[derive(Clone, Copy)]
@@ -61,13 +64,6 @@ fn only(sources: &[Option<Source>]) -> Option<Source>
         [Some(source)] => Some(*source),
         _ => None,
     }
-}
-
-/// Whether an instruction takes the top of the stack alone.
-pub fn is_top(sources: &[Option<Source>]) -> bool
-    ensures { IsTrue result ↔ (only sources.now ≡ Some Stack) }
-{
-    matches!(only(sources), Some(Source::Stack))
 }
 
 /// The value that an instruction takes, if it takes one value alone.
@@ -184,4 +180,46 @@ pub fn left(sources: &[Option<Source>], stack: &[Operand]) -> usize
         left = left_beneath(*source, left, stack);
     }
     left
+}
+
+/// What a phrase gives.
+#[derive(Drop)]
+pub enum Given {
+    /// This.
+    New(Operand),
+    /// An operand that lies on the stack, as it is.
+    Stays,
+}
+
+/// A copy of a constant of the line.
+fn constant(operands: Operands<'_>, k: usize) -> Result<Array, AllocError>
+    requires { k < length operands.constants.now }
+    ensures { IfOk result (λ array. array ≡ constant_at operands.entry.constants.now k) }
+{
+    operands.constants[k].copy()
+}
+
+/// The value of the last operand, and how many operands are left: up to that value where it stays on the stack, and beneath
+/// those that the instruction takes where it is new.
+pub fn last_operand(
+    sources: &[Option<Source>],
+    operands: Operands<'_>,
+) -> Result<(Given, usize), AllocError>
+    requires there { AreThere (length operands.constants.now) sources.now (length operands.stack.now) }
+    requires value { EndsInValue (fetched operands.constants.now sources.now (reverse operands.stack.now)) }
+    ensures within { IfOk result (λ r. r.1 ≤ length operands.entry.stack.now) }
+    ensures value { IfOk result (λ r. (b : Arr) → last_value (fetched operands.entry.constants.now sources.now (reverse operands.entry.stack.now)) ≡ Some b → reverse (next_operands r.0 r.1 operands.entry.stack.now) ≡ Value b ∷ unfetched sources.now (reverse operands.entry.stack.now)) }
+{
+    let Some((last, others)) = sources.split_last() else {
+        unreachable!()
+    };
+    let left = left(others, operands.stack);
+    let Some(last) = last else { unreachable!() };
+    match last {
+        Source::Stack => Ok((Given::Stays, left)),
+        Source::Constant(k) => {
+            let value = constant(operands, *k)?;
+            Ok((Given::New(Operand::Value(value)), left))
+        }
+    }
 }

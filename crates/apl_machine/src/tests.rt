@@ -38,7 +38,11 @@ fn typed_lines(rt: HostRuntime) -> Result<(), Fail> {
         ("2+3+", 1, "SYNTAX ERROR\n      2+3+\n         ^\n"),
         ("(2+3", 0, "SYNTAX ERROR\n      (2+3\n      ^\n"),
         ("A:1", 0, "SYNTAX ERROR\n      A:1\n       ^\n"),
-        ("→5", 1, "SYNTAX ERROR\n      →5\n      ^\n"),
+        ("→5", 1, ""),
+        ("→", 1, ""),
+        ("→'A'", 1, "DOMAIN ERROR\n      →'A'\n      ^\n"),
+        ("⎕LC", 2, "\n"),
+        ("⎕←2+3", 3, "5\n"),
     ];
     for (line, steps, want) in rows {
         let mut machine = begun(rt.alloc(), line)?;

@@ -1,6 +1,5 @@
 -- What a typed text makes of an idle state.
 use Rattle.std.specs.Prelude.{ℕ, List, [], ◌∷◌, map, Option, Some, None, Result, Ok, Err}
-use Rattle.apl_faults.specs.declared.fault.Fault.{Fault}
 use Rattle.apl_faults.specs.declared.fault.Fault.TheVariants.{Syntax, Limit as LimitFault}
 use Rattle.apl_faults.specs.Report.{report}
 use Rattle.apl_symbols.specs.declared.symbol.Symbol.TheVariants.{Colon}

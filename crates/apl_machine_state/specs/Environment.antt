@@ -1,57 +1,84 @@
 -- Contexts, and the environment that they and the workspace make.
-use Rattle.std.specs.Prelude.{ℕ, zero, suc, List, [], ◌∷◌, Bool, true, false, Option, Some, None, if◌then◌else◌}
-use Rattle.std.specs.Str.{bytes_eq}
-use Rattle.apl_arrays.specs.Cells.{Arr}
+use Rattle.std.specs.Prelude.{ℕ, zero, suc, ℤ, pos, List, [], ◌∷◌, drop, Bool, true, false, Option, Some, None}
+use Rattle.apl_arrays.specs.Cells.{Items, Numbers}
 use Rattle.apl_symbols.specs.declared.class.Class.{Class}
-use Rattle.apl_symbols.specs.declared.class.Class.TheVariants as classes
+use Rattle.apl_names.specs.declared.binding.Binding.{Binding}
+use Rattle.apl_names.specs.declared.binding.Binding.TheVariants.{Value}
+use Rattle.apl_names.specs.Maps.{Map, found, class_in}
 use Rattle.apl_defn.specs.Definitions.{Text, Definition}
-use Rattle.apl_machine_state.specs.Definitions.{Vectors, function_named}
+use Rattle.apl_machine_state.specs.Definitions.{Vectors}
 use Rattle.apl_machine_state.specs.Items.{Rest}
 
--- what a map gives a name: a value, no value, or the number of a label's line
-pub data Slot : Type 0 where
-  Holds : Arr → Slot
-  Empty : Slot
-  Label : ℕ → Slot
-
--- the map of a standing call
-abbrev pub Locals : Type 0
-Locals = List (Text × Slot)
-
--- An immediate statement, or a call of a function at one of its lines. A call without a rest is suspended before its line.
+-- An immediate statement, or a call of a function at one of its lines, with the map of its names. A call without a rest is suspended before its line.
 pub data Context : Type 0 where
   Statement : (text : Text) (rest : Rest) → Context
-  Call : (definition : Definition) (at : ℕ) (locals : Locals) (rest : Option Rest) → Context
+  Call : (definition : Definition) (at : ℕ) (locals : Map) (rest : Option Rest) → Context
 
--- what a line sees beside the contexts: the global functions and their trace vectors, the global variables, the index origin
+-- what a line sees beside the contexts: the global functions and their trace vectors, the global map of names, the global index origin
 pub record World : Type 0 where
   pub functions : List Definition
   pub traces : Vectors
-  pub variables : List (Text × Arr)
+  pub globals : Map
   pub io : ℕ
 
--- the map has the name
-abbrev pub has : Text → Locals → Bool
-has name [] = false
-has name (entry ∷ locals) = if bytes_eq entry.0 name then true else has name locals
+-- the environment: the maps of the standing calls, newest first, and the global map
+abbrev pub environment : World → List Context → List Map
+environment w [] = w.globals ∷ []
+environment w (Statement text rest ∷ below) = environment w below
+environment w (Call d at locals rest ∷ below) = locals ∷ environment w below
 
--- some standing call's map has the name
-abbrev pub is_local : Text → List Context → Bool
-is_local name [] = false
-is_local name (Call d at locals rest ∷ below) = if has name locals then true else is_local name below
-is_local name (Statement text rest ∷ below) = is_local name below
+-- the first map, and the others
+abbrev pub first_map : List Map → Map
+first_map [] = []
+first_map (m ∷ ms) = m
 
-abbrev pub class_by_right : Option Text → Class
-class_by_right None = classes.Niladic
-class_by_right (Some b) = classes.Function
+-- the contexts with these maps for their calls
+abbrev pub with_maps : List Map → List Context → List Context
+with_maps ms [] = []
+with_maps ms (Statement text rest ∷ below) = Statement text rest ∷ with_maps ms below
+with_maps ms (Call d at locals rest ∷ below) = Call d at (first_map ms) rest ∷ with_maps (drop 1 ms) below
 
-abbrev pub class_of_function : Option Definition → Class
-class_of_function None = classes.Variable
-class_of_function (Some d) = class_by_right d.header.right
+-- the map that the contexts leave over: the global one
+abbrev pub left_over : List Map → List Context → Map
+left_over ms [] = first_map ms
+left_over ms (Statement text rest ∷ below) = left_over ms below
+left_over ms (Call d at locals rest ∷ below) = left_over (drop 1 ms) below
 
--- the class of a name: of a local or a label, of a global function, else a variable's
+-- the class of a name, as the newest map that has it says
 abbrev pub class_of : World → List Context → Text → Class
-class_of w contexts name = if is_local name contexts then classes.Variable else class_of_function (function_named name w.functions)
+class_of w contexts name = class_in (found (environment w contexts) name)
+
+-- the line numbers of the standing calls, newest first
+abbrev pub line_numbers : List Context → List ℤ
+line_numbers [] = []
+line_numbers (Statement text rest ∷ below) = line_numbers below
+line_numbers (Call d at locals rest ∷ below) = pos at ∷ line_numbers below
+
+-- what a phrase sees beside its operands: the environment, the global index origin, the line numbers of the standing calls
+pub record Scene : Type 0 where
+  pub maps : List Map
+  pub io : ℕ
+  pub lines : List ℤ
+
+abbrev pub scene : World → List Context → Scene
+scene w contexts = record { maps = environment w contexts; io = w.io; lines = line_numbers contexts }
+
+-- ⎕IO, as the maps of calls know it
+abbrev pub origin_name : Text
+origin_name = 0x2395 ∷ 73 ∷ 79 ∷ []
+
+-- the origin that an array stands for, which holds 0 or 1
+abbrev pub origin_in : Items → ℕ
+origin_in (Numbers (pos zero ∷ ns)) = 0
+origin_in items = 1
+
+-- the newest map that has ⎕IO says what it is, and else the workspace
+abbrev pub origin_by : Option Binding → ℕ → ℕ
+origin_by (Some (Value a)) io = origin_in a.items
+origin_by binding io = io
+
+abbrev pub index_origin : Scene → ℕ
+index_origin s = origin_by (found s.maps origin_name) s.io
 
 abbrev pub rest_of : Context → Option Rest
 rest_of (Statement text rest) = Some rest
@@ -75,3 +102,9 @@ is_suspended (Some rest) = false
 abbrev pub is_idle_in : List Context → Bool
 is_idle_in [] = true
 is_idle_in (context ∷ below) = is_suspended (rest_of context)
+
+-- the contexts behind the nearest immediate statement
+abbrev pub behind_statement : List Context → List Context
+behind_statement [] = []
+behind_statement (Statement text rest ∷ below) = below
+behind_statement (Call d at locals rest ∷ below) = behind_statement below

@@ -1,5 +1,5 @@
 -- The lines that report a fault, and what it leaves of the contexts.
-use Rattle.std.specs.Prelude.{ℕ, Bool, List, [], ◌∷◌, map, Option, Some, None, false}
+use Rattle.std.specs.Prelude.{ℕ, List, [], ◌∷◌, map, Some, None, false}
 use Rattle.apl_faults.specs.declared.fault.Fault.{Fault}
 use Rattle.apl_faults.specs.Report.{report}
 use Rattle.apl_machine_state.specs.declared.output.OutLine.{OutLine}

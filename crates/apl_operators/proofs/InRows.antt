@@ -1,5 +1,5 @@
 -- Results for rows of numbers in turn.
-use Rattle.std.proofs.Common.{zero, suc, ◌-◌, ◌≡◌, ℕ, ℤ, pos, ◌+◌, ◌*◌, ◌/◌, ◌%◌, ◌<◌, ◌≤◌, List, [], ◌∷◌, ◌++◌, Result, Ok, Err, refl, ap, sym, ◌∙◌, arith, length, get_or, drop}
+use Rattle.std.proofs.Common.{zero, suc, ◌-◌, ◌≡◌, ℕ, ℤ, pos, ◌+◌, ◌*◌, ◌%◌, ◌<◌, ◌≤◌, List, [], ◌∷◌, Result, Ok, Err, refl, ap, sym, ◌∙◌, arith, length, get_or, drop}
 use Rattle.std.specs.List.{range_with_len, slice_range}
 use Rattle.std.proofs.lemmas.List.{get_or-take, get_or-drop, length-take, length-drop}
 use Rattle.std.proofs.lemmas.Nat.{div-mul-add, mod-mul-add}

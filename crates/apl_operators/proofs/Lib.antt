@@ -4,3 +4,4 @@ pub mod StandIn
 pub mod Folding
 pub mod Meeting
 pub mod Others
+pub mod SmallNumbers

@@ -1,29 +1,22 @@
 -- Rows and columns that meet, by places.
-use Rattle.std.proofs.Common.{zero, suc, ◌≡◌, ◌≢◌, ℕ, ℤ, pos, ◌+◌, ◌-◌, ◌*◌, ◌/◌, ◌%◌, ◌<◌, ◌≤◌, Bool, true, false, cond, List, [], ◌∷◌, ◌++◌, length, get_or, take, drop, map, max, Some, Result, Ok, Err, refl, ap, sym, ◌∙◌, arith}
+use Rattle.std.proofs.Common.{◌≡◌, ◌≢◌, ℕ, ℤ, pos, ◌+◌, ◌*◌, ◌/◌, ◌%◌, ◌<◌, Bool, true, false, cond, List, [], length, get_or, Result, Ok, Err, refl, ap, sym, ◌∙◌, arith}
 use Rattle.std.specs.Prelude.{◌==◌}
 use Rattle.std.specs.List.{range_with_len}
 use Rattle.std.proofs.lemmas.Bool.{eqb-true, eqb-false}
 use Rattle.std.proofs.lemmas.Nat.{mul-add-lt}
-use Rattle.std.proofs.Math.Nat.{mul-le-mul_left}
 use Rattle.apl_faults.specs.declared.fault.Fault.{Fault}
-use Rattle.apl_faults.specs.declared.fault.Fault.TheVariants.{Domain, Length}
-use Rattle.apl_arrays.specs.declared.cell.Cell.TheVariants.{Num}
-use Rattle.apl_arrays.specs.Index.{size_of, bound_of, indices, is_within, position_in}
-use Rattle.apl_arrays.specs.Axes.{without, inserted}
-use Rattle.apl_arrays.specs.Cells.{Arr, Items, cells_of}
-use Rattle.apl_arrays.specs.Results.{and_then, all_ok}
-use Rattle.apl_arrays.proofs.InTurn.{turns_same, all_ok-same}
+use Rattle.apl_faults.specs.declared.fault.Fault.TheVariants.{Domain}
+use Rattle.apl_arrays.specs.Cells.{Items, cells_of}
+use Rattle.apl_arrays.specs.Results.{all_ok}
+use Rattle.apl_arrays.proofs.InTurn.{turns_same}
 use Rattle.apl_arrays.proofs.Nth.{row_below, rest_below}
-use Rattle.apl_arrays.proofs.Order.{by_places, all_within}
 use Rattle.apl_scalar.specs.declared.function.Dyadic.{Dyadic}
 use Rattle.apl_scalar.specs.Functions.{dyadic_of}
-use Rattle.apl_folds.specs.Folds.{folded}
 use Rattle.apl_operators.specs.declared.joint.Joint.{Joint}
-use Rattle.apl_operators.specs.Products.{joined_length, joined_item, length_or_one, last_axis, extended_index, met_items, all_folded}
+use Rattle.apl_operators.specs.Products.{extended_index}
 use Rattle.apl_operators.specs.Places.{cells_met}
 use Rattle.apl_operators.specs.Standing.{Stand}
 use Rattle.apl_operators.specs.Joints.{met, met_cells, folds_of, step_of, Joins}
-use Rattle.apl_operators.proofs.Crossing.{size_of-append, Parted, parted, left_place, right_place}
 use Rattle.apl_operators.proofs.Folding.{folds_same, folds_fail}
 use Rattle.apl_operators.proofs.InRows.{fails_first}
 

@@ -1,15 +1,15 @@
 -- Shapes without an axis.
-use Rattle.std.proofs.Common.{zero, suc, ◌≡◌, ◌≢◌, ℕ, ℤ, ◌+◌, ◌-◌, ◌*◌, ◌/◌, ◌%◌, ◌<◌, ◌≤◌, Bool, true, false, nat_lt, cond, List, [], ◌∷◌, ◌++◌, length, get_or, take, drop, map, max, Result, Ok, Err, refl, ap, sym, ◌∙◌, arith}
+use Rattle.std.proofs.Common.{zero, suc, ◌≡◌, ◌≢◌, ℕ, ℤ, ◌+◌, ◌-◌, ◌*◌, ◌/◌, ◌%◌, ◌≤◌, Bool, true, false, nat_lt, cond, List, [], ◌∷◌, ◌++◌, length, get_or, take, drop, map, max, Result, Ok, Err, refl, ap, sym, ◌∙◌, arith}
 use Rattle.std.specs.Prelude.{◌==◌}
 use Rattle.std.specs.List.{range_with_len}
-use Rattle.std.proofs.lemmas.Bool.{eqb-true, eqb-false}
+use Rattle.std.proofs.lemmas.Bool.{eqb-true}
 use Rattle.std.proofs.Math.Nat.{mul-le-mul_left, mul-le-mul_right}
 use Rattle.apl_faults.specs.declared.fault.Fault.{Fault}
 use Rattle.apl_faults.specs.declared.fault.Fault.TheVariants.{Length}
 use Rattle.apl_arrays.specs.declared.cell.Cell.TheVariants.{Num}
 use Rattle.apl_arrays.specs.Index.{size_of, bound_of, indices, is_within, position_in}
 use Rattle.apl_arrays.specs.Axes.{without, inserted}
-use Rattle.apl_arrays.specs.Cells.{Arr, Items, cells_of}
+use Rattle.apl_arrays.specs.Cells.{Arr}
 use Rattle.apl_arrays.specs.Checks.{limited}
 use Rattle.apl_arrays.specs.Results.{and_then, ok_map, all_ok}
 use Rattle.apl_scalar.specs.Extension.{numbers_in}
@@ -22,7 +22,7 @@ use Rattle.apl_operators.specs.declared.joint.Joint.{Joint}
 use Rattle.apl_operators.specs.Products.{joined_length, joined_item, length_or_one, last_axis, extended_index, met_items, all_folded, inner_product}
 use Rattle.apl_operators.specs.Places.{cells_met}
 use Rattle.apl_operators.specs.Joints.{met_cells, folds_of, Joins}
-use Rattle.apl_operators.proofs.Crossing.{size_of-append, Parted, parted, left_place, right_place}
+use Rattle.apl_operators.proofs.Crossing.{size_of-append, parted, left_place, right_place}
 
 pub take_without : (k : ℕ) (s : List ℕ) → length s ≡ suc k → take k s ≡ without k s
 take_without k [] h = absurd (omega arith)

@@ -1,8 +1,7 @@
 -- Numbers that stand for elements.
-use Rattle.std.proofs.Common.{◌≡◌, ℕ, ℤ, pos, ◌*◌, ◌/◌, ◌%◌, ◌<◌, Bool, false, nat_eq, List, [], map, length, get_or, replicate, Some, Result, Ok, Err, refl, ap, sym, ◌∙◌, arith}
+use Rattle.std.proofs.Common.{◌≡◌, ℕ, ℤ, pos, ◌*◌, ◌/◌, ◌%◌, ◌<◌, Bool, false, nat_eq, List, [], map, length, get_or, replicate, Some, Err, ap, sym, ◌∙◌, arith}
 use Rattle.std.specs.List.{range_with_len}
 use Rattle.std.proofs.lemmas.List.{length-map, get_or-map, length-replicate, get_or-replicate}
-use Rattle.apl_faults.specs.declared.fault.Fault.{Fault}
 use Rattle.apl_faults.specs.declared.fault.Fault.TheVariants.{Domain}
 use Rattle.apl_arrays.specs.declared.cell.Cell.{Cell}
 use Rattle.apl_arrays.specs.declared.cell.Cell.TheVariants.{Num, Char}

@@ -3,7 +3,7 @@ use Rattle.std.specs.Prelude.{◌≡◌, ◌≢◌, ℕ, ℤ, pos, ◌+◌, ◌*
 use Rattle.std.specs.List.{range_with_len}
 use Rattle.apl_faults.specs.declared.fault.Fault.{Fault}
 use Rattle.apl_arrays.specs.declared.cell.Cell.TheVariants.{Num}
-use Rattle.apl_arrays.specs.Cells.{Items, cells_of}
+use Rattle.apl_arrays.specs.Cells.{Items}
 use Rattle.apl_arrays.specs.Results.{and_then, ok_map, all_ok}
 use Rattle.apl_scalar.specs.declared.function.Dyadic.{Dyadic}
 use Rattle.apl_folds.specs.Folds.{folded}

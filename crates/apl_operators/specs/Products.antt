@@ -1,5 +1,5 @@
 -- Outer and inner products.
-use Rattle.std.specs.Prelude.{ℕ, ℤ, ◌-◌, ◌==◌, cond, List, ◌++◌, map, length, take, drop, slice_index_or, Option, Some, Result, Ok, Err}
+use Rattle.std.specs.Prelude.{ℕ, ℤ, ◌-◌, ◌==◌, cond, List, ◌++◌, map, length, take, drop, slice_index_or, Some, Result, Ok, Err}
 use Rattle.std.specs.List.{range_with_len}
 use Rattle.apl_faults.specs.declared.fault.Fault.{Fault}
 use Rattle.apl_faults.specs.declared.fault.Fault.TheVariants.{Length}

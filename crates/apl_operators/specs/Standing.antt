@@ -1,6 +1,5 @@
 -- Numbers that stand for the elements of two arrays under a function.
-use Rattle.std.specs.Prelude.{◌≡◌, ◌<◌, ℕ, ℤ, pos, List, length, slice_index_or, Option, None, Some, Result, Ok, Err}
-use Rattle.apl_faults.specs.declared.fault.Fault.{Fault}
+use Rattle.std.specs.Prelude.{◌≡◌, ◌<◌, ℕ, ℤ, pos, List, length, slice_index_or, Option, None, Some, Err}
 use Rattle.apl_faults.specs.declared.fault.Fault.TheVariants.{Domain}
 use Rattle.apl_arrays.specs.Cells.{Items, cells_of}
 use Rattle.apl_scalar.specs.declared.function.Dyadic.{Dyadic}

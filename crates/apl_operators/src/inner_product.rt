@@ -16,6 +16,7 @@ ghost use Rattle.apl_operators.specs.Joints.{met, met_cells, folds_of, so_far, s
 use crate::joint::{Joint, joined, without_first, without_last};
 use crate::line::{Stepped, meet};
 use crate::shape::{joined_shape, shaped};
+use crate::small::SmallProduct;
 use crate::standing::standing;
 use crate::turned::Turned;
 use apl_arrays::{Array, Cells, Ravel, Stop, View, size, within_limits};
@@ -23,7 +24,7 @@ use apl_faults::Fault;
 use apl_folds::fold_numbers;
 use apl_scalar::{
     And, Difference, Dyadic, Equal, Less, Logical, Maximum, Minimum, Nand, Nor, NotEqual,
-    NotGreater, Or, Power, Product, Quotient, Residue, Scalar, Sum,
+    NotGreater, Or, Power, Quotient, Residue, Scalar, Sum,
 };
 use std::alloc::{AllocError, Global};
 
@@ -140,7 +141,7 @@ fn fold_met_by(
     match inner_function {
         Dyadic::Plus => fold_met::<Sum>(alloc, outer_function, a, b, joint),
         Dyadic::Minus => fold_met::<Difference>(alloc, outer_function, a, b, joint),
-        Dyadic::Times => fold_met::<Product>(alloc, outer_function, a, b, joint),
+        Dyadic::Times => fold_met::<SmallProduct>(alloc, outer_function, a, b, joint),
         Dyadic::Divide => fold_met::<Quotient>(alloc, outer_function, a, b, joint),
         Dyadic::Power => fold_met::<Power>(alloc, outer_function, a, b, joint),
         Dyadic::Maximum => fold_met::<Maximum>(alloc, outer_function, a, b, joint),

@@ -6,6 +6,7 @@ mod joint;
 mod line;
 mod outer_product;
 mod shape;
+mod small;
 mod standing;
 mod turned;
 

@@ -12,13 +12,14 @@ ghost use Rattle.apl_operators.specs.Places.{crossed, crossed_cells};
 
 use crate::line::{Each, Same, meet};
 use crate::shape::{joined_shape, shaped};
+use crate::small::SmallProduct;
 use crate::standing::standing;
 use crate::turned::Turned;
 use apl_arrays::{Array, Cells, Ravel, Stop, View, within_limits};
 use apl_faults::Fault;
 use apl_scalar::{
     And, Difference, Dyadic, Equal, Less, Logical, Maximum, Minimum, Nand, Nor, NotEqual,
-    NotGreater, Or, Power, Product, Quotient, Residue, Scalar, Sum,
+    NotGreater, Or, Power, Quotient, Residue, Scalar, Sum,
 };
 use std::alloc::Global;
 
@@ -80,7 +81,7 @@ fn cross_by(alloc: Global, function: Dyadic, a: &[i64], b: &[i64]) -> Result<Vec
     match function {
         Dyadic::Plus => cross::<Sum>(alloc, a, b),
         Dyadic::Minus => cross::<Difference>(alloc, a, b),
-        Dyadic::Times => cross::<Product>(alloc, a, b),
+        Dyadic::Times => cross::<SmallProduct>(alloc, a, b),
         Dyadic::Divide => cross::<Quotient>(alloc, a, b),
         Dyadic::Power => cross::<Power>(alloc, a, b),
         Dyadic::Maximum => cross::<Maximum>(alloc, a, b),

@@ -7,7 +7,7 @@ ghost use Rattle.apl_symbols.specs.Glyphs.{primitive_glyph, primitive_of};
 use apl_charset::Ch;
 
 /// A primitive function, by its glyph's name.
-#[derive(Clone, Copy, PartialEq, Eq, Debug)]
+#[derive(Clone, Copy, PartialEq, Eq, Hash, Debug)]
 pub enum Primitive {
     /// `+`
     Plus,
@@ -90,7 +90,7 @@ pub enum Primitive {
 }
 
 /// A symbol that is an operator where a function stands directly before it.
-#[derive(Clone, Copy, PartialEq, Eq, Debug)]
+#[derive(Clone, Copy, PartialEq, Eq, Hash, Debug)]
 pub enum Operator {
     /// `/`, reduction along the last axis
     Slash,

@@ -14,9 +14,10 @@ use Rattle.apl_translate.specs.declared.form.Form.{Form}
 use Rattle.apl_translate.specs.declared.form.Form.TheVariants as forms
 use Rattle.apl_translate.specs.declared.form.Placed.{Placed}
 use Rattle.apl_translate.specs.Forms.{wanted_kinds, IsFresh}
-use Rattle.apl_translate.specs.Lines.{Line, NamesConstants, ArePlaced}
-use Rattle.apl_translate.specs.Binding.{Left, nothing_left, is_name, is_colon, without_label, word_of, symbol_word, form_of, with_item, placed, items_from, constant_in}
+use Rattle.apl_translate.specs.Lines.{Line, NamesConstants, ArePlaced, AreNamed}
+use Rattle.apl_translate.specs.Binding.{Left, nothing_left, is_name, is_colon, without_label, word_of, symbol_word, form_of, with_item, placed, items_from, constant_in, HasName}
 use Rattle.apl_translate.proofs.Settled.{wanted-append}
+use Rattle.apl_translate.proofs.Spelt.{items_named, constants_few}
 
 -- a label has no constants
 label_kinds : (k j : Kind) → (is_name k && is_colon j) ≡ true → (constant_in k ≡ []) × (constant_in j ≡ [])
@@ -121,9 +122,11 @@ pub record FitsLine (items : List Placed) (constants : List Arr) : Type 0 where
   pub fresh : IsFresh items
   pub known : NamesConstants (length constants) items
   pub there : ArePlaced items
+  pub named : AreNamed items
+  pub bounded : length constants ≤ 500
 
-pub bound_fits : (given : List Class) (ts rest : List Token) (items : List Placed) (constants : List Arr) → length ts ≤ 500 → All (λ (t : Token). (1 ≤ t.at) × (t.at ≤ 500)) ts → rest ≡ without_label ts → items ≡ items_from given nothing_left rest → constants ≡ flat_map (λ (t : Token). constant_in t.kind) ts → FitsLine items constants
-bound_fits given ts rest items constants few there r i c =
+pub bound_fits : (given : List Class) (ts rest : List Token) (items : List Placed) (constants : List Arr) → length ts ≤ 500 → All (λ (t : Token). (1 ≤ t.at) × (t.at ≤ 500)) ts → All (λ (t : Token). HasName t.kind) ts → rest ≡ without_label ts → items ≡ items_from given nothing_left rest → constants ≡ flat_map (λ (t : Token). constant_in t.kind) ts → FitsLine items constants
+bound_fits given ts rest items constants few there named r i c =
     let P = λ (at : ℕ). (1 ≤ at) × (at ≤ 500) in
     let bound = items_from given nothing_left (without_label ts) in
     let e : items ≡ bound = i ∙ ap (items_from given nothing_left) r in
@@ -134,6 +137,8 @@ bound_fits given ts rest items constants few there r i c =
       fresh = subst IsFresh (sym e) (items_fresh given nothing_left (without_label ts));
       known = subst (NamesConstants (length constants)) (sym e) known;
       there = subst ArePlaced (sym e) (items_there P given nothing_left (without_label ts) (label_all (λ (t : Token). P t.at) ts there));
+      named = subst AreNamed (sym e) (items_named given nothing_left (without_label ts) (label_all (λ (t : Token). HasName t.kind) ts named));
+      bounded = omega (arith, ap length c, constants_few ts);
     }
 
 pub line_is : (line : Line) (items : List Placed) (constants : List Arr) → line.items ≡ items → line.constants ≡ constants → line ≡ record { items = items; constants = constants }

@@ -4,3 +4,7 @@ pub mod Settled
 pub mod Codes
 pub mod Bindings
 pub mod Sizes
+mod Same
+mod Keeps
+pub mod Made
+pub mod Spelt

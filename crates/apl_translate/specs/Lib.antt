@@ -4,3 +4,4 @@ pub mod Lines
 pub mod Translation
 pub mod Scan
 pub mod Binding
+pub mod Kept

@@ -2,7 +2,7 @@
 ghost use Rattle.std.specs.Prelude.{◌≡◌, ◌≤◌, ◌<◌, ◌++◌, All, Some, ◌+◌, length, vec_len, vec_capacity, IfOk, OnOk};
 ghost use Rattle.std.specs.List.{flat_map};
 ghost use Rattle.apl_symbols.specs.Primitives.{operator_of};
-ghost use Rattle.apl_translate.specs.Binding.{without_label, is_name, is_colon, nothing_left, class_at, name_word, system_word, primitive_word, closing, symbol_word, word_of, form_of, neighbour_of, placed, takes_axis, axes_after, with_item, items_from, constant_in, bound_of, elements_in};
+ghost use Rattle.apl_translate.specs.Binding.{without_label, is_name, is_colon, nothing_left, class_at, name_word, system_word, primitive_word, closing, symbol_word, word_of, form_of, neighbour_of, placed, takes_axis, axes_after, with_item, items_from, constant_in, bound_of, elements_in, HasName};
 
 use crate::form::{Bound, Form, Placed, Word};
 use apl_arrays::Array;
@@ -276,6 +276,7 @@ pub fn bind(alloc: Global, tokens: &[Token], classes: &[Class]) -> Result<Bound,
     requires few { length tokens.now ≤ 500 }
     requires placed { All (λ t. (1 ≤ t.at) × (t.at ≤ 500)) tokens.now }
     requires small { All (λ t. elements_in t.kind ≤ 1000000) tokens.now }
+    requires named { All (λ t. HasName t.kind) tokens.now }
     ensures { IfOk result (λ b. b ≡ bound_of tokens.now classes.now) }
 {
     let items = items_of(alloc, without_label(tokens), classes)?;

@@ -1,8 +1,12 @@
-//! Lines as they are bound, the phrase table, and the translation of a line into flat
-//! instructions.
+//! Lines as they are bound, the phrase table, the translation of a line into flat
+//! instructions, and a cache of translations.
 #![tactic(auto)]
 
 mod binding;
+mod cache;
+#[cfg(test)]
+mod cache_tests;
+mod equality;
 mod form;
 mod phrase;
 #[cfg(test)]
@@ -10,5 +14,6 @@ mod tests;
 mod translation;
 
 pub use binding::bind;
+pub use cache::{Cache, KEPT};
 pub use form::{Bound, Form, Placed, Word};
 pub use translation::translate;

@@ -12,7 +12,7 @@ use std::alloc::Global;
 use std::test::Fail;
 
 /// The bound line of a text.
-fn line(alloc: Global, text: &str, classes: &[Class]) -> Result<Bound, Fail> {
+pub(crate) fn line(alloc: Global, text: &str, classes: &[Class]) -> Result<Bound, Fail> {
     let text = decode_line(alloc, text.as_bytes())?;
     let tokens = tokens(alloc, text.as_slice())?;
     Ok(bind(alloc, tokens.as_slice(), classes)?)

@@ -71,3 +71,41 @@ fn faults(rt: HostRuntime) -> Result<(), Fail> {
     assert!(rt; is_fault(&outer(alloc, Dyadic::Times, &many, &many), Fault::Limit));
     Ok(())
 }
+
+/// Products of numbers of 32 bits and of wider ones, up to the limits of 64.
+#[test]
+fn products_of_wide_numbers(rt: HostRuntime) -> Result<(), Fail> {
+    let alloc = rt.alloc();
+    let small = vector(alloc, &[2_147_483_647, -2_147_483_648])?;
+    let squares = outer(alloc, Dyadic::Times, &small, &small);
+    assert!(rt;
+        is_array(
+            &squares,
+            &[2, 2],
+            &[
+                4_611_686_014_132_420_609,
+                -4_611_686_016_279_904_256,
+                -4_611_686_016_279_904_256,
+                4_611_686_018_427_387_904,
+            ]
+        )
+    );
+    let wide = vector(alloc, &[4_294_967_296, -1])?;
+    let half = vector(alloc, &[-2_147_483_648, 2_147_483_647])?;
+    let products = outer(alloc, Dyadic::Times, &wide, &half);
+    assert!(rt;
+        is_array(
+            &products,
+            &[2, 2],
+            &[
+                i64::MIN,
+                9_223_372_032_559_808_512,
+                2_147_483_648,
+                -2_147_483_647
+            ]
+        )
+    );
+    let limit = outer(alloc, Dyadic::Times, &wide, &wide);
+    assert!(rt; is_fault(&limit, Fault::Limit));
+    Ok(())
+}

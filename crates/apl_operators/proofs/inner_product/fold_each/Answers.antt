@@ -1,7 +1,7 @@
-use Rattle.std.proofs.Common.{◌≡◌, ◌*◌, ap, sym, ◌∙◌, arith, Ok}
+use Rattle.std.proofs.Common.{◌*◌, ap, sym, ◌∙◌, arith}
 use Rattle.std.proofs.lemmas.Result.{err_from_is_err_and}
 use Rattle.apl_operators.specs.Joints.{met, so_far}
-use Rattle.apl_operators.proofs.Folding.{folds_start, folds_step, folds_fault, folds_end}
+use Rattle.apl_operators.proofs.Folding.{folds_step, folds_fault, folds_end}
 use Rattle.apl_operators.proofs.inner_product.fold_each.Goals as goal
 
 pub loop-place-preserved : goal.loop-place-preserved

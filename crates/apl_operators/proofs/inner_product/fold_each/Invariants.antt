@@ -1,4 +1,4 @@
-use Rattle.std.proofs.Common.{◌≡◌, ◌-◌, ◌*◌, None}
+use Rattle.std.proofs.Common.{◌≡◌, ◌-◌, ◌*◌}
 use Rattle.std.specs.List.{range_with_len}
 use Rattle.apl_operators.specs.Joints.{met, folds_of, folds_after}
 use Rattle.apl_operators.proofs.inner_product.fold_each.Given as goal

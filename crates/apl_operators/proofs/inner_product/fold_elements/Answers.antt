@@ -1,4 +1,4 @@
-use Rattle.std.proofs.Common.{◌≡◌, ◌*◌, length, sym, ap, ◌∙◌, Vec, ℤ, Global, arith}
+use Rattle.std.proofs.Common.{◌*◌, length, sym, Vec, ℤ, Global, arith}
 use Rattle.apl_arrays.specs.Ravels.{items_of}
 use Rattle.apl_arrays.proofs.Exits.{answers_along}
 use Rattle.apl_operators.specs.Standing.{held, Stand}

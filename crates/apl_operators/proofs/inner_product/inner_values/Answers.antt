@@ -1,4 +1,4 @@
-use Rattle.std.proofs.Common.{◌≡◌, ◌≤◌, ◌-◌, List, ℕ, length, get_or, sym, ap, ◌∙◌, Vec, ℤ, Global, arith}
+use Rattle.std.proofs.Common.{◌≡◌, ◌≤◌, ◌-◌, List, ℕ, length, get_or, ap, ◌∙◌, Vec, ℤ, Global, arith}
 use Rattle.std.proofs.lemmas.Nat.{mul-le}
 use Rattle.apl_arrays.specs.Axes.{without}
 use Rattle.apl_arrays.specs.Cells.{Arr, Items, cells_of}
@@ -6,7 +6,6 @@ use Rattle.apl_arrays.specs.Index.{size_of, bound_of}
 use Rattle.apl_arrays.specs.Ravels.{items_of}
 use Rattle.apl_arrays.proofs.Exits.{answers_along}
 use Rattle.apl_arrays.proofs.Places.{size_le_bound}
-use Rattle.apl_operators.specs.Products.{last_axis, length_or_one}
 use Rattle.apl_operators.proofs.Others.{bound_without, joins, by_meeting}
 use Rattle.apl_operators.proofs.inner_product.inner_values.Goals as goal
 

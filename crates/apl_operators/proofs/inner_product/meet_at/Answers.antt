@@ -1,5 +1,4 @@
-use Rattle.std.proofs.Common.{◌≡◌, ◌<◌, ℕ, length, arith, ◌∙◌}
-use Rattle.apl_operators.specs.Joints.{step_of}
+use Rattle.std.proofs.Common.{length, arith, ◌∙◌}
 use Rattle.apl_operators.proofs.Meeting.{left_within, right_within, met_by_steps}
 use Rattle.apl_operators.proofs.inner_product.meet_at.Goals as goal
 

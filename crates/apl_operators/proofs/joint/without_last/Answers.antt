@@ -1,4 +1,4 @@
-use Rattle.std.proofs.Common.{length, ◌-◌, arith, sym}
+use Rattle.std.proofs.Common.{length, ◌-◌, arith}
 use Rattle.apl_operators.proofs.Others.{take_without}
 use Rattle.apl_operators.proofs.joint.without_last.Goals as goal
 

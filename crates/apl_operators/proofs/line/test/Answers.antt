@@ -1,4 +1,4 @@
-use Rattle.std.proofs.Common.{◌≡◌, ◌<◌, ℕ, ℤ, length, Err, ap, sym, ◌∙◌, rules, arith, w64}
+use Rattle.std.proofs.Common.{◌≡◌, ◌<◌, ℤ, length, Err, ap, sym, ◌∙◌, rules, arith, w64}
 use Rattle.std.proofs.lemmas.Int.{to_z-of_z}
 use mir.Val.{SFits}
 use Rattle.apl_scalar.proofs.Whole.{all_values}

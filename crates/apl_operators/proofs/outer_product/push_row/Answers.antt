@@ -1,10 +1,9 @@
-use Rattle.std.proofs.Common.{ℕ, ℤ, List, Result, ◌≡◌, ◌+◌, ◌-◌, length, get_or, pos, sym, ap, ◌∙◌, arith}
+use Rattle.std.proofs.Common.{ℤ, List, ◌+◌, length, get_or, pos, sym, ap, ◌∙◌, arith}
 use Rattle.std.specs.List.{range_with_len, slice_range}
 use Rattle.std.proofs.lemmas.Result.{err_from_is_err_and}
-use Rattle.apl_faults.specs.declared.fault.Fault.{Fault}
 use Rattle.apl_arrays.specs.Results.{all_ok}
 use Rattle.apl_arrays.proofs.Exits.{appends_err}
-use Rattle.apl_arrays.proofs.InTurn.{after, turns_part, turns_part_fault, turns_end, after_err}
+use Rattle.apl_arrays.proofs.InTurn.{after, turns_part, turns_part_fault, after_err}
 use Rattle.apl_operators.proofs.InRows.{block_same}
 use Rattle.apl_operators.proofs.outer_product.push_row.Goals as goal
 

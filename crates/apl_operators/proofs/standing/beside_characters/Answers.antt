@@ -1,4 +1,4 @@
-use Rattle.std.proofs.Common.{◌≡◌, sym, ◌∙◌, ap, replicate, pos, map, length, rules}
+use Rattle.std.proofs.Common.{◌≡◌, ◌∙◌, ap, replicate, pos, map, length, rules}
 use Rattle.apl_arrays.specs.Ravels.{items_of}
 use Rattle.apl_operators.specs.Standing.{held}
 use Rattle.apl_operators.proofs.StandIn.{apart_from_numbers, codes_stand, fails_beside_characters}

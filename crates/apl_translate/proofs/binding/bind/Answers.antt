@@ -4,7 +4,7 @@ use Rattle.apl_translate.proofs.Bindings.{FitsLine, bound_fits, line_is}
 use Rattle.apl_translate.proofs.binding.bind.Goals as goal
 
 fits : (c : goal.In_ok-constants) → FitsLine c.in_ok-items.items.items c.in_ok-constants.constants.items
-fits c = bound_fits c.args.classes.now c.args.tokens.now _ _ _ c.requires.few c.requires.placed c.without_label.ensures c.in_ok-items.ensures c.in_ok-constants.ensures
+fits c = bound_fits c.args.classes.now c.args.tokens.now _ _ _ c.requires.few c.requires.placed c.requires.named c.without_label.ensures c.in_ok-items.ensures c.in_ok-constants.ensures
 
 pub new-requires-clause-few : goal.new-requires-clause-few
 new-requires-clause-few c = (fits c).few
@@ -17,6 +17,12 @@ new-requires-clause-known c = (fits c).known
 
 pub new-requires-clause-placed : goal.new-requires-clause-placed
 new-requires-clause-placed c = (fits c).there
+
+pub new-requires-clause-named : goal.new-requires-clause-named
+new-requires-clause-named c = (fits c).named
+
+pub new-requires-clause-bounded : goal.new-requires-clause-bounded
+new-requires-clause-bounded c = (fits c).bounded
 
 pub returns : goal.returns
 unfolding bound_of

@@ -1,0 +1,36 @@
+// The equality of arrays.
+ghost use Rattle.std.proofs.Common.{ap};
+ghost use Rattle.std.specs.Cmp.{partial_equiv_from_equiv};
+ghost use Rattle.apl_arrays.specs.Equality.{array_eq, array_equiv, array_same, items_input};
+
+use crate::array::Array;
+use crate::cell::Ravel;
+use std::hash::{Hash, Hasher};
+
+/// Arrays are equal that have one shape, one type and the same elements.
+impl PartialEq for Array {
+    ghost eq = { array_eq };
+
+    ghost laws = { partial_equiv_from_equiv array_equiv };
+
+    fn eq(&self, other: &Array) -> bool {
+        self.shape() == other.shape() && self.ravel() == other.ravel()
+    }
+}
+
+impl Eq for Array {
+    ghost laws = { array_equiv };
+}
+
+impl Hash for Array {
+    ghost hash_input = { λ a. items_input a.items };
+
+    ghost respects_eq = { λ a b h. ap (λ c. items_input c.items) (array_same a b h) };
+
+    fn hash<H: Hasher>(&self, state: &mut H) {
+        match self.ravel() {
+            Ravel::Nums(numbers) => numbers.hash(state),
+            Ravel::Chars(characters) => characters.hash(state),
+        }
+    }
+}

@@ -1,0 +1,139 @@
+// Folds of lines of numbers that begin side by side, a row of them at a time.
+ghost use Rattle.std.specs.Prelude.{◌≡◌, ◌^◌, ◌<◌, ◌≤◌, ◌+◌, ◌-◌, ◌*◌, ◌≤ℤ◌, ℕ, length, slice_index_or, slice_range, pos, IsTrue, Ok};
+ghost use Rattle.std.specs.List.{range_with_len};
+ghost use Rattle.apl_arrays.specs.Answers.{Appends};
+ghost use Rattle.apl_arrays.specs.Results.{all_ok};
+ghost use Rattle.apl_arrays.specs.Strides.{step_at};
+ghost use Rattle.apl_folds.specs.Lines.{fold_by, line_of, IsLine};
+
+use crate::line::{fold_strided, row};
+use apl_arrays::{Axis, Stop, along};
+use apl_scalar::Scalar;
+
+/// How many lines are folded together.
+const BLOCK: usize = 512;
+
+/// Both flags in one, negative where either is.
+#[inline(always)]
+fn either(x: i64, y: i64) -> i64
+    ensures { pos 0 ≤ℤ result → (pos 0 ≤ℤ x) × (pos 0 ≤ℤ y) }
+{
+    x | y
+}
+
+/// Takes a number more into each fold, before the numbers that are in it. It answers a flag, which is not negative only if all are values.
+#[inline(never)]
+fn take_row<F: Scalar>(numbers: &[i64], folds: &mut [i64]) -> i64
+    requires { length numbers.now ≡ length folds.old }
+    ensures { pos 0 ≤ℤ result → (j : ℕ) → j < length folds.old → F.meaning (slice_index_or numbers.now j (pos 0)) (slice_index_or folds.old j (pos 0)) ≡ Ok (slice_index_or folds.new j (pos 0)) }
+{
+    let mut flags = 0i64;
+    for j in 0..folds.len() {
+        let (value, flag) = F::tried(numbers[j], folds[j]);
+        folds[j] = value;
+        flags = either(flags, flag);
+    }
+    flags
+}
+
+/// The numbers at an index of an axis, from a place on, for so many lines.
+#[inline(always)]
+fn beside<'a>(numbers: &'a [i64], axis: &Axis, at: usize, index: usize, lines: usize) -> &'a [i64]
+    requires index { index < axis.now.length }
+    requires some { 0 < lines }
+    requires near { at + (axis.now.up + axis.now.down) * axis.now.length < 2 ^ 63 }
+    requires placed { (j : ℕ) → j < lines → at + j + step_at axis.now index < length numbers.now }
+    ensures size { length result.now ≡ lines }
+    ensures numbers { (j : ℕ) → j < lines → slice_index_or result.now j (pos 0) ≡ slice_index_or numbers.now (at + j + step_at axis.now index) (pos 0) }
+{
+    row(numbers, along(at, axis, index), lines)
+}
+
+/// Folds the lines that begin side by side from a place on, one for each fold. It answers whether all are values.
+fn fold_block<F: Scalar>(
+    numbers: &[i64],
+    axis: &Axis,
+    at: usize,
+    count: usize,
+    folds: &mut [i64],
+) -> bool
+    requires some { 0 < length folds.old }
+    requires lines { (j : ℕ) → j < length folds.old → IsLine (length numbers.now) axis.now (at + j) count }
+    ensures { IsTrue result → (j : ℕ) → j < length folds.old → fold_by F.meaning (line_of (pos 0) numbers.now axis.now (at + j) count) ≡ Ok (slice_index_or folds.new j (pos 0)) }
+{
+    let last = count - 1;
+    folds.copy_from_slice(beside(numbers, axis, at, last, folds.len()));
+    let mut flags = 0i64;
+    for k in (0..last).rev() {
+        let flag = take_row::<F>(beside(numbers, axis, at, k, folds.len()), folds);
+        flags = either(flags, flag);
+    }
+    0 <= flags
+}
+
+/// Appends the folds of the lines that begin side by side, from one to another, each tested before the next.
+fn push_each<F: Scalar>(
+    numbers: &[i64],
+    axis: &Axis,
+    from: usize,
+    till: usize,
+    count: usize,
+    out: &mut Vec<i64>,
+) -> Result<(), Stop>
+    requires { (p : ℕ) → from ≤ p → p < till → IsLine (length numbers.now) axis.now p count }
+    ensures { Appends out.old.items out.new.items (all_ok (λ p. fold_by F.meaning (line_of (pos 0) numbers.now axis.now p count)) (range_with_len from (till - from))) result }
+{
+    for at in from..till {
+        match fold_strided::<F>(numbers, axis, at, count) {
+            Ok(value) => out.push(value)?,
+            Err(fault) => return Err(Stop::Fault(fault)),
+        }
+    }
+    Ok(())
+}
+
+/// Appends the folds of a block of lines that begin side by side, from one to another. Only where a flag is raised is there a test at each.
+fn push_block<F: Scalar>(
+    numbers: &[i64],
+    axis: &Axis,
+    from: usize,
+    till: usize,
+    count: usize,
+    room: &mut [i64; BLOCK],
+    out: &mut Vec<i64>,
+) -> Result<(), Stop>
+    requires order { from < till }
+    requires few { till ≤ from + BLOCK }
+    requires lines { (p : ℕ) → from ≤ p → p < till → IsLine (length numbers.now) axis.now p count }
+    ensures { Appends out.old.items out.new.items (all_ok (λ p. fold_by F.meaning (line_of (pos 0) numbers.now axis.now p count)) (range_with_len from (till - from))) result }
+{
+    let folds = &mut room[..till - from];
+    if fold_block::<F>(numbers, axis, from, count, folds) {
+        out.extend_from_slice(folds)?;
+        return Ok(());
+    }
+    push_each::<F>(numbers, axis, from, till, count, out)
+}
+
+/// Appends the folds of the lines that begin side by side, from one to another, block by block.
+pub(crate) fn push_columns<F: Scalar>(
+    numbers: &[i64],
+    axis: &Axis,
+    first: usize,
+    till: usize,
+    count: usize,
+    out: &mut Vec<i64>,
+) -> Result<(), Stop>
+    requires order { first ≤ till }
+    requires lines { (p : ℕ) → first ≤ p → p < till → IsLine (length numbers.now) axis.now p count }
+    ensures { Appends out.old.items out.new.items (all_ok (λ p. fold_by F.meaning (line_of (pos 0) numbers.now axis.now p count)) (range_with_len first (till - first))) result }
+{
+    let mut room = [0i64; BLOCK];
+    let mut from = first;
+    while from < till {
+        let next = from + (till - from).min(BLOCK);
+        push_block::<F>(numbers, axis, from, next, count, &mut room, out)?;
+        from = next;
+    }
+    Ok(())
+}

@@ -1,0 +1,10 @@
+pub mod Digits
+pub mod Lists
+pub mod Fields
+pub mod Words
+pub mod Signs
+pub mod Again
+pub mod Lines
+pub mod FirstLines
+pub mod Choices
+pub mod Found

@@ -1,0 +1,9 @@
+pub mod Texts
+pub mod Maps
+pub mod Scopes
+pub mod Symbols
+pub mod Stacks
+pub mod Whole
+pub mod Outcomes
+pub mod Globals
+pub mod GlobalSlots

@@ -1,0 +1,82 @@
+-- The names in force: maps from names to what they stand for, the newest first and the global one last.
+use Rattle.std.specs.Prelude.{ℕ, List, [], ◌∷◌, Option, Some, None, is_some, if◌then◌else◌}
+use Rattle.std.specs.Option.{option_or}
+use Rattle.std.specs.declared.cmp.Ordering.{Ordering}
+use Rattle.std.specs.Ordering.{nat_cmp}
+use Rattle.std.specs.Cmp.Lexicographic.{slice_cmp}
+use Rattle.std.specs.Str.{bytes_eq}
+use Rattle.std.specs.Map.{lookup, remove_entry}
+use Rattle.std.specs.BTreeMap.{insert_entry}
+use Rattle.apl_arrays.specs.Cells.{Arr}
+use Rattle.apl_symbols.specs.declared.class.Class.{Class}
+use Rattle.apl_symbols.specs.declared.class.Class.TheVariants.{Variable}
+use Rattle.apl_names.specs.declared.binding.Binding.{Binding}
+use Rattle.apl_names.specs.declared.binding.Binding.TheVariants.{Unset, Label, Value, Function}
+
+-- a name, by its characters
+abbrev pub Text : Type 0
+Text = List ℕ
+
+-- names with what they stand for, each name once, ascending
+abbrev pub Map : Type 0
+Map = List (Text × Binding)
+
+-- the order of names: by code points from the first on, a front before the whole
+abbrev pub name_cmp : Text → Text → Ordering
+name_cmp = slice_cmp nat_cmp
+
+-- what a map says of a name, if it has the name
+abbrev pub said : Map → Text → Option Binding
+said m n = lookup (bytes_eq n) m
+
+-- the map in which n stands for b
+abbrev pub with_entry : Text → Binding → Map → Map
+with_entry n b m = insert_entry name_cmp m n b
+
+-- the map without n
+abbrev pub without_entry : Text → Map → Map
+without_entry n m = remove_entry (bytes_eq n) m
+
+-- the map of these bindings; of two of one name, the first stands
+abbrev pub map_of : List (Text × Binding) → Map
+map_of [] = []
+map_of (e ∷ es) = with_entry e.0 e.1 (map_of es)
+
+-- the newest map that has the name answers
+abbrev pub found : List Map → Text → Option Binding
+found [] n = None
+found (m ∷ ms) n = option_or (said m n) (found ms n)
+
+-- n stands for b in the newest map that has n, and else in the global one
+abbrev pub assigned : List Map → Text → Binding → List Map
+assigned [] n b = []
+assigned (m ∷ []) n b = with_entry n b m ∷ []
+assigned (m ∷ k ∷ ms) n b = if is_some (said m n) then with_entry n b m ∷ k ∷ ms else m ∷ assigned (k ∷ ms) n b
+
+-- n stands for b in the global map
+abbrev pub with_global : Text → Binding → List Map → List Map
+with_global n b [] = []
+with_global n b (m ∷ []) = with_entry n b m ∷ []
+with_global n b (m ∷ k ∷ ms) = m ∷ with_global n b (k ∷ ms)
+
+-- the global map has n no more
+abbrev pub without_global : Text → List Map → List Map
+without_global n [] = []
+without_global n (m ∷ []) = without_entry n m ∷ []
+without_global n (m ∷ k ∷ ms) = m ∷ without_global n (k ∷ ms)
+
+-- the value that a name has
+abbrev pub value_in : Option Binding → Option Arr
+value_in None = None
+value_in (Some Unset) = None
+value_in (Some (Label line)) = None
+value_in (Some (Value array)) = Some array
+value_in (Some (Function class)) = None
+
+-- the class of a name
+abbrev pub class_in : Option Binding → Class
+class_in None = Variable
+class_in (Some Unset) = Variable
+class_in (Some (Label line)) = Variable
+class_in (Some (Value array)) = Variable
+class_in (Some (Function class)) = class

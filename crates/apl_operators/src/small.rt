@@ -1,0 +1,58 @@
+// The product, with a quick test of small numbers.
+ghost use Rattle.std.specs.Prelude.{◌≡◌, ◌^◌, ◌<◌, ◌≤◌, ◌≤ℤ◌, ◌*ℤ◌, FitsSigned, pos, unsigned_abs};
+ghost use Rattle.std.specs.Int.{w64};
+ghost use Rattle.apl_scalar.specs.declared.function.Dyadic.TheVariants as two;
+ghost use Rattle.apl_scalar.specs.Functions.{dyadic_of};
+
+use apl_faults::Fault;
+use apl_scalar::{Product, Scalar};
+
+/// The product where it fits, and some number elsewhere.
+#[inline(always)]
+fn times(x: i64, y: i64) -> i64
+    ensures { FitsSigned w64 (x *ℤ y) → result ≡ x *ℤ y }
+{
+    x.wrapping_mul(y)
+}
+
+/// A number that is below 2^32 only where the argument's magnitude is at most 2^31.
+#[inline(always)]
+fn spread(number: i64) -> u64
+    ensures { result < 2 ^ 32 → unsigned_abs number ≤ 2 ^ 31 }
+{
+    number.wrapping_add(0x8000_0000).cast_unsigned()
+}
+
+/// A number that is no less than either.
+#[inline(always)]
+fn wider(x: u64, y: u64) -> u64
+    ensures x { x ≤ result }
+    ensures y { y ≤ result }
+{
+    x | y
+}
+
+/// A flag that is negative where a number is not below 2^32.
+#[inline(always)]
+fn flag(number: u64) -> i64
+    ensures { pos 0 ≤ℤ result → number < 2 ^ 32 }
+{
+    -((number / 0x1_0000_0000) as i64)
+}
+
+/// The product. The flag is raised unless both numbers are small, which takes no product of twice as many bits.
+pub(crate) struct SmallProduct;
+
+impl Scalar for SmallProduct {
+    ghost meaning = { dyadic_of two.Times };
+
+    #[inline(always)]
+    fn apply(x: i64, y: i64) -> Result<i64, Fault> {
+        Product::apply(x, y)
+    }
+
+    #[inline(always)]
+    fn tried(x: i64, y: i64) -> (i64, i64) {
+        (times(x, y), flag(wider(spread(x), spread(y))))
+    }
+}
