@@ -213,16 +213,22 @@ within-whole taken whole short counted =
     (subst (λ (xs : List ℕ). 1000000 + length (last_line xs) ≤ 1000000) (sym whole) (omega arith))
 
 -- the reader fails behind the last line that may be
-pub stopped-at_end : (ws : State) (n : ℕ) (before left left' : List ℕ) (tells : Bool) (old new : List ℕ) (s : State) →
-    Reached ws n before left tells old new s 1000000 → left' ≡ left → StoppedAt Read ws n before left' tells old new
-stopped-at_end ws n before left left' tells old new s r e = record {
+pub stopped-at_end : (ws : State) (n : ℕ) (before left left' : List ℕ) (tells : Bool) (old new : List ℕ) (s : State) (count : ℕ) →
+    Reached ws n before left tells old new s count → count ≡ 1000000 → left' ≡ left → StoppedAt Read ws n before left' tells old new
+stopped-at_end ws n before left left' tells old new s count r full e = record {
   taken = r.taken;
   refused = [];
   read = r.read ∙ ap (λ (x : List ℕ). r.taken ++ x) (sym e) ∙ ap (λ (t : List ℕ). t ++ left') (sym (append-nil r.taken));
-  within = within-whole r.taken r.whole r.short r.counted;
+  within = within-whole r.taken r.whole r.short (r.counted ∙ full);
   due = refl;
   wrote = r.wrote;
 }
+
+-- the input ends behind the last line that may be
+pub whole-within : (ws : State) (n : ℕ) (before left : List ℕ) (tells : Bool) (old new : List ℕ) (s : State) (count : ℕ) →
+    Reached ws n before left tells old new s count → count ≡ 1000000 → left ≡ [] → IsWithinLimits before
+whole-within ws n before left tells old new s count r full e =
+    subst IsWithinLimits (sym (r.read ∙ ap (λ (x : List ℕ). r.taken ++ x) e ∙ append-nil r.taken)) (within-whole r.taken r.whole r.short (r.counted ∙ full))
 
 -- a line more begins behind the last that may be
 pub stopped-many : (ws : State) (n : ℕ) (before left left' : List ℕ) (tells : Bool) (old new : List ℕ) (s : State) (count b : ℕ) →

@@ -4,7 +4,7 @@ use Rattle.apl_machine_state.specs.State.{State}
 use Rattle.apl_session.specs.Transcript.{last_line, complete_lines, lines_of, after_lines, transcript_of, transcript, silent}
 use Rattle.apl_session.specs.Devices.{Extends}
 use Rattle.apl_session.specs.Runs.{IsWithinLimits, StopsWriting, StoppedAt, BeginsWithLine, IsLast}
-use Rattle.apl_session.proofs.Reached.{Took, reads-line, reads-last, if_ok-map, if_err-map, took-line, took-last, reached-line, stopped-writing, stopped-reading, stopped-many, any-ok, under_err, ends-within, ends-state, ends-transcript}
+use Rattle.apl_session.proofs.Reached.{Took, reads-line, reads-last, if_ok-map, if_err-map, took-line, took-last, reached-line, stopped-writing, stopped-reading, stopped-at_end, stopped-many, whole-within, any-ok, under_err, ends-within, ends-state, ends-transcript}
 use Rattle.apl_session.proofs.Reading.{last_line-length}
 use Rattle.apl_session.proofs.runs.run.Goals as goal
 
@@ -103,3 +103,16 @@ returns-in-Ok-false-clause-stopped g c = λ r.
     (λ e h x. stopped-writing e c.args.ws c.args.steps (g.R.Source.left c.args.reader.now) (g.R.Source.left c.loop.reader) (g.R.Source.left c.read_line.new.reader) g.W.Sink.tells
     (g.W.Sink.written c.args.writer.now) (g.W.Sink.written c.loop.writer) (g.W.Sink.written c.run_last.new.writer) c.loop.session c.loop.counter (last_line c.deref.result.now) (c.loop.invariant.reached r) took h x)
     c.run_last.ensures.writing (under_err (IsTrue g.W.Sink.tells) (Extends (g.W.Sink.written c.loop.writer) (g.W.Sink.written c.run_last.new.writer) (transcript_of c.loop.session (last_line c.deref.result.now) c.args.steps)) c.run_last.result c.run_last.ensures.prefix)
+
+pub returns-in-Ok-None-clause-within : goal.returns-in-Ok-None-clause-within
+returns-in-Ok-None-clause-within g c = λ r.
+    let full : c.loop.counter ≡ 1000000 = omega arith in
+    let over = rw c.in-Ok-None.field-0-is at (c.in-Ok-None.ensures.bytes r) in
+    whole-within c.args.ws c.args.steps (g.R.Source.left c.args.reader.now) (g.R.Source.left c.loop.reader) g.W.Sink.tells
+    (g.W.Sink.written c.args.writer.now) (g.W.Sink.written c.loop.writer) c.loop.session c.loop.counter (c.loop.invariant.reached r) full over.0
+
+pub returns-in-Err-read_byte-clause-stopped : goal.returns-in-Err-read_byte-clause-stopped
+returns-in-Err-read_byte-clause-stopped g c = λ r.
+    let full : c.loop.counter ≡ 1000000 = omega arith in
+    stopped-at_end c.args.ws c.args.steps (g.R.Source.left c.args.reader.now) (g.R.Source.left c.loop.reader) (g.R.Source.left c.read_byte.new.reader) g.W.Sink.tells
+    (g.W.Sink.written c.args.writer.now) (g.W.Sink.written c.loop.writer) c.loop.session c.loop.counter (c.loop.invariant.reached r) full (c.in-Err-read_byte.ensures.bytes r)
