@@ -1,5 +1,7 @@
 -- Functions as they are defined.
-use Rattle.std.specs.Prelude.{ℕ, ◌-◌, ◌==◌, List, [], Option, None, unwrap_or, slice_get, if◌then◌else◌}
+use Rattle.std.specs.Prelude.{ℕ, ◌-◌, ◌==◌, ◌&&◌, nat_le, Bool, List, [], length, Option, Some, None, unwrap_or, slice_get, if◌then◌else◌}
+use Rattle.apl_symbols.specs.declared.class.Class.{Class}
+use Rattle.apl_symbols.specs.declared.class.Class.TheVariants.{Niladic, Function}
 use Rattle.apl_defn.specs.declared.parts.Header.{Header as Parts}
 
 -- a text is the list of its characters, by their code points
@@ -23,3 +25,16 @@ line_of d n = unwrap_or (slice_get d.lines (n - 1)) []
 -- the text of the line of that number, from 1, where there is one
 abbrev pub line_at : List Text → ℕ → Option Text
 line_at lines n = if n == 0 then None else slice_get lines (n - 1)
+
+-- n is the number of a line
+abbrev pub is_line : Definition → ℕ → Bool
+is_line d n = nat_le 1 n && nat_le n (length d.lines)
+
+-- without arguments a function is niladic
+abbrev pub class_by : Option Text → Class
+class_by None = Niladic
+class_by (Some right) = Function
+
+-- the class of a function, by its header
+abbrev pub class_of : Definition → Class
+class_of d = class_by d.header.right

@@ -4,3 +4,4 @@ pub mod Reading
 pub mod Defining
 pub mod Listing
 pub mod Defines
+pub mod Blanks

@@ -1,13 +1,13 @@
 // Functions as they are defined.
 ghost use Rattle.std.specs.Prelude.{◌≡◌, ◌≤◌, length, map, Some, None, Ok, IfOk, IfSome, IfNone};
 ghost use Rattle.apl_tokens.specs.Tokens.{tokens_of};
-ghost use Rattle.apl_defn.specs.Definitions.{line_of, line_at};
+ghost use Rattle.apl_defn.specs.Definitions.{class_of, line_of, line_at};
 ghost use Rattle.apl_defn.specs.Defining.{IsDefined};
 
 use crate::line::Line;
 use crate::parts::Header;
 use apl_charset::Ch;
-use apl_symbols::Name;
+use apl_symbols::{Class, Name};
 use apl_tokens::Token;
 use std::alloc::{AllocError, Global};
 use std::marker::Model;
@@ -53,6 +53,16 @@ impl Definition {
         ensures defined { IsDefined self.now }
     {
         &self.header
+    }
+
+    /// Its class: a function without arguments is niladic.
+    pub fn class(&self) -> Class
+        ensures { result ≡ class_of self.now }
+    {
+        match self.header.right {
+            Some(_) => Class::Function,
+            None => Class::Niladic,
+        }
     }
 
     /// How many lines it has.

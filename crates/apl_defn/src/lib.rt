@@ -1,6 +1,7 @@
 //! Headers and definitions of functions, and how they are written.
 #![tactic(auto)]
 
+mod blanks;
 mod defining;
 mod definition;
 mod error;
@@ -12,6 +13,7 @@ mod reading;
 #[cfg(test)]
 mod tests;
 
+pub use blanks::trimmed;
 pub use defining::define;
 pub use definition::Definition;
 pub use error::DefnError;

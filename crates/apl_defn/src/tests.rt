@@ -1,6 +1,9 @@
 // Headers and definitions, read, refused and written.
-use crate::{Definition, DefnError, Names, canonical, define, definitions, header, headers, show};
+use crate::{
+    Definition, DefnError, Names, canonical, define, definitions, header, headers, show, trimmed,
+};
 use apl_charset::{Text, decode_line, encode};
+use apl_symbols::Class;
 use std::alloc::Global;
 use std::test::Fail;
 
@@ -214,5 +217,29 @@ fn long_header(rt: HostRuntime) -> Result<(), Fail> {
     assert_eq!(rt; error_of(rt.alloc(), &line)?, None);
     line.push(' ')?;
     assert_eq!(rt; error_of(rt.alloc(), &line)?, Some(DefnError::Header));
+    Ok(())
+}
+
+#[test]
+fn classes(rt: HostRuntime) -> Result<(), Fail> {
+    let rows = [
+        ("F", Class::Niladic),
+        ("Z←F", Class::Niladic),
+        ("F B", Class::Function),
+        ("Z←A F B", Class::Function),
+    ];
+    for (line, want) in rows {
+        assert_eq!(rt; defined(rt.alloc(), &[line])?.class(), want, "{line}");
+    }
+    Ok(())
+}
+
+#[test]
+fn blanks_at_the_ends(rt: HostRuntime) -> Result<(), Fail> {
+    for (line, want) in [("  A  B ", "A  B"), ("AB", "AB"), ("   ", ""), ("", "")] {
+        let line = text(rt.alloc(), line)?;
+        let want = text(rt.alloc(), want)?;
+        assert!(rt; trimmed(line.as_slice()) == want.as_slice());
+    }
     Ok(())
 }

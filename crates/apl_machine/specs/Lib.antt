@@ -1,3 +1,5 @@
-pub mod Flat
-pub mod Effects
-pub mod Statements
+pub mod Deeds
+pub mod Leaving
+pub mod Reduced
+pub mod Changes
+pub mod Spaces

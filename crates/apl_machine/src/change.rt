@@ -1,31 +1,46 @@
-//! What a step makes of a statement.
-ghost use Rattle.std.specs.Prelude.{◌≡◌, ◌≤◌, true, IfOk, length, reverse};
-ghost use Rattle.apl_machine_state.specs.Reports.{said};
-ghost use Rattle.apl_machine_state.specs.Changes.{leads_nowhere};
-ghost use Rattle.apl_machine.specs.Flat.{AreThere, fetched};
-ghost use Rattle.apl_machine.specs.Effects.{IsColumn, HoldsValue, branch_texts, ending_texts, has_place, is_of_value};
-ghost use Rattle.apl_machine.specs.Statements.{IsAlone, IsChange};
+//! What a step makes of a machine.
+ghost use Rattle.std.specs.Prelude.{◌≡◌, ◌≤◌, ◌∷◌, [], true, IfOk, IsSome, List, ℕ, length, reverse};
+ghost use Rattle.apl_arrays.specs.Cells.{Numbers};
+ghost use Rattle.apl_arrays.specs.Simple.{vector};
+ghost use Rattle.apl_names.specs.Maps.{Map};
+ghost use Rattle.apl_machine_state.specs.Changes.{aim, leads_nowhere, line_number};
+ghost use Rattle.apl_machine_state.specs.Reports.{fault_lines};
+ghost use Rattle.apl_operands.specs.Operands.{AreThere, fetched};
+ghost use Rattle.apl_frames.specs.Ends.{HoldsValue, IsColumn, has_place, is_of_value};
+ghost use Rattle.apl_contexts.specs.Contexts.{AreSound, dressed, line_in, lines_in};
+ghost use Rattle.apl_machine.specs.Changes.{IsChange};
+ghost use Rattle.apl_machine.specs.Leaving.{Faulty, IsLeaving, leaving};
+ghost use Rattle.apl_machine.specs.Reduced.{IsReduced};
+ghost use Rattle.apl_phrases.specs.Effects.{acted, seen};
 
-use crate::operands::{Given, Operands, last_operand, left, one_value};
-use crate::perform::{Deed, Effect, perform};
-use crate::reports::{said, typed_fault};
-use crate::scene::Scene;
-use crate::statement::Statement;
+use crate::reports::context_fault;
 use apl_arrays::{Array, Ravel};
-use apl_charset::Ch;
 use apl_code::{Action, Ending, Instr};
+use apl_contexts::{Context, Contexts};
 use apl_faults::Fault;
 use apl_format::display;
-use apl_machine_state::OutLine;
+use apl_frames::Stage;
+use apl_machine_state::{Operand, OutLine};
+use apl_names::{DefinedFunction, Names};
+use apl_operands::{Given, Operands, last_operand, left, one_value};
+use apl_phrases::{Deed, Effect, Scene, perform, said};
 use std::alloc::{AllocError, Global};
 
-/// What the next step makes of a statement.
+/// What the next step makes of a machine.
 #[derive(Drop)]
 pub enum Change {
     /// A phrase gives this, with so many operands left, and does that beside.
     Goes(Given, usize, Deed),
-    /// The statement is over, and these lines are written.
+    /// A phrase calls a function with these arguments, with so many operands left.
+    Calls(DefinedFunction, Option<Array>, Option<Array>, usize),
+    /// The line ends, and these lines are written.
     Ends(Vec<OutLine>),
+    /// The line branches to the line of this number, or on.
+    Branches(Option<usize>),
+    /// `→` alone drops the contexts through the nearest statement.
+    Escapes,
+    /// A fault abandons the line, and these lines report it.
+    Fails(Vec<OutLine>),
 }
 
 /// Whether a branch to this array is to a character.
@@ -38,75 +53,102 @@ fn leads_nowhere(array: &Array) -> bool
     }
 }
 
-/// What a branch to this array writes.
-fn branch_lines(
-    alloc: Global,
-    array: &Array,
-    text: &[Ch],
-    column: usize,
-) -> Result<Vec<OutLine>, AllocError>
-    requires { IsColumn column }
-    ensures { IfOk result (λ lines. lines.items ≡ said (branch_texts (leads_nowhere array.now.items) text.now column)) }
+/// The line that a number names, or 0, which is no line.
+fn line_number(number: i64) -> usize
+    ensures { result ≡ line_number number }
 {
-    if leads_nowhere(array) {
-        typed_fault(alloc, Fault::Domain, text, column)
-    } else {
-        Ok(Vec::new(alloc))
+    if number < 0 { 0 } else { number as usize }
+}
+
+/// Where a branch to this array goes: to the line of its first number, or on where it has none.
+fn aim(array: &Array) -> Option<usize>
+    ensures { result ≡ aim array.now.items }
+{
+    match array.ravel() {
+        Ravel::Nums(numbers) => match numbers.first() {
+            Some(number) => Some(line_number(*number)),
+            None => None,
+        },
+        Ravel::Chars(_) => None,
     }
 }
 
-/// What the end of a line writes.
-fn ending_lines(
+/// A fault in the line of a context.
+fn failing(
+    alloc: Global,
+    fault: Fault,
+    context: &Context,
+    column: usize,
+) -> Result<Change, AllocError>
+    requires { (1 ≤ column) × (column ≤ 501) }
+    ensures { IfOk result (λ change. (ms : List Map) (rest : Fault → List (List ℕ)) → rest fault ≡ fault_lines fault column (dressed ms (context.now ∷ [])) → IsLeaving change (Faulty fault) rest) }
+{
+    Ok(Change::Fails(context_fault(alloc, fault, context, column)?))
+}
+
+/// How a line is left.
+fn leaving(
     alloc: Global,
     ending: Ending,
     instr: &Instr,
     operands: Operands<'_>,
-    text: &[Ch],
-) -> Result<Vec<OutLine>, AllocError>
+    context: &Context,
+) -> Result<Change, AllocError>
     requires there { AreThere (length operands.constants.now) instr.now.arguments (length operands.stack.now) }
     requires value { is_of_value ending ≡ true → HoldsValue (fetched operands.constants.now instr.now.arguments (reverse operands.stack.now)) }
     requires placed { has_place ending ≡ true → IsColumn instr.now.at }
-    ensures { IfOk result (λ lines. lines.items ≡ said (ending_texts ending (fetched operands.entry.constants.now instr.now.arguments (reverse operands.entry.stack.now)) text.now instr.now.at)) }
+    ensures { IfOk result (λ change. (ms : List Map) → IsLeaving change (leaving ending (fetched operands.entry.constants.now instr.now.arguments (reverse operands.entry.stack.now))) (λ fault. fault_lines fault instr.now.at (dressed ms (context.now ∷ [])))) }
 {
     match ending {
-        Ending::Nothing | Ending::Hidden | Ending::Escape => Ok(Vec::new(alloc)),
+        Ending::Nothing | Ending::Hidden => Ok(Change::Ends(Vec::new(alloc))),
+        Ending::Escape => Ok(Change::Escapes),
         Ending::Shown => {
             let Some(value) = one_value(instr.arguments.as_slice(), operands) else {
                 unreachable!()
             };
-            said(alloc, display(alloc, value)?)
+            Ok(Change::Ends(said(alloc, display(alloc, value)?)?))
         }
         Ending::Branch => {
             let Some(value) = one_value(instr.arguments.as_slice(), operands) else {
                 unreachable!()
             };
-            branch_lines(alloc, value, text, instr.at)
+            if leads_nowhere(value) {
+                return failing(alloc, Fault::Domain, context, instr.at);
+            }
+            Ok(Change::Branches(aim(value)))
         }
-        Ending::Fail => typed_fault(alloc, Fault::Syntax, text, instr.at),
+        Ending::Fail => failing(alloc, Fault::Syntax, context, instr.at),
     }
 }
 
-/// What the next instruction of a statement makes of it. It changes nothing yet.
-pub fn change_of(
+/// `⎕LC`: the line numbers of the standing calls.
+fn line_counter(alloc: Global, contexts: &Contexts) -> Result<Array, AllocError>
+    ensures { IfOk result (λ array. array ≡ vector (Numbers (lines_in contexts.now))) }
+{
+    let numbers = contexts.line_numbers(alloc)?;
+    let count = numbers.len();
+    match Array::from_shape(&[count], Ravel::Nums(numbers)) {
+        Ok(array) => Ok(array),
+        // It doesn't come to this: at most 256 calls stand.
+        Err(_) => Err(AllocError),
+    }
+}
+
+/// What a phrase makes of a machine.
+fn reduce(
     alloc: Global,
     scene: Scene<'_>,
-    statement: &Statement,
+    contexts: &Contexts,
+    context: &Context,
+    instr: &Instr,
+    operands: Operands<'_>,
 ) -> Result<Change, AllocError>
-    requires alone { IsAlone scene.names.now }
+    requires there { AreThere (length operands.constants.now) instr.now.arguments (length operands.stack.now) }
     requires small { scene.io ≤ 1 }
-    ensures { IfOk result (λ change. IsChange change statement.now scene.entry.names.now scene.entry.io) }
+    requires placed { IsColumn instr.now.at }
+    ensures { IfOk result (λ change. (ms : List Map) → IsReduced change (acted (seen scene.entry (lines_in contexts.now)) instr.now.action (fetched operands.entry.constants.now instr.now.arguments (reverse operands.entry.stack.now))) operands.entry.stack.now instr.now.arguments (λ fault. fault_lines fault instr.now.at (dressed ms (context.now ∷ [])))) }
 {
-    let line = &statement.line;
-    let instr = line.next();
     let sources = instr.arguments.as_slice();
-    let operands = Operands {
-        constants: line.constants(),
-        stack: line.operands(),
-    };
-    let text = statement.text.as_slice();
-    if let Action::End(ending) = instr.action {
-        return Ok(Change::Ends(ending_lines(alloc, ending, instr, operands, text)?));
-    }
     match perform(alloc, scene, instr.action, sources, operands)? {
         Effect::Gives(operand) => {
             let left = left(sources, operands.stack);
@@ -116,6 +158,53 @@ pub fn change_of(
             let (given, left) = last_operand(sources, operands)?;
             Ok(Change::Goes(given, left, deed))
         }
-        Effect::Fails(fault) => Ok(Change::Ends(typed_fault(alloc, fault, text, instr.at)?)),
+        Effect::GivesLineNumbers => {
+            let numbers = line_counter(alloc, contexts)?;
+            let left = left(sources, operands.stack);
+            let given = Given::New(Operand::Value(numbers));
+            Ok(Change::Goes(given, left, Deed::Nothing))
+        }
+        Effect::Calls(function, first, second) => {
+            let left = left(sources, operands.stack);
+            Ok(Change::Calls(function, first, second, left))
+        }
+        Effect::Fails(fault) => failing(alloc, fault, context, instr.at),
     }
+}
+
+/// What the next step makes of a machine whose newest context does a line. It changes nothing yet.
+pub fn change_of(
+    alloc: Global,
+    names: &Names,
+    io: usize,
+    contexts: &Contexts,
+) -> Result<Change, AllocError>
+    requires sound { AreSound contexts.now names.now }
+    requires small { io ≤ 1 }
+    requires runs { IsSome (line_in contexts.now) }
+    ensures { IfOk result (λ change. IsChange change names.now io contexts.now) }
+{
+    let Some(context) = contexts.newest() else {
+        unreachable!()
+    };
+    let Some(line) = context.line() else {
+        unreachable!()
+    };
+    if line.stage() == Stage::Emptied {
+        return Ok(Change::Ends(Vec::new(alloc)));
+    }
+    let instr = line.next();
+    let operands = Operands {
+        constants: line.constants(),
+        stack: line.operands(),
+    };
+    if let Action::End(ending) = instr.action {
+        return leaving(alloc, ending, instr, operands, context);
+    }
+    let scene = Scene {
+        names,
+        io,
+        standing: names.depth() - 1,
+    };
+    reduce(alloc, scene, contexts, context, instr, operands)
 }

@@ -1,20 +1,13 @@
-//! The machine: it does typed statements, a phrase a step.
+//! The machine: it does typed statements and calls of functions, a phrase a step.
 #![tactic(auto)]
 
-mod assign;
 mod change;
-mod frame;
+mod locals;
 mod machine;
-#[cfg(test)]
-mod names_tests;
-mod operands;
-mod perform;
 mod reports;
-mod scene;
-mod statement;
-#[cfg(test)]
-mod tests;
+mod returns;
+mod workspace;
 
+pub use apl_frames::Frame;
 pub use apl_machine_state::{Operand, OutLine, Progress, Slots};
-pub use frame::Frame;
 pub use machine::{BeginError, Machine};

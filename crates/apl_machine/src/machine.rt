@@ -1,25 +1,31 @@
 //! The machine.
-ghost use Rattle.std.specs.Prelude.{◌≡◌, ◌↔◌, [], ◌∷◌, ◌++◌, Some, None, IfOk, IfSome, IfNone, OnOk, OnErr, IsErrOf, IsFalse, IsTrue, option_copied};
+ghost use Rattle.std.specs.Prelude.{◌≡◌, ◌↔◌, [], ◌∷◌, None, Some, Ok, true, false, IfOk, IfSome, IfNone, IsSome, List, OnOk, OnErr, IsErrOf, IsFalse, option_copied};
 ghost use Rattle.apl_machine_state.specs.Items.{Rest};
 ghost use Rattle.apl_machine_state.specs.Environment.{class_of, rest_at};
 ghost use Rattle.apl_machine_state.specs.Frames.{IsFrame};
-ghost use Rattle.apl_machine_state.specs.State.{State, clear, is_idle, step, turn, progress, interrupt, value_of, with_lines};
-ghost use Rattle.apl_machine.specs.Statements.{lines_of, maps_after, origin_after};
-ghost use Rattle.apl_machine_state.specs.Beginning.{begun};
+ghost use Rattle.apl_machine_state.specs.State.{State, clear, definition_of, function_in, interrupt, is_global_variable, is_idle, is_variable, progress, step, turn, value_of, with_function, with_lines};
+ghost use Rattle.apl_machine_state.specs.Beginning.{begun, colon_of, started};
+ghost use Rattle.apl_machine_state.specs.State.{Turn};
+ghost use Rattle.apl_names.specs.Maps.{Map};
+ghost use Rattle.apl_tokens.specs.Tokens.{tokens_of};
+ghost use Rattle.apl_contexts.specs.Contexts.{dressed, line_in};
+ghost use Rattle.apl_machine.specs.Changes.{IsChange};
+ghost use Rattle.apl_machine.specs.Spaces.{IsSound, state_of};
 
 use crate::change::{Change, change_of};
-use crate::frame::Frame;
-use crate::perform::Deed;
-use crate::reports::{token_fault, typed_fault};
-use crate::scene::Scene;
-use crate::statement::{Statement, colon_of};
+use crate::reports::{context_fault, token_fault, typed_fault};
+use crate::workspace::Workspace;
 use apl_arrays::Array;
 use apl_charset::{Ch, Text};
+use apl_contexts::{Context, Contexts, Statement, begin_line};
+use apl_defn::Definition;
 use apl_faults::Fault;
+use apl_frames::Frame;
 use apl_machine_state::{OutLine, Progress};
-use apl_names::Names;
-use apl_symbols::{Class, Name};
-use apl_tokens::tokens;
+use apl_names::{Binding, DefinedFunction, Names};
+use apl_phrases::said;
+use apl_symbols::{Class, Name, Symbol};
+use apl_tokens::{Kind, Token, tokens};
 use apl_translate::Cache;
 use std::alloc::{AllocError, Global};
 use std::marker::Model;
@@ -29,27 +35,19 @@ use thiserror::Error;
 /// A workspace with what runs in it.
 #[derive(Drop)]
 pub struct Machine {
-    alloc: Global,
-    names: Names,
-    /// The index origin of the workspace: 0 or 1.
-    io: usize,
-    /// The translations of the lines that began last.
-    cache: Cache,
-    statement: Option<Statement>,
-    output: Vec<OutLine>,
+    workspace: Workspace,
 }
 
 impl Model for Machine {
-    ghost use Rattle.std.specs.Prelude.{◌≤◌};
-    ghost use Rattle.apl_machine_state.specs.State.{State, clear};
+    ghost use Rattle.apl_machine_state.specs.State.{State};
 
     ghost Value = { State };
 
-    ghost use Rattle.apl_machine.specs.Statements.{IsAlone, contexts_of, world_of};
+    ghost use Rattle.apl_machine.specs.Spaces.{IsSound, state_of};
 
-    ghost view = { λ m. record clear { world = world_of m.names m.io; contexts = contexts_of m.statement; output = m.output.items } };
+    ghost view = { λ m. state_of m.workspace };
 
-    ghost invariant = { λ m. IsAlone m.names × (m.io ≤ 1) };
+    ghost invariant = { λ m. IsSound m.workspace };
 }
 
 /// Why a line did not begin.
@@ -74,33 +72,168 @@ impl From<AllocError> for BeginError {
     }
 }
 
-/// Does what a phrase does beside giving its value. After an error nothing has changed.
-fn commit(
-    deed: Deed,
-    names: &mut Names,
-    io: &mut usize,
-    output: &mut Vec<OutLine>,
-) -> Result<(), AllocError>
-    ensures names { OnOk result (names.new ≡ maps_after deed names.old) }
-    ensures io { OnOk result (io.new ≡ origin_after deed io.old) }
-    ensures output { OnOk result (output.new.items ≡ output.old.items ++ lines_of deed) }
-    ensures err { OnErr result ((names.new ≡ names.old) × (io.new ≡ io.old) × (output.new.items ≡ output.old.items)) }
+/// The column of the colon of a label.
+fn colon_of(tokens: &[Token]) -> Option<usize>
+    ensures { result ≡ colon_of tokens.now }
 {
-    match deed {
-        Deed::Nothing => Ok(()),
-        Deed::Writes(mut lines) => {
-            output.append(&mut lines)?;
-            Ok(())
+    match tokens {
+        [first, second, ..] => match first.kind {
+            Kind::Name(_) => match second.kind {
+                Kind::Symbol(Symbol::Colon) => Some(second.at),
+                _ => None,
+            },
+            _ => None,
+        },
+        _ => None,
+    }
+}
+
+/// Where a machine stands after a step, which may have ended a line.
+fn progress_of(contexts: &Contexts, ended: bool) -> Progress
+    ensures { (t : Turn) → t.stopped ≡ false → t.ended ≡ ended → (ms : List Map) → t.state.contexts ≡ dressed ms contexts.now → result ≡ progress t }
+{
+    if contexts.line().is_none() {
+        Progress::Idle
+    } else if ended {
+        Progress::LineEnd
+    } else {
+        Progress::Running
+    }
+}
+
+/// Makes a step, and tells whether it ended a line or branched. After an error nothing has changed.
+fn apply(workspace: &mut Workspace, change: Change) -> Result<bool, AllocError>
+    requires sound { IsSound workspace.old }
+    requires runs { IsSome (line_in workspace.old.contexts) }
+    requires change { IsChange change workspace.old.maps workspace.old.io workspace.old.contexts }
+    ensures sound { IsSound workspace.new }
+    ensures ok { OnOk result (state_of workspace.new ≡ step (state_of workspace.old)) }
+    ensures ended { IfOk result (λ ended. ended ≡ (turn (state_of workspace.old)).ended) }
+    ensures err { OnErr result (workspace.new ≡ workspace.old) }
+{
+    match change {
+        Change::Goes(given, left, deed) => {
+            workspace.go_on(given, left, deed)?;
+            Ok(false)
         }
-        Deed::Assigns(name, array) => {
-            names.assign(&name, array)?;
-            Ok(())
+        Change::Calls(function, first, second, left) => {
+            workspace.enter(function, (first, second), left)?;
+            Ok(false)
         }
-        Deed::SetsOrigin(origin) => {
-            *io = origin;
-            Ok(())
+        Change::Ends(lines) => {
+            workspace.end_line(lines)?;
+            Ok(true)
+        }
+        Change::Branches(aim) => {
+            workspace.branch(aim)?;
+            Ok(true)
+        }
+        Change::Escapes => {
+            workspace.escape();
+            Ok(true)
+        }
+        Change::Fails(report) => {
+            workspace.fail(report)?;
+            Ok(false)
         }
     }
+}
+
+/// Abandons what runs, with a report. After an error nothing has changed.
+fn abandon(workspace: &mut Workspace) -> Result<(), AllocError>
+    requires sound { IsSound workspace.old }
+    requires runs { IsSome (line_in workspace.old.contexts) }
+    ensures sound { IsSound workspace.new }
+    ensures ok { OnOk result (state_of workspace.new ≡ interrupt (state_of workspace.old)) }
+    ensures err { OnErr result (workspace.new ≡ workspace.old) }
+{
+    let Some(newest) = workspace.contexts.newest() else {
+        unreachable!()
+    };
+    let report = context_fault(workspace.alloc, Fault::Interrupt, newest, 1)?;
+    workspace.fail(report)?;
+    Ok(())
+}
+
+/// Defines a function, in the place of what its name stood for globally. After an error nothing has
+/// changed.
+fn define(workspace: &mut Workspace, definition: Definition) -> Result<(), AllocError>
+    requires sound { IsSound workspace.old }
+    ensures sound { IsSound workspace.new }
+    ensures ok { OnOk result (state_of workspace.new ≡ with_function definition (state_of workspace.old)) }
+    ensures err { OnErr result (workspace.new ≡ workspace.old) }
+{
+    let name = definition.header().name;
+    let function = DefinedFunction::new(workspace.alloc, definition)?;
+    workspace.names.function(&name, function)?;
+    Ok(())
+}
+
+/// The function that a binding is, if it is one.
+fn function_in(binding: Option<&Binding>) -> Option<&Definition>
+    ensures { option_copied result ≡ function_in (option_copied binding.entry) }
+{
+    match binding {
+        Some(Binding::Function(function)) => Some(function.definition()),
+        _ => None,
+    }
+}
+
+/// Whether a binding is a variable.
+fn is_variable(binding: Option<&Binding>) -> bool
+    ensures { result ≡ is_variable (option_copied binding.entry) }
+{
+    match binding {
+        Some(Binding::Value(_)) => true,
+        _ => false,
+    }
+}
+
+/// Begins the statement of a typed text on an idle machine, or reports its fault. After an error
+/// nothing has changed.
+fn begin(workspace: &mut Workspace, text: &[Ch]) -> Result<(), AllocError>
+    requires sound { IsSound workspace.old }
+    requires idle { line_in workspace.old.contexts ≡ None }
+    ensures sound { IsSound workspace.new }
+    ensures ok { OnOk result (state_of workspace.new ≡ begun (state_of workspace.old) text.now) }
+    ensures err { OnErr result (workspace.new ≡ workspace.old) }
+{
+    let mut lines = match tokens(workspace.alloc, text) {
+        Ok(tokens) => match colon_of(tokens.as_slice()) {
+            None => return begin_statement(workspace, text, tokens.as_slice()),
+            Some(column) => typed_fault(workspace.alloc, Fault::Syntax, text, column)?,
+        },
+        Err(error) => token_fault(workspace.alloc, error, text)?,
+    };
+    workspace.output.append(&mut lines)?;
+    Ok(())
+}
+
+/// Begins the statement of these tokens, a typed text's, on an idle machine. After an error nothing
+/// has changed.
+fn begin_statement(
+    workspace: &mut Workspace,
+    text: &[Ch],
+    tokens: &[Token],
+) -> Result<(), AllocError>
+    requires sound { IsSound workspace.old }
+    requires idle { line_in workspace.old.contexts ≡ None }
+    requires read { tokens_of text.now ≡ Ok tokens.now }
+    ensures sound { IsSound workspace.new }
+    ensures ok { OnOk result (state_of workspace.new ≡ started (state_of workspace.old) text.now tokens.now None) }
+    ensures err { OnErr result (workspace.new ≡ workspace.old) }
+{
+    let line = begin_line(
+        workspace.alloc,
+        &workspace.names,
+        &mut workspace.cache,
+        tokens,
+    )?;
+    let text = Text::new(Vec::from_slice(workspace.alloc, text)?);
+    workspace
+        .contexts
+        .push(Context::Statement(Statement { text, line }))?;
+    Ok(())
 }
 
 impl Machine {
@@ -109,12 +242,14 @@ impl Machine {
         ensures { result ≡ clear }
     {
         Machine {
-            alloc,
-            names: Names::new(alloc),
-            io: 1,
-            cache: Cache::new(alloc),
-            statement: None,
-            output: Vec::new(alloc),
+            workspace: Workspace {
+                alloc,
+                names: Names::new(alloc),
+                io: 1,
+                cache: Cache::new(alloc),
+                contexts: Contexts::new(alloc),
+                output: Vec::new(alloc),
+            },
         }
     }
 
@@ -122,7 +257,7 @@ impl Machine {
     pub fn is_idle(&self) -> bool
         ensures { result ≡ is_idle self.now }
     {
-        self.statement.is_none()
+        self.workspace.contexts.line().is_none()
     }
 
     /// Begins the statement of a typed text. A text that is no line, or has a label, is reported
@@ -135,29 +270,8 @@ impl Machine {
         if !self.is_idle() {
             return Err(BeginError::Busy);
         }
-        match tokens(self.alloc, text) {
-            Ok(tokens) => {
-                if let Some(column) = colon_of(tokens.as_slice()) {
-                    let mut lines = typed_fault(self.alloc, Fault::Syntax, text, column)?;
-                    self.output.append(&mut lines)?;
-                    return Ok(());
-                }
-                let statement = Statement::begin(
-                    self.alloc,
-                    &self.names,
-                    &mut self.cache,
-                    text,
-                    tokens.as_slice(),
-                )?;
-                self.statement = Some(statement);
-                Ok(())
-            }
-            Err(error) => {
-                let mut lines = token_fault(self.alloc, error, text)?;
-                self.output.append(&mut lines)?;
-                Ok(())
-            }
-        }
+        begin(&mut self.workspace, text)?;
+        Ok(())
     }
 
     /// One reduction of a phrase, or one line end. An idle machine stays as it is. After an error
@@ -167,27 +281,13 @@ impl Machine {
         ensures progress { IfOk result (λ p. p ≡ progress (turn self.old)) }
         ensures err { OnErr result (self.new ≡ self.old) }
     {
-        let Some(statement) = &self.statement else {
+        if self.is_idle() {
             return Ok(Progress::Idle);
-        };
-        let scene = Scene {
-            names: &self.names,
-            io: self.io,
-        };
-        match change_of(self.alloc, scene, statement)? {
-            Change::Goes(given, left, deed) => {
-                commit(deed, &mut self.names, &mut self.io, &mut self.output)?;
-                if let Some(statement) = &mut self.statement {
-                    statement.go_on(given, left);
-                }
-                Ok(Progress::Running)
-            }
-            Change::Ends(mut lines) => {
-                self.output.append(&mut lines)?;
-                self.statement = None;
-                Ok(Progress::Idle)
-            }
         }
+        let space = &self.workspace;
+        let change = change_of(space.alloc, &space.names, space.io, &space.contexts)?;
+        let ended = apply(&mut self.workspace, change)?;
+        Ok(progress_of(&self.workspace.contexts, ended))
     }
 
     /// Abandons what runs, with a report; an idle machine stays as it is. After an error the
@@ -196,24 +296,32 @@ impl Machine {
         ensures ok { OnOk result (self.new ≡ interrupt self.old) }
         ensures err { OnErr result (self.new ≡ self.old) }
     {
-        let Some(statement) = &self.statement else {
+        if self.is_idle() {
             return Ok(());
-        };
-        let mut lines = typed_fault(self.alloc, Fault::Interrupt, statement.text.as_slice(), 1)?;
-        self.output.append(&mut lines)?;
-        self.statement = None;
+        }
+        abandon(&mut self.workspace)?;
         Ok(())
     }
 
-    /// Writes a line.
+    /// Writes a line. After an error the machine is as before.
     pub fn say(&mut self, line: Text) -> Result<(), AllocError>
         ensures ok { OnOk result (self.new ≡ with_lines (line ∷ []) self.old) }
         ensures err { OnErr result (self.new ≡ self.old) }
     {
-        self.output.push(OutLine {
+        self.workspace.output.push(OutLine {
             text: line,
             stop: false,
         })?;
+        Ok(())
+    }
+
+    /// Writes lines, all of them or none. After an error the machine is as before.
+    pub fn say_lines(&mut self, lines: Vec<Text>) -> Result<(), AllocError>
+        ensures ok { OnOk result (self.new ≡ with_lines lines.items self.old) }
+        ensures err { OnErr result (self.new ≡ self.old) }
+    {
+        let mut lines = said(self.workspace.alloc, lines)?;
+        self.workspace.output.append(&mut lines)?;
         Ok(())
     }
 
@@ -222,40 +330,68 @@ impl Machine {
         ensures taken { result.items ≡ self.old.output }
         ensures rest { self.new ≡ record self.old { output = [] } }
     {
-        mem::replace(&mut self.output, Vec::new(self.alloc))
+        let alloc = self.workspace.alloc;
+        mem::replace(&mut self.workspace.output, Vec::new(alloc))
     }
 
     /// The value of a name, as a statement that begins now would read it, if it has one.
     pub fn value(&self, name: &Name) -> Option<&Array>
         ensures { option_copied result ≡ value_of self.now name.now }
     {
-        self.names.lookup(name)
+        self.workspace.names.lookup(name)
     }
 
     /// What a name stands for now.
     pub fn class_of(&self, name: &Name) -> Class
         ensures { result ≡ class_of self.now.world self.now.contexts name.now }
     {
-        self.names.class_of(name)
+        self.workspace.names.class_of(name)
+    }
+
+    /// The global function of a name.
+    pub fn definition(&self, name: &Name) -> Option<&Definition>
+        ensures { option_copied result ≡ definition_of self.now name.now }
+    {
+        function_in(self.workspace.names.global(name))
+    }
+
+    /// Whether a name is that of a global variable.
+    pub fn is_variable(&self, name: &Name) -> bool
+        ensures { result ≡ is_global_variable self.now name.now }
+    {
+        is_variable(self.workspace.names.global(name))
+    }
+
+    /// Defines a function, in the place of what its name stood for globally. The machine is idle,
+    /// and the name is not that of a global variable, by the caller's care. Calls that stand go on
+    /// with their own definitions. After an error the machine is as before.
+    pub fn define(&mut self, definition: Definition) -> Result<(), AllocError>
+        requires idle { is_idle self.old ≡ true }
+        requires free { is_global_variable self.old definition.header.name ≡ false }
+        ensures ok { OnOk result (self.new ≡ with_function definition self.old) }
+        ensures err { OnErr result (self.new ≡ self.old) }
+    {
+        define(&mut self.workspace, definition)?;
+        Ok(())
     }
 
     /// The translations of the lines that began last. They change no answer.
     pub fn cache(&self) -> &Cache {
-        &self.cache
+        &self.workspace.cache
     }
 
     /// The line that the k-th newest context is doing, counted from 0. There is none where that
-    /// context isn't there.
+    /// context is suspended or isn't there.
     pub fn frame(&self, k: usize) -> Option<Frame<'_>>
         ensures some { IfSome result (λ f. (rest : Rest) × (rest_at self.now.contexts k ≡ Some rest) × IsFrame rest f.code.now f.done f.operands.now) }
         ensures none { IfNone result (rest_at self.now.contexts k ≡ None) }
     {
-        let Some(statement) = &self.statement else {
+        let Some(context) = self.workspace.contexts.get(k) else {
             return None;
         };
-        if k != 0 {
+        let Some(line) = context.line() else {
             return None;
-        }
-        Some(statement.line.lend())
+        };
+        Some(line.lend())
     }
 }

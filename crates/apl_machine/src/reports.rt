@@ -1,26 +1,19 @@
 //! Output lines.
-ghost use Rattle.std.specs.Prelude.{◌≡◌, ◌≢◌, ◌≤◌, IfOk, None};
+ghost use Rattle.std.specs.Prelude.{◌≡◌, ◌≢◌, ◌≤◌, ◌∷◌, [], IfOk, None, List};
 ghost use Rattle.apl_faults.specs.Report.{report};
-ghost use Rattle.apl_machine_state.specs.Reports.{said};
+ghost use Rattle.apl_names.specs.Maps.{Map};
+ghost use Rattle.apl_machine_state.specs.Reports.{fault_lines, said};
 ghost use Rattle.apl_tokens.specs.Tokens.{IsPlaced};
 ghost use Rattle.apl_machine_state.specs.Beginning.{token_fault};
+ghost use Rattle.apl_contexts.specs.Contexts.{dressed};
 
 use apl_charset::{Ch, Text};
-use apl_faults::{Fault, report};
+use apl_contexts::{Context, Contexts};
+use apl_faults::{Call, Fault, report};
 use apl_machine_state::OutLine;
+use apl_phrases::said;
 use apl_tokens::TokenError;
 use std::alloc::{AllocError, Global};
-
-/// Output lines of these texts, none of which reports a stop.
-pub fn said(alloc: Global, texts: Vec<Text>) -> Result<Vec<OutLine>, AllocError>
-    ensures { IfOk result (λ lines. lines.items ≡ said texts.items) }
-{
-    let mut lines = Vec::with_capacity(alloc, texts.len())?;
-    for text in texts {
-        lines.push(OutLine { text, stop: false })?;
-    }
-    Ok(lines)
-}
 
 /// The report of a fault in a typed text.
 pub fn typed_fault(
@@ -33,6 +26,33 @@ pub fn typed_fault(
     ensures { IfOk result (λ lines. lines.items ≡ said (report fault None text.now column)) }
 {
     said(alloc, report(alloc, fault, None, text, column)?)
+}
+
+/// The report of a fault in the line of a context.
+pub fn context_fault(
+    alloc: Global,
+    fault: Fault,
+    context: &Context,
+    column: usize,
+) -> Result<Vec<OutLine>, AllocError>
+    requires { (1 ≤ column) × (column ≤ 501) }
+    ensures { IfOk result (λ lines. (ms : List Map) → lines.items ≡ said (fault_lines fault column (dressed ms (context.now ∷ [])))) }
+{
+    match context {
+        Context::Statement(statement) => {
+            typed_fault(alloc, fault, statement.text.as_slice(), column)
+        }
+        Context::Call(call) => {
+            let place = Call {
+                name: call.definition().header().name.as_slice(),
+                line: call.at(),
+            };
+            said(
+                alloc,
+                report(alloc, fault, Some(place), call.text(), column)?,
+            )
+        }
+    }
 }
 
 /// The report of a typed text that is no line; for want of memory there is none.

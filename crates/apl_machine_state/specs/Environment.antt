@@ -1,12 +1,14 @@
 -- Contexts, and the environment that they and the workspace make.
 use Rattle.std.specs.Prelude.{ℕ, zero, suc, ℤ, pos, List, [], ◌∷◌, drop, Bool, true, false, Option, Some, None}
-use Rattle.apl_arrays.specs.Cells.{Items, Numbers}
+use Rattle.apl_arrays.specs.Cells.{Arr, Items, Numbers}
+use Rattle.apl_arrays.specs.Simple.{single}
+use Rattle.apl_arrays.specs.declared.cell.Cell.TheVariants.{Num}
 use Rattle.apl_symbols.specs.declared.class.Class.{Class}
 use Rattle.apl_names.specs.declared.binding.Binding.{Binding}
 use Rattle.apl_names.specs.declared.binding.Binding.TheVariants.{Value}
-use Rattle.apl_names.specs.Maps.{Map, found, class_in}
+use Rattle.apl_names.specs.Maps.{Map, found, class_in, first_map}
 use Rattle.apl_defn.specs.Definitions.{Text, Definition}
-use Rattle.apl_machine_state.specs.Definitions.{Vectors}
+use Rattle.apl_machine_state.specs.Vectors.{Vectors}
 use Rattle.apl_machine_state.specs.Items.{Rest}
 
 -- An immediate statement, or a call of a function at one of its lines, with the map of its names. A call without a rest is suspended before its line.
@@ -14,9 +16,8 @@ pub data Context : Type 0 where
   Statement : (text : Text) (rest : Rest) → Context
   Call : (definition : Definition) (at : ℕ) (locals : Map) (rest : Option Rest) → Context
 
--- what a line sees beside the contexts: the global functions and their trace vectors, the global map of names, the global index origin
+-- what a line sees beside the contexts: the trace vectors of the global functions, the global map of names, the global index origin
 pub record World : Type 0 where
-  pub functions : List Definition
   pub traces : Vectors
   pub globals : Map
   pub io : ℕ
@@ -26,11 +27,6 @@ abbrev pub environment : World → List Context → List Map
 environment w [] = w.globals ∷ []
 environment w (Statement text rest ∷ below) = environment w below
 environment w (Call d at locals rest ∷ below) = locals ∷ environment w below
-
--- the first map, and the others
-abbrev pub first_map : List Map → Map
-first_map [] = []
-first_map (m ∷ ms) = m
 
 -- the contexts with these maps for their calls
 abbrev pub with_maps : List Map → List Context → List Context
@@ -54,14 +50,25 @@ line_numbers [] = []
 line_numbers (Statement text rest ∷ below) = line_numbers below
 line_numbers (Call d at locals rest ∷ below) = pos at ∷ line_numbers below
 
--- what a phrase sees beside its operands: the environment, the global index origin, the line numbers of the standing calls
+-- how many calls stand
+abbrev pub standing : List Context → ℕ
+standing [] = 0
+standing (Statement text rest ∷ below) = standing below
+standing (Call d at locals rest ∷ below) = suc (standing below)
+
+-- what a phrase sees beside its operands: the environment, the global index origin, the line numbers of the standing calls and how many stand
 pub record Scene : Type 0 where
   pub maps : List Map
   pub io : ℕ
   pub lines : List ℤ
+  pub standing : ℕ
 
 abbrev pub scene : World → List Context → Scene
-scene w contexts = record { maps = environment w contexts; io = w.io; lines = line_numbers contexts }
+scene w contexts = record { maps = environment w contexts; io = w.io; lines = line_numbers contexts; standing = standing contexts }
+
+-- a whole number as an array
+abbrev pub scalar : ℕ → Arr
+scalar n = single (Num (pos n))
 
 -- ⎕IO, as the maps of calls know it
 abbrev pub origin_name : Text

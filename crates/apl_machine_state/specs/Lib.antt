@@ -1,9 +1,10 @@
-pub mod Definitions
+pub mod Vectors
 pub mod Items
 pub mod Environment
 pub mod Frames
 pub mod Outcomes
 pub mod Reports
+pub mod Calls
 pub mod Changes
 pub mod State
 pub mod Beginning

@@ -7,3 +7,6 @@ pub mod Whole
 pub mod Outcomes
 pub mod Globals
 pub mod GlobalSlots
+pub mod GlobalAnswers
+pub mod Taking
+pub mod LocalAnswers

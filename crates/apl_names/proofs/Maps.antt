@@ -145,7 +145,7 @@ said_listed (k ∷ ks) s q = by (s k) refl (said_listed ks s q)
 abbrev pub Holds : List Text → Scope → Type 0
 Holds ks s = (q : Text) → has ks q ≡ false → s q ≡ None
 
-whole : (ks : List Text) (s : Scope) (q : Text) → Holds ks s → within ks s q ≡ s q
+pub whole : (ks : List Text) (s : Scope) (q : Text) → Holds ks s → within ks s q ≡ s q
 whole ks s q h = by (has ks q) refl
   where
     by : (c : Bool) → has ks q ≡ c → cond c (s q) None ≡ s q
@@ -168,7 +168,7 @@ pub not_hidden : (f : Contents) (s : Scope) (q : Text) → has (keys_of f) q ≡
 not_hidden [] s q h = refl
 not_hidden (e ∷ f) s q h = let n = neither (bytes_eq e.0 q) (has (keys_of f) q) h in ap (λ c. cond c e.1 (laid s f q)) n.0 ∙ not_hidden f s q n.1
 
-holds_laid : (ks : List Text) (s : Scope) (f : Contents) → Holds ks s → Holds (ks ++ keys_of f) (laid s f)
+pub holds_laid : (ks : List Text) (s : Scope) (f : Contents) → Holds ks s → Holds (ks ++ keys_of f) (laid s f)
 holds_laid ks s f h q e = let n = neither (has ks q) (has (keys_of f) q) (sym (either ks (keys_of f) q) ∙ e) in not_hidden f s q n.1 ∙ h q n.0
 
 heads : (s t : Scope) (ss ts : List Scope) → s ∷ ss ≡ t ∷ ts → (s ≡ t) × (ss ≡ ts)

@@ -10,6 +10,7 @@ use Rattle.std.specs.BTreeMap.{insert_entry}
 use Rattle.apl_arrays.specs.Cells.{Arr}
 use Rattle.apl_symbols.specs.declared.class.Class.{Class}
 use Rattle.apl_symbols.specs.declared.class.Class.TheVariants.{Variable}
+use Rattle.apl_defn.specs.Definitions as defn
 use Rattle.apl_names.specs.declared.binding.Binding.{Binding}
 use Rattle.apl_names.specs.declared.binding.Binding.TheVariants.{Unset, Label, Value, Function}
 
@@ -42,7 +43,7 @@ abbrev pub map_of : List (Text × Binding) → Map
 map_of [] = []
 map_of (e ∷ es) = with_entry e.0 e.1 (map_of es)
 
--- the newest map that has the name answers
+-- what the newest map that has the name says of it
 abbrev pub found : List Map → Text → Option Binding
 found [] n = None
 found (m ∷ ms) n = option_or (said m n) (found ms n)
@@ -71,7 +72,7 @@ value_in None = None
 value_in (Some Unset) = None
 value_in (Some (Label line)) = None
 value_in (Some (Value array)) = Some array
-value_in (Some (Function class)) = None
+value_in (Some (Function d)) = None
 
 -- the class of a name
 abbrev pub class_in : Option Binding → Class
@@ -79,4 +80,15 @@ class_in None = Variable
 class_in (Some Unset) = Variable
 class_in (Some (Label line)) = Variable
 class_in (Some (Value array)) = Variable
-class_in (Some (Function class)) = class
+class_in (Some (Function d)) = defn.class_of d
+
+-- the global map
+abbrev pub last_map : List Map → Map
+last_map [] = []
+last_map (m ∷ []) = m
+last_map (m ∷ k ∷ ms) = last_map (k ∷ ms)
+
+-- the newest map
+abbrev pub first_map : List Map → Map
+first_map [] = []
+first_map (m ∷ ms) = m

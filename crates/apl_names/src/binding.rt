@@ -2,6 +2,7 @@
 ghost use Rattle.std.specs.Prelude.{◌≡◌, option_copied, Some};
 ghost use Rattle.apl_names.specs.Maps.{value_in, class_in};
 
+use crate::function::DefinedFunction;
 use apl_arrays::Array;
 use apl_symbols::Class;
 
@@ -14,8 +15,8 @@ pub enum Binding {
     Label(u16),
     /// A variable.
     Value(Array),
-    /// A function of this class.
-    Function(Class),
+    /// A defined function.
+    Function(DefinedFunction),
 }
 
 impl Binding {
@@ -31,12 +32,24 @@ impl Binding {
         }
     }
 
+    /// Its value, moved out of it, if it has one.
+    pub(crate) fn into_value(self) -> Option<Array>
+        ensures { result ≡ value_in (Some self) }
+    {
+        match self {
+            Binding::Value(value) => Some(value),
+            Binding::Unset => None,
+            Binding::Label(_) => None,
+            Binding::Function(_) => None,
+        }
+    }
+
     /// The class of a name that stands for it.
     pub(crate) fn class(&self) -> Class
         ensures { result ≡ class_in (Some self.now) }
     {
         match self {
-            Binding::Function(class) => *class,
+            Binding::Function(function) => function.definition().class(),
             Binding::Unset => Class::Variable,
             Binding::Label(_) => Class::Variable,
             Binding::Value(_) => Class::Variable,

@@ -2,10 +2,12 @@
 #![tactic(auto)]
 
 mod binding;
+mod function;
 mod names;
 mod slots;
 #[cfg(test)]
 mod tests;
 
 pub use binding::Binding;
+pub use function::DefinedFunction;
 pub use names::Names;

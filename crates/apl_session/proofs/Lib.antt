@@ -1,4 +1,5 @@
 pub mod Steps
+pub mod Opened
 pub mod Events
 pub mod Writing
 pub mod Reading

@@ -250,11 +250,11 @@ took-all before left lines k e = k.read ∙ ap (λ (x : List ℕ). k.taken ++ x)
 pub ends-within : (before left : List ℕ) (lines : List (List ℕ)) → Took before left lines → left ≡ [] → IsWithinLimits before
 ends-within before left lines k e = subst IsWithinLimits (sym (took-all before left lines k e)) k.within
 
-pub ends-state : (ws : State) (n : ℕ) (before left left' : List ℕ) (tells : Bool) (old mid : List ℕ) (s s' : State) (count : ℕ) (lines : List (List ℕ))
-    (r : Reached ws n before left tells old mid s count) → Took before left' (complete_lines r.taken ++ lines) → left' ≡ [] → s' ≡ silent (after_lines s lines n) →
-    s' ≡ silent (after_lines ws (lines_of before) n)
-ends-state ws n before left left' tells old mid s s' count lines r k e f =
-    f ∙ silent-append ws s (complete_lines r.taken) lines n r.state
+pub ends-state : (ws : State) (n : ℕ) (before left left' : List ℕ) (tells : Bool) (old mid : List ℕ) (s : State) (count : ℕ) (lines : List (List ℕ))
+    (r : Reached ws n before left tells old mid s count) → Took before left' (complete_lines r.taken ++ lines) → left' ≡ [] →
+    silent (after_lines s lines n) ≡ silent (after_lines ws (lines_of before) n)
+ends-state ws n before left left' tells old mid s count lines r k e =
+    silent-append ws s (complete_lines r.taken) lines n r.state
     ∙ ap (λ (xs : List (List ℕ)). silent (after_lines ws xs n)) (sym k.found ∙ sym (ap lines_of (took-all before left' (complete_lines r.taken ++ lines) k e)))
 
 pub ends-transcript : (ws : State) (n : ℕ) (before left left' : List ℕ) (tells : Bool) (old mid new : List ℕ) (s : State) (count : ℕ) (lines : List (List ℕ))

@@ -1,17 +1,27 @@
 -- A transcript, some lines after others.
 use Rattle.std.proofs.Common.{◌≡◌, ℕ, zero, suc, List, [], ◌∷◌, ◌++◌, Option, Some, None, Result, Ok, Err, Bool, true, false, cond, ap, ◌∙◌, sym, refl, append_assoc, append-nil, ◌==◌, if◌then◌else◌}
+use Rattle.std.specs.Str.{bytes_eq}
 use Rattle.apl_charset.specs.Text.{bytes}
 use Rattle.apl_charset.specs.Decoding.{decoded}
 use Rattle.apl_tokens.specs.declared.token.Token.{Token}
 use Rattle.apl_tokens.specs.declared.line.TokenError.{TokenError}
 use Rattle.apl_tokens.specs.Tokens.{tokens_of}
 use Rattle.apl_machine_state.specs.declared.output.OutLine.{OutLine}
-use Rattle.apl_defn.specs.Definitions.{Text}
+use Rattle.apl_defn.specs.Definitions.{Text, Definition, Header, is_line}
+use Rattle.apl_defn.specs.Blanks.{trimmed}
+use Rattle.apl_defn.specs.declared.error.DefnError.{DefnError}
+use Rattle.apl_defn.specs.Reading.{header_of}
+use Rattle.apl_defn.specs.Defining.{defined_of}
+use Rattle.apl_defn.specs.Listing.{listed}
+use Rattle.apl_names.specs.Maps.{Map}
+use Rattle.apl_machine_state.specs.Environment.{World, Context}
+use Rattle.apl_machine_state.specs.Calls.{begun_line, returned}
 use Rattle.apl_machine_state.specs.Reports.{said}
-use Rattle.apl_machine_state.specs.Changes.{Change, Rests, Moves, change}
-use Rattle.apl_machine_state.specs.State.{State, is_idle, step, steps, applied, with_lines, interrupted}
+use Rattle.apl_machine_state.specs.Changes.{Change, Rests, Moves, Arrives, change}
+use Rattle.apl_machine_state.specs.State.{State, is_idle, step, steps, applied, arrived, with_lines, interrupted, definition_of, is_global_variable, with_function}
 use Rattle.apl_machine_state.specs.Beginning.{begun, begun_by, started, colon_of}
-use Rattle.apl_session.specs.Events.{Event, Line, Steps, Interrupt, after, after_event, typed_as, typed_behind, first_mark, refused}
+use Rattle.apl_session.specs.Events.{Event, Line, Steps, Interrupt, after, after_event, typed_as, typed_in, typed_behind, first_mark}
+use Rattle.apl_session.specs.Defining.{refused, closed, opened, behind_mark, shown_name, shown, opened_by, shown_or_opened, typed_behind_del, del, kept, defined_by, added}
 use Rattle.apl_faults.specs.declared.fault.Fault.TheVariants.{Defn, Character, Command}
 use Rattle.apl_faults.specs.Report.{name_of}
 use Rattle.apl_session.specs.Transcript.{written, events_of, line_events, after_lines, transcript_of, silent}
@@ -24,9 +34,16 @@ behind front s = record s { output = front ++ s.output }
 lines-behind : (front : List OutLine) (s : State) (lines : List Text) → with_lines lines (behind front s) ≡ behind front (with_lines lines s)
 lines-behind front s lines = ap (λ (o : List OutLine). record s { output = o }) (append_assoc front s.output (said lines))
 
+arrived-behind : (front : List OutLine) (is_there : Bool) (s : State) (w : World) (d : Definition) (n : ℕ) (locals : Map) (below : List Context) (lines : List Text) (ended : Bool) →
+    (arrived is_there (behind front s) w d n locals below lines ended).state ≡ behind front (arrived is_there s w d n locals below lines ended).state
+arrived-behind front true s w d n locals below lines ended = lines-behind front (record s { world = w; contexts = begun_line w d n locals below }) lines
+arrived-behind front false s w d n locals below lines ended =
+    lines-behind front (record s { world = w; contexts = (returned d locals below).contexts }) (lines ++ (returned d locals below).lines)
+
 applied-behind : (front : List OutLine) (s : State) (c : Change) → (applied (behind front s) c).state ≡ behind front (applied s c).state
 applied-behind front s Rests = refl
 applied-behind front s (Moves world contexts lines ended) = lines-behind front (record s { world = world; contexts = contexts }) lines
+applied-behind front s (Arrives w d n locals below lines ended) = arrived-behind front (is_line d n) s w d n locals below lines ended
 
 steps-behind : (front : List OutLine) (n : ℕ) (s : State) → steps n (behind front s) ≡ behind front (steps n s)
 steps-behind front zero s = refl
@@ -49,19 +66,50 @@ choose-behind : (front : List OutLine) (b : Bool) (x y x' y' : State) → x' ≡
 choose-behind front true x y x' y' e f = e
 choose-behind front false x y x' y' e f = f
 
+shown-behind : (front : List OutLine) (s : State) (function : Option Definition) → shown (behind front s) function ≡ behind front (shown s function)
+shown-behind front s None = lines-behind front s (name_of Defn ∷ [])
+shown-behind front s (Some d) = lines-behind front s (listed d)
+
+opened_by-behind : (front : List OutLine) (s : State) (text : Text) (read : Result Header DefnError) → opened_by (behind front s) text read ≡ behind front (opened_by s text read)
+opened_by-behind front s text (Err error) = lines-behind front s (name_of Defn ∷ [])
+opened_by-behind front s text (Ok h) =
+    choose-behind front (is_global_variable s h.name) (refused s Defn) (opened (text ∷ []) s) (refused (behind front s) Defn) (opened (text ∷ []) (behind front s))
+    (lines-behind front s (name_of Defn ∷ [])) refl
+
+shown_or_opened-behind : (front : List OutLine) (s : State) (text : Text) (name : Option Text) → shown_or_opened (behind front s) text name ≡ behind front (shown_or_opened s text name)
+shown_or_opened-behind front s text None = opened_by-behind front s text (header_of text)
+shown_or_opened-behind front s text (Some name) = shown-behind front s (definition_of s name)
+
+defined_by-behind : (front : List OutLine) (s : State) (defined : Result Definition DefnError) → defined_by (behind front s) defined ≡ behind front (defined_by s defined)
+defined_by-behind front s (Err error) = lines-behind front s (name_of Defn ∷ [])
+defined_by-behind front s (Ok d) =
+    choose-behind front (is_global_variable s d.header.name) (refused s Defn) (with_function d s) (refused (behind front s) Defn) (with_function d (behind front s))
+    (lines-behind front s (name_of Defn ∷ [])) refl
+
+added-behind : (front : List OutLine) (s : State) (lines : List Text) (line : Text) → added (behind front s) lines line ≡ behind front (added s lines line)
+added-behind front s lines line =
+    choose-behind front (bytes_eq line del) (defined_by (closed s) (defined_of lines)) (opened (kept lines line) s)
+    (defined_by (closed (behind front s)) (defined_of lines)) (opened (kept lines line) (behind front s))
+    (defined_by-behind front (closed s) (defined_of lines)) refl
+
 typed_behind-behind : (front : List OutLine) (s : State) (text : Text) (mark : Option ℕ) → typed_behind (behind front s) text mark ≡ behind front (typed_behind s text mark)
 typed_behind-behind front s text None = begun_by-behind front s text (tokens_of text)
 typed_behind-behind front s text (Some mark) =
+    let rest : Text = behind_mark text in
     let statement : State = begun s text in
-    choose-behind front (mark == 41) (refused s Command) (if mark == 0x2207 then refused s Defn else statement)
-    (refused (behind front s) Command) (if mark == 0x2207 then refused (behind front s) Defn else begun (behind front s) text)
+    choose-behind front (mark == 41) (refused s Command) (if mark == 0x2207 then typed_behind_del s rest else statement)
+    (refused (behind front s) Command) (if mark == 0x2207 then typed_behind_del (behind front s) rest else begun (behind front s) text)
     (lines-behind front s (name_of Command ∷ []))
-    (choose-behind front (mark == 0x2207) (refused s Defn) statement (refused (behind front s) Defn) (begun (behind front s) text)
-    (lines-behind front s (name_of Defn ∷ [])) (begun_by-behind front s text (tokens_of text)))
+    (choose-behind front (mark == 0x2207) (typed_behind_del s rest) statement (typed_behind_del (behind front s) rest) (begun (behind front s) text)
+    (shown_or_opened-behind front s rest (shown_name rest)) (begun_by-behind front s text (tokens_of text)))
+
+typed_in-behind : (front : List OutLine) (s : State) (definition : Option (List Text)) (text : Text) → typed_in (behind front s) definition text ≡ behind front (typed_in s definition text)
+typed_in-behind front s None text = typed_behind-behind front s text (first_mark text)
+typed_in-behind front s (Some lines) text = added-behind front s lines (trimmed text)
 
 typed_as-behind : (front : List OutLine) (s : State) (text : Option Text) → typed_as (behind front s) text ≡ behind front (typed_as s text)
 typed_as-behind front s None = lines-behind front s (name_of Character ∷ [])
-typed_as-behind front s (Some text) = typed_behind-behind front s text (first_mark text)
+typed_as-behind front s (Some text) = typed_in-behind front s s.definition text
 
 after_event-behind : (front : List OutLine) (s : State) (event : Event) → after_event (behind front s) event ≡ behind front (after_event s event)
 after_event-behind front s (Line bytes) = choose-behind front (is_idle s) _ _ _ _ (typed_as-behind front s (decoded bytes)) refl

@@ -1,3 +1,4 @@
+pub mod Defining
 pub mod Events
 pub mod Transcript
 pub mod Views

@@ -1,7 +1,10 @@
-//! Sessions with a machine: lines of bytes that are typed, steps, interrupts, and runs over whole
-//! inputs.
+//! Sessions with a machine: lines of bytes that are typed, definitions of functions among them,
+//! steps, interrupts, and runs over whole inputs.
 #![tactic(auto)]
 
+mod definition;
+#[cfg(test)]
+mod definition_tests;
 mod devices;
 mod lines;
 mod runs;

@@ -2,6 +2,7 @@
 ghost use Rattle.std.specs.Prelude.{◌≡◌, ◌≢◌, [], ◌∷◌, ◌++◌, IfOk, IfErr, OnOk, OnErr, IsErrOf, IsTrue, true};
 ghost use Rattle.apl_machine_state.specs.State.{is_idle};
 ghost use Rattle.apl_session.specs.Transcript.{last_line, lines_of, after_lines, transcript_of, transcript, silent};
+ghost use Rattle.apl_session.specs.Defining.{closed};
 ghost use Rattle.apl_session.specs.Devices.{Extends};
 ghost use Rattle.apl_session.specs.Runs.{number_of, IsWithinLimits, StopsWriting, StoppedAt};
 
@@ -98,7 +99,7 @@ fn run_last<W: Sink>(
     writer: &mut W,
 ) -> Result<Machine, RunError>
     requires { session.output ≡ [] }
-    ensures state { IfOk result (λ m. m ≡ silent (after_lines session (last_line line.now) steps)) }
+    ensures state { IfOk result (λ m. closed m ≡ closed (silent (after_lines session (last_line line.now) steps))) }
     ensures ok { IsTrue W.tells → OnOk result (W.written writer.new ≡ W.written writer.old ++ transcript_of session (last_line line.now) steps) }
     ensures prefix { IsTrue W.tells → OnErr result (Extends (W.written writer.old) (W.written writer.new) (transcript_of session (last_line line.now) steps)) }
     ensures writing { IfErr result StopsWriting }
@@ -117,7 +118,8 @@ fn run_last<W: Sink>(
 
 /// Types each line of the input, gives it at most `steps` steps, interrupts what still runs, and
 /// writes the output. Lines end with a line feed, and a carriage return before it is dropped; what
-/// follows the last line feed is a line if it isn't empty. The machine is dropped after an error:
+/// follows the last line feed is a line if it isn't empty. A definition that is open at the end is
+/// left out. The machine is dropped after an error:
 /// Read where the reader failed, Write where the writer failed or took no byte, LineTooLong at the
 /// 2,001st byte of a line, TooManyLines at the first byte behind 1,000,000 lines.
 pub fn run<R: Source, W: Sink>(
@@ -129,11 +131,11 @@ pub fn run<R: Source, W: Sink>(
 ) -> Result<Machine, RunError>
     requires idle { IsTrue (is_idle ws) }
     requires quiet { ws.output ≡ [] }
-    ensures transcript { IsTrue R.tells → IsTrue W.tells → OnOk result (W.written writer.new ≡ W.written writer.old ++ transcript ws (R.left reader.old) steps) }
-    ensures state { IsTrue R.tells → IfOk result (λ m. m ≡ silent (after_lines ws (lines_of (R.left reader.old)) steps)) }
+    ensures transcript { IsTrue R.tells → IsTrue W.tells → OnOk result (W.written writer.new ≡ W.written writer.old ++ transcript (closed ws) (R.left reader.old) steps) }
+    ensures state { IsTrue R.tells → IfOk result (λ m. closed m ≡ closed (silent (after_lines (closed ws) (lines_of (R.left reader.old)) steps))) }
     ensures read_to_end { IsTrue R.tells → OnOk result (R.left reader.new ≡ []) }
     ensures within { IsTrue R.tells → OnOk result (IsWithinLimits (R.left reader.old)) }
-    ensures stopped { IsTrue R.tells → IfErr result (λ e. StoppedAt e ws steps (R.left reader.old) (R.left reader.new) W.tells (W.written writer.old) (W.written writer.new)) }
+    ensures stopped { IsTrue R.tells → IfErr result (λ e. StoppedAt e (closed ws) steps (R.left reader.old) (R.left reader.new) W.tells (W.written writer.old) (W.written writer.new)) }
     ensures read { IsErrOf result RunError.Read → R.failed reader.new ≡ true }
     ensures write { IsErrOf result RunError.Write → W.failed writer.new ≡ true }
     ensures fine { OnOk result ((R.failed reader.new ≡ R.failed reader.old) × (W.failed writer.new ≡ W.failed writer.old)) }

@@ -1,11 +1,14 @@
 // A machine that is typed to.
-ghost use Rattle.std.specs.Prelude.{◌≡◌, ◌↔◌, [], ◌∷◌, ℕ, ◌<◌, take, slice_get, not, ◌==◌, find, Some, IfErr, IfOk, OnOk, OnErr, IsErrOf, IsFalse};
+ghost use Rattle.std.specs.Prelude.{◌≡◌, ◌↔◌, [], ◌∷◌, ℕ, ◌<◌, take, slice_get, not, ◌==◌, find, true, Some, None, IfErr, IfOk, OnOk, OnErr, IsErrOf, IsFalse};
 ghost use Rattle.apl_machine_state.specs.State.{is_idle, steps, steps_progress, interrupt};
+ghost use Rattle.apl_session.specs.Defining.{refused, closed, typed_behind_del};
 ghost use Rattle.apl_session.specs.Events as model;
 ghost use Rattle.apl_session.specs.Views.{event as event_view, event_list};
 
-use apl_charset::{Ch, CharFault, Text, decode_line};
-use apl_faults::{Fault, fault_line};
+use crate::definition::{OpenDefinition, behind_mark, close, is_close, refuse, show_or_open};
+use apl_charset::{Ch, CharFault, decode_line};
+use apl_defn::trimmed;
+use apl_faults::Fault;
 use apl_machine::{BeginError, Machine, OutLine, Progress};
 use std::alloc::{AllocError, Global};
 use std::marker::Model;
@@ -78,11 +81,13 @@ pub struct DriveError {
     pub steps: u64,
 }
 
-/// A machine with what is typed to it. Contracts see it as the machine's state.
+/// A machine with what is typed to it. Contracts see it as the machine's state with the definition
+/// that is open.
 #[derive(Drop)]
 pub struct Session {
     alloc: Global,
     machine: Machine,
+    definition: Option<OpenDefinition>,
 }
 
 impl Model for Session {
@@ -90,7 +95,7 @@ impl Model for Session {
 
     ghost Value = { State };
 
-    ghost view = { λ s. s.machine };
+    ghost view = { λ s. record s.machine { definition = s.definition } };
 }
 
 /// The first character that is no blank.
@@ -127,23 +132,28 @@ fn advance(machine: &mut Machine, count: u64) -> Result<Progress, u64>
 }
 
 impl Session {
-    /// A session with this machine, as it stands.
+    /// A session with this machine, as it stands, and with no definition open.
     pub fn new(alloc: Global, machine: Machine) -> Self
-        ensures { result ≡ machine }
+        ensures { result ≡ closed machine }
     {
-        Session { alloc, machine }
+        Session {
+            alloc,
+            machine,
+            definition: None,
+        }
     }
 
-    /// The machine, as it stands.
+    /// The machine, as it stands. An open definition is left out.
     pub fn into_machine(self) -> Machine
-        ensures { result ≡ self }
+        ensures { closed result ≡ closed self }
     {
         let Session { machine, .. } = self;
         machine
     }
 
+    /// The machine, as it stands. An open definition is left out.
     pub fn machine(&self) -> &Machine
-        ensures { result.now ≡ self.now }
+        ensures { closed result.now ≡ closed self.now }
     {
         &self.machine
     }
@@ -158,22 +168,32 @@ impl Session {
 
     /// Reports a fault by its name alone.
     fn refuse(&mut self, fault: Fault) -> Result<(), AllocError>
-        ensures ok { OnOk result (self.new ≡ model.refused self.old fault) }
+        ensures ok { OnOk result (self.new ≡ refused self.old fault) }
         ensures err { OnErr result (self.new ≡ self.old) }
     {
-        let line = fault_line(self.alloc, fault)?;
-        self.machine.say(line)
+        refuse(self.alloc, &mut self.machine, fault)
     }
 
-    /// Types a text on an idle machine.
-    fn feed_text(&mut self, text: &[Ch]) -> Result<(), FeedError>
+    /// Shows a function, or opens a definition, by the text behind `∇`.
+    fn feed_del(&mut self, text: &[Ch]) -> Result<(), AllocError>
+        requires { self.old.definition ≡ None }
+        ensures ok { OnOk result (self.new ≡ typed_behind_del self.old text.now) }
+        ensures err { OnErr result (self.new ≡ self.old) }
+    {
+        self.definition = show_or_open(self.alloc, &mut self.machine, text)?;
+        Ok(())
+    }
+
+    /// Types a text on an idle machine outside a definition.
+    fn feed_outside(&mut self, text: &[Ch]) -> Result<(), FeedError>
+        requires { self.old.definition ≡ None }
         ensures busy { IsErrOf result FeedError.Busy → IsFalse (is_idle self.old) }
         ensures ok { OnOk result (self.new ≡ model.typed_behind self.old text.now (model.first_mark text.now)) }
         ensures err { OnErr result (self.new ≡ self.old) }
     {
         match first_mark(text).map(|c| c.code()) {
             Some(')') => Ok(self.refuse(Fault::Command)?),
-            Some('∇') => Ok(self.refuse(Fault::Defn)?),
+            Some('∇') => Ok(self.feed_del(behind_mark(text))?),
             _ => match self.machine.begin(text) {
                 Ok(()) => Ok(()),
                 Err(BeginError::Busy) => Err(FeedError::Busy),
@@ -182,8 +202,29 @@ impl Session {
         }
     }
 
-    /// Types a line: a statement begins, or a report is written at once. Busy exactly where the
-    /// machine runs.
+    /// Types a text on an idle machine, outside a definition or in one.
+    fn feed_text(&mut self, text: &[Ch]) -> Result<(), FeedError>
+        requires { is_idle self.old ≡ true }
+        ensures busy { IsErrOf result FeedError.Busy → IsFalse (is_idle self.old) }
+        ensures ok { OnOk result (self.new ≡ model.typed_in self.old self.old.definition text.now) }
+        ensures err { OnErr result (self.new ≡ self.old) }
+    {
+        let Some(definition) = &mut self.definition else {
+            return self.feed_outside(text);
+        };
+        let line = trimmed(text);
+        if !is_close(line) {
+            definition.add(self.alloc, line)?;
+            return Ok(());
+        }
+        close(self.alloc, &mut self.machine, definition.as_slice())?;
+        self.definition = None;
+        Ok(())
+    }
+
+    /// Types a line. A statement begins; what begins with `∇` or `)` is done at once; while a
+    /// definition is open, the line is kept in it or closes it. A report is written at once. Busy
+    /// exactly where the machine runs.
     pub fn feed(&mut self, bytes: &[u8]) -> Result<(), FeedError>
         ensures busy { IsErrOf result FeedError.Busy ↔ IsFalse (is_idle self.old) }
         ensures ok { OnOk result (self.new ≡ model.typed self.old bytes.now) }
@@ -200,6 +241,19 @@ impl Session {
         }
     }
 
+    /// At most `count` steps, and where the session stands after them. Want of memory gives the
+    /// number of those that are done.
+    #[tactic(auto, using(crate::proofs::Opened::same_steps))]
+    fn make_steps(&mut self, count: u64) -> Result<Progress, u64>
+        ensures ok { OnOk result (self.new ≡ steps count self.old) }
+        ensures progress { IfOk result (λ p. p ≡ steps_progress count self.old) }
+        ensures err { IfErr result (λ done. self.new ≡ steps done self.old) }
+        ensures part { IfErr result (λ done. done < count) }
+    {
+        let progress = advance(&mut self.machine, count)?;
+        Ok(progress)
+    }
+
     /// At most `count` steps, until the machine is idle, and where it stands after them. After want
     /// of memory it stands after the steps that are done.
     pub fn advance(&mut self, count: u64) -> Result<Progress, AllocError>
@@ -207,7 +261,7 @@ impl Session {
         ensures progress { IfOk result (λ p. p ≡ steps_progress count self.old) }
         ensures err { OnErr result ((done : ℕ) × (done < count) × (self.new ≡ steps done self.old)) }
     {
-        match advance(&mut self.machine, count) {
+        match self.make_steps(count) {
             Ok(progress) => Ok(progress),
             Err(_) => Err(AllocError),
         }
@@ -233,7 +287,7 @@ impl Session {
                 Err(FeedError::Busy) => Ok(()),
                 Err(FeedError::Memory) => Err(0),
             },
-            Event::Steps(count) => match advance(&mut self.machine, *count) {
+            Event::Steps(count) => match self.make_steps(*count) {
                 Ok(_) => Ok(()),
                 Err(done) => Err(done),
             },

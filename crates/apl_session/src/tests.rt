@@ -31,7 +31,7 @@ fn empty(alloc: Global) -> Tape {
 }
 
 /// The first input whose run on a clear workspace, with so many steps a line, ends in an error or writes something else.
-fn wrong_row<'a>(
+pub(crate) fn wrong_row<'a>(
     alloc: Global,
     rows: &[(&'a str, u64, &str)],
 ) -> Result<Option<&'a str>, AllocError> {
@@ -67,7 +67,7 @@ fn transcripts(rt: HostRuntime) -> Result<(), Fail> {
         ("-×¯7 0 7\n", 1000, "1 0 ¯1\n"),
         ("(1+2\n", 0, "SYNTAX ERROR\n      (1+2\n      ^\n"),
         ("  )NOPE\n4\n", 1000, "INCORRECT COMMAND\n4\n"),
-        (" ∇F\n", 1000, "DEFN ERROR\n"),
+        (" ∇1\n", 1000, "DEFN ERROR\n"),
         ("5\r", 1000, "CHARACTER ERROR\n"),
         ("5\r6\n7\n", 1000, "CHARACTER ERROR\n7\n"),
     ];
@@ -286,7 +286,7 @@ fn failing_devices(rt: HostRuntime) -> Result<(), Fail> {
 }
 
 /// What was written, each line with a line feed.
-fn text_of(alloc: Global, lines: &[OutLine]) -> Result<Vec<u8>, AllocError> {
+pub(crate) fn text_of(alloc: Global, lines: &[OutLine]) -> Result<Vec<u8>, AllocError> {
     let mut all = Vec::new(alloc);
     for line in lines {
         let bytes = encode(alloc, line.text.as_slice())?;

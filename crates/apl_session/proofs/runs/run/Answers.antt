@@ -1,16 +1,19 @@
-use Rattle.std.proofs.Common.{◌≡◌, ◌++◌, [], ◌∷◌, ap, ◌∙◌, arith}
+use Rattle.std.proofs.Common.{◌≡◌, ◌≢◌, ◌++◌, [], ◌∷◌, refl, sym, ap, ◌∙◌, subst, arith}
 use Rattle.std.specs.Prelude.{IsTrue}
 use Rattle.apl_machine_state.specs.State.{State}
 use Rattle.apl_session.specs.Transcript.{last_line, complete_lines, lines_of, after_lines, transcript_of, transcript, silent}
+use Rattle.apl_session.specs.Defining.{closed}
 use Rattle.apl_session.specs.Devices.{Extends}
 use Rattle.apl_session.specs.Runs.{IsWithinLimits, StopsWriting, StoppedAt, BeginsWithLine, IsLast}
-use Rattle.apl_session.proofs.Reached.{Took, reads-line, reads-last, if_ok-map, if_err-map, took-line, took-last, reached-line, stopped-writing, stopped-reading, stopped-at_end, stopped-many, whole-within, any-ok, under_err, ends-within, ends-state, ends-transcript}
+use Rattle.apl_session.proofs.Reached.{Reached, reached-none, Took, reads-line, reads-last, if_ok-map, if_err-map, took-line, took-last, reached-line, stopped-writing, stopped-reading, stopped-at_end, stopped-many, whole-within, any-ok, under_err, ends-within, ends-state, ends-transcript}
 use Rattle.apl_session.proofs.Reading.{last_line-length}
+use Rattle.apl_session.specs.declared.runs.RunError.{RunError}
+use Rattle.apl_session.specs.declared.runs.RunError.TheVariants.{Write}
 use Rattle.apl_session.proofs.runs.run.Goals as goal
 
 pub returns-in-Err-clause-stopped : goal.returns-in-Err-clause-stopped
 returns-in-Err-clause-stopped g c = λ r.
-    stopped-reading c.in-Err.error c.args.ws c.args.steps (g.R.Source.left c.args.reader.now) (g.R.Source.left c.loop.reader) (g.R.Source.left c.read_line.new.reader) g.W.Sink.tells
+    stopped-reading c.in-Err.error (closed c.args.ws) c.args.steps (g.R.Source.left c.args.reader.now) (g.R.Source.left c.loop.reader) (g.R.Source.left c.read_line.new.reader) g.W.Sink.tells
     (g.W.Sink.written c.args.writer.now) (g.W.Sink.written c.loop.writer) c.loop.session c.loop.counter c.read_line.new.line.items
     (c.loop.invariant.reached r) (c.in-Err.ensures.line r) (omega arith)
 
@@ -19,16 +22,16 @@ returns-in-Err-run_line-clause-stopped g c = λ r.
     let line : BeginsWithLine c.deref-in-loop.result.now (g.R.Source.left c.loop.reader) (g.R.Source.left c.read_line.new.reader) =
     reads-line (g.R.Source.left c.loop.reader) (g.R.Source.left c.read_line.new.reader) c.read_line.new.line.items c.deref-in-loop.result.now c.in-Ok-true.field-0
     c.in-Ok-true.field-0-test c.deref-in-loop.ensures.value (c.in-Ok-true.ensures.line r) in
-    stopped-writing c.in-Err-run_line.error c.args.ws c.args.steps (g.R.Source.left c.args.reader.now) (g.R.Source.left c.loop.reader) (g.R.Source.left c.read_line.new.reader) g.W.Sink.tells
+    stopped-writing c.in-Err-run_line.error (closed c.args.ws) c.args.steps (g.R.Source.left c.args.reader.now) (g.R.Source.left c.loop.reader) (g.R.Source.left c.read_line.new.reader) g.W.Sink.tells
     (g.W.Sink.written c.args.writer.now) (g.W.Sink.written c.loop.writer) (g.W.Sink.written c.run_line.new.writer) c.loop.session c.loop.counter (c.deref-in-loop.result.now ∷ [])
     (c.loop.invariant.reached r)
-    (took-line c.args.ws c.args.steps (g.R.Source.left c.args.reader.now) (g.R.Source.left c.loop.reader) (g.R.Source.left c.read_line.new.reader) g.W.Sink.tells
+    (took-line (closed c.args.ws) c.args.steps (g.R.Source.left c.args.reader.now) (g.R.Source.left c.loop.reader) (g.R.Source.left c.read_line.new.reader) g.W.Sink.tells
     (g.W.Sink.written c.args.writer.now) (g.W.Sink.written c.loop.writer) c.loop.session c.loop.counter c.deref-in-loop.result.now (c.loop.invariant.reached r) line (omega arith))
     c.in-Err-run_line.ensures.writing c.in-Err-run_line.ensures.prefix
 
 pub loop-preserved : goal.loop-preserved
 loop-preserved g c = record {
-  reached = λ r. reached-line c.args.ws c.args.steps (g.R.Source.left c.args.reader.now) (g.R.Source.left c.loop.reader) (g.R.Source.left c.read_line.new.reader) g.W.Sink.tells
+  reached = λ r. reached-line (closed c.args.ws) c.args.steps (g.R.Source.left c.args.reader.now) (g.R.Source.left c.loop.reader) (g.R.Source.left c.read_line.new.reader) g.W.Sink.tells
       (g.W.Sink.written c.args.writer.now) (g.W.Sink.written c.loop.writer) (g.W.Sink.written c.run_line.new.writer) c.loop.session c.run_line.new.session c.loop.counter c.deref-in-loop.result.now
       (c.loop.invariant.reached r)
       (reads-line (g.R.Source.left c.loop.reader) (g.R.Source.left c.read_line.new.reader) c.read_line.new.line.items c.deref-in-loop.result.now c.in-Ok-true.field-0
@@ -42,7 +45,7 @@ loop-preserved g c = record {
 pub returns-in-Ok-Some-clause-stopped : goal.returns-in-Ok-Some-clause-stopped
 returns-in-Ok-Some-clause-stopped g c = λ r.
     let full : c.loop.counter ≡ 1000000 = omega arith in
-    stopped-many c.args.ws c.args.steps (g.R.Source.left c.args.reader.now) (g.R.Source.left c.loop.reader) (g.R.Source.left c.read_byte.new.reader) g.W.Sink.tells
+    stopped-many (closed c.args.ws) c.args.steps (g.R.Source.left c.args.reader.now) (g.R.Source.left c.loop.reader) (g.R.Source.left c.read_byte.new.reader) g.W.Sink.tells
     (g.W.Sink.written c.args.writer.now) (g.W.Sink.written c.loop.writer) c.loop.session c.loop.counter c.in-Ok-Some.field-0-0 (c.loop.invariant.reached r) full
     (rw c.in-Ok-Some.field-0-is at (c.in-Ok-Some.ensures.bytes r))
 
@@ -52,7 +55,7 @@ returns-in-Ok-false-clause-within g c = λ r.
     reads-last (g.R.Source.left c.loop.reader) (g.R.Source.left c.read_line.new.reader) c.read_line.new.line.items c.deref.result.now c.in-Ok-false.field-0
     c.in-Ok-false.field-0-test c.deref.ensures.value (c.in-Ok-false.ensures.line r) in
     let took : Took (g.R.Source.left c.args.reader.now) (g.R.Source.left c.read_line.new.reader) (complete_lines (c.loop.invariant.reached r).taken ++ last_line c.deref.result.now) =
-    took-last c.args.ws c.args.steps (g.R.Source.left c.args.reader.now) (g.R.Source.left c.loop.reader) (g.R.Source.left c.read_line.new.reader) g.W.Sink.tells
+    took-last (closed c.args.ws) c.args.steps (g.R.Source.left c.args.reader.now) (g.R.Source.left c.loop.reader) (g.R.Source.left c.read_line.new.reader) g.W.Sink.tells
     (g.W.Sink.written c.args.writer.now) (g.W.Sink.written c.loop.writer) c.loop.session c.loop.counter c.deref.result.now (c.loop.invariant.reached r) line
     (omega (arith, last_line-length c.deref.result.now)) in
     if_ok-map (λ m. m ≡ m) (λ m. IsWithinLimits (g.R.Source.left c.args.reader.now)) c.run_last.result
@@ -65,12 +68,13 @@ returns-in-Ok-false-clause-state g c = λ r.
     reads-last (g.R.Source.left c.loop.reader) (g.R.Source.left c.read_line.new.reader) c.read_line.new.line.items c.deref.result.now c.in-Ok-false.field-0
     c.in-Ok-false.field-0-test c.deref.ensures.value (c.in-Ok-false.ensures.line r) in
     let took : Took (g.R.Source.left c.args.reader.now) (g.R.Source.left c.read_line.new.reader) (complete_lines (c.loop.invariant.reached r).taken ++ last_line c.deref.result.now) =
-    took-last c.args.ws c.args.steps (g.R.Source.left c.args.reader.now) (g.R.Source.left c.loop.reader) (g.R.Source.left c.read_line.new.reader) g.W.Sink.tells
+    took-last (closed c.args.ws) c.args.steps (g.R.Source.left c.args.reader.now) (g.R.Source.left c.loop.reader) (g.R.Source.left c.read_line.new.reader) g.W.Sink.tells
     (g.W.Sink.written c.args.writer.now) (g.W.Sink.written c.loop.writer) c.loop.session c.loop.counter c.deref.result.now (c.loop.invariant.reached r) line
     (omega (arith, last_line-length c.deref.result.now)) in
-    if_ok-map (λ m. m ≡ silent (after_lines c.loop.session (last_line c.deref.result.now) c.args.steps)) (λ m. m ≡ silent (after_lines c.args.ws (lines_of (g.R.Source.left c.args.reader.now)) c.args.steps)) c.run_last.result
-    (λ m h. ends-state c.args.ws c.args.steps (g.R.Source.left c.args.reader.now) (g.R.Source.left c.loop.reader) (g.R.Source.left c.read_line.new.reader) g.W.Sink.tells
-    (g.W.Sink.written c.args.writer.now) (g.W.Sink.written c.loop.writer) c.loop.session m c.loop.counter (last_line c.deref.result.now) (c.loop.invariant.reached r) took line.end h)
+    if_ok-map (λ m. closed m ≡ closed (silent (after_lines c.loop.session (last_line c.deref.result.now) c.args.steps)))
+    (λ m. closed m ≡ closed (silent (after_lines (closed c.args.ws) (lines_of (g.R.Source.left c.args.reader.now)) c.args.steps))) c.run_last.result
+    (λ m h. h ∙ ap closed (ends-state (closed c.args.ws) c.args.steps (g.R.Source.left c.args.reader.now) (g.R.Source.left c.loop.reader) (g.R.Source.left c.read_line.new.reader) g.W.Sink.tells
+    (g.W.Sink.written c.args.writer.now) (g.W.Sink.written c.loop.writer) c.loop.session c.loop.counter (last_line c.deref.result.now) (c.loop.invariant.reached r) took line.end))
     c.run_last.ensures.state
 
 pub returns-in-Ok-false-clause-transcript : goal.returns-in-Ok-false-clause-transcript
@@ -79,12 +83,12 @@ returns-in-Ok-false-clause-transcript g c = λ r w.
     reads-last (g.R.Source.left c.loop.reader) (g.R.Source.left c.read_line.new.reader) c.read_line.new.line.items c.deref.result.now c.in-Ok-false.field-0
     c.in-Ok-false.field-0-test c.deref.ensures.value (c.in-Ok-false.ensures.line r) in
     let took : Took (g.R.Source.left c.args.reader.now) (g.R.Source.left c.read_line.new.reader) (complete_lines (c.loop.invariant.reached r).taken ++ last_line c.deref.result.now) =
-    took-last c.args.ws c.args.steps (g.R.Source.left c.args.reader.now) (g.R.Source.left c.loop.reader) (g.R.Source.left c.read_line.new.reader) g.W.Sink.tells
+    took-last (closed c.args.ws) c.args.steps (g.R.Source.left c.args.reader.now) (g.R.Source.left c.loop.reader) (g.R.Source.left c.read_line.new.reader) g.W.Sink.tells
     (g.W.Sink.written c.args.writer.now) (g.W.Sink.written c.loop.writer) c.loop.session c.loop.counter c.deref.result.now (c.loop.invariant.reached r) line
     (omega (arith, last_line-length c.deref.result.now)) in
     if_ok-map (λ m. g.W.Sink.written c.run_last.new.writer ≡ g.W.Sink.written c.loop.writer ++ transcript_of c.loop.session (last_line c.deref.result.now) c.args.steps)
-    (λ m. g.W.Sink.written c.run_last.new.writer ≡ g.W.Sink.written c.args.writer.now ++ transcript c.args.ws (g.R.Source.left c.args.reader.now) c.args.steps) c.run_last.result
-    (λ m h. ends-transcript c.args.ws c.args.steps (g.R.Source.left c.args.reader.now) (g.R.Source.left c.loop.reader) (g.R.Source.left c.read_line.new.reader) g.W.Sink.tells
+    (λ m. g.W.Sink.written c.run_last.new.writer ≡ g.W.Sink.written c.args.writer.now ++ transcript (closed c.args.ws) (g.R.Source.left c.args.reader.now) c.args.steps) c.run_last.result
+    (λ m h. ends-transcript (closed c.args.ws) c.args.steps (g.R.Source.left c.args.reader.now) (g.R.Source.left c.loop.reader) (g.R.Source.left c.read_line.new.reader) g.W.Sink.tells
     (g.W.Sink.written c.args.writer.now) (g.W.Sink.written c.loop.writer) (g.W.Sink.written c.run_last.new.writer) c.loop.session c.loop.counter (last_line c.deref.result.now) (c.loop.invariant.reached r) took line.end w h)
     (c.run_last.ensures.ok w)
 
@@ -94,13 +98,13 @@ returns-in-Ok-false-clause-stopped g c = λ r.
     reads-last (g.R.Source.left c.loop.reader) (g.R.Source.left c.read_line.new.reader) c.read_line.new.line.items c.deref.result.now c.in-Ok-false.field-0
     c.in-Ok-false.field-0-test c.deref.ensures.value (c.in-Ok-false.ensures.line r) in
     let took : Took (g.R.Source.left c.args.reader.now) (g.R.Source.left c.read_line.new.reader) (complete_lines (c.loop.invariant.reached r).taken ++ last_line c.deref.result.now) =
-    took-last c.args.ws c.args.steps (g.R.Source.left c.args.reader.now) (g.R.Source.left c.loop.reader) (g.R.Source.left c.read_line.new.reader) g.W.Sink.tells
+    took-last (closed c.args.ws) c.args.steps (g.R.Source.left c.args.reader.now) (g.R.Source.left c.loop.reader) (g.R.Source.left c.read_line.new.reader) g.W.Sink.tells
     (g.W.Sink.written c.args.writer.now) (g.W.Sink.written c.loop.writer) c.loop.session c.loop.counter c.deref.result.now (c.loop.invariant.reached r) line
     (omega (arith, last_line-length c.deref.result.now)) in
     if_err-map StopsWriting (λ e. IsTrue g.W.Sink.tells → Extends (g.W.Sink.written c.loop.writer) (g.W.Sink.written c.run_last.new.writer) (transcript_of c.loop.session (last_line c.deref.result.now) c.args.steps))
-    (λ e. StoppedAt e c.args.ws c.args.steps (g.R.Source.left c.args.reader.now) (g.R.Source.left c.read_line.new.reader) g.W.Sink.tells (g.W.Sink.written c.args.writer.now) (g.W.Sink.written c.run_last.new.writer))
+    (λ e. StoppedAt e (closed c.args.ws) c.args.steps (g.R.Source.left c.args.reader.now) (g.R.Source.left c.read_line.new.reader) g.W.Sink.tells (g.W.Sink.written c.args.writer.now) (g.W.Sink.written c.run_last.new.writer))
     c.run_last.result
-    (λ e h x. stopped-writing e c.args.ws c.args.steps (g.R.Source.left c.args.reader.now) (g.R.Source.left c.loop.reader) (g.R.Source.left c.read_line.new.reader) g.W.Sink.tells
+    (λ e h x. stopped-writing e (closed c.args.ws) c.args.steps (g.R.Source.left c.args.reader.now) (g.R.Source.left c.loop.reader) (g.R.Source.left c.read_line.new.reader) g.W.Sink.tells
     (g.W.Sink.written c.args.writer.now) (g.W.Sink.written c.loop.writer) (g.W.Sink.written c.run_last.new.writer) c.loop.session c.loop.counter (last_line c.deref.result.now) (c.loop.invariant.reached r) took h x)
     c.run_last.ensures.writing (under_err (IsTrue g.W.Sink.tells) (Extends (g.W.Sink.written c.loop.writer) (g.W.Sink.written c.run_last.new.writer) (transcript_of c.loop.session (last_line c.deref.result.now) c.args.steps)) c.run_last.result c.run_last.ensures.prefix)
 
@@ -108,11 +112,26 @@ pub returns-in-Ok-None-clause-within : goal.returns-in-Ok-None-clause-within
 returns-in-Ok-None-clause-within g c = λ r.
     let full : c.loop.counter ≡ 1000000 = omega arith in
     let over = rw c.in-Ok-None.field-0-is at (c.in-Ok-None.ensures.bytes r) in
-    whole-within c.args.ws c.args.steps (g.R.Source.left c.args.reader.now) (g.R.Source.left c.loop.reader) g.W.Sink.tells
+    whole-within (closed c.args.ws) c.args.steps (g.R.Source.left c.args.reader.now) (g.R.Source.left c.loop.reader) g.W.Sink.tells
     (g.W.Sink.written c.args.writer.now) (g.W.Sink.written c.loop.writer) c.loop.session c.loop.counter (c.loop.invariant.reached r) full over.0
 
 pub returns-in-Err-read_byte-clause-stopped : goal.returns-in-Err-read_byte-clause-stopped
 returns-in-Err-read_byte-clause-stopped g c = λ r.
     let full : c.loop.counter ≡ 1000000 = omega arith in
-    stopped-at_end c.args.ws c.args.steps (g.R.Source.left c.args.reader.now) (g.R.Source.left c.loop.reader) (g.R.Source.left c.read_byte.new.reader) g.W.Sink.tells
+    stopped-at_end (closed c.args.ws) c.args.steps (g.R.Source.left c.args.reader.now) (g.R.Source.left c.loop.reader) (g.R.Source.left c.read_byte.new.reader) g.W.Sink.tells
     (g.W.Sink.written c.args.writer.now) (g.W.Sink.written c.loop.writer) c.loop.session c.loop.counter (c.loop.invariant.reached r) full (c.in-Err-read_byte.ensures.bytes r)
+
+pub loop-init : goal.loop-init
+loop-init g c = record {
+  reached = λ r. subst (λ (s : State). Reached (closed c.args.ws) c.args.steps (g.R.Source.left c.args.reader.now) (g.R.Source.left c.args.reader.now) g.W.Sink.tells (g.W.Sink.written c.args.writer.now) (g.W.Sink.written c.args.writer.now) s 0) (sym c.new-session.ensures)
+      (reached-none (closed c.args.ws) c.args.steps (g.R.Source.left c.args.reader.now) g.W.Sink.tells (g.W.Sink.written c.args.writer.now) c.requires.quiet);
+  quiet = ap (λ (s : State). s.output) c.new-session.ensures ∙ c.requires.quiet;
+  read = refl;
+  write = refl;
+}
+
+pub returns-in-Ok-false-clause-not_write : goal.returns-in-Ok-false-clause-not_write
+returns-in-Ok-false-clause-not_write g c =
+    if_err-map (λ (e : RunError). e ≢ Write → g.W.Sink.failed c.run_last.new.writer ≡ g.W.Sink.failed c.loop.writer) (λ (e : RunError). e ≢ Write → g.W.Sink.failed c.run_last.new.writer ≡ g.W.Sink.failed c.loop.writer)
+    (λ (e : RunError). e ≢ Write → g.W.Sink.failed c.run_last.new.writer ≡ g.W.Sink.failed c.args.writer.now) c.run_last.result
+    (λ e h x. λ n. h n ∙ c.loop.invariant.write) c.run_last.ensures.other c.run_last.ensures.other

@@ -1,23 +1,29 @@
-use Rattle.std.proofs.Common.{◌≡◌, ap, sym, ◌∙◌, [], ◌∷◌, Some}
-use Rattle.apl_machine_state.specs.Environment.{rest_at, Statement as StatementContext}
-use Rattle.apl_machine_state.specs.State.{State}
-use Rattle.apl_machine.specs.Flat.{flat_rest}
-use Rattle.apl_machine.specs.Statements.{contexts_of}
-use Rattle.apl_machine.proofs.Standing.{is_frame}
-use Rattle.apl_machine.proofs.Steps.{none_behind}
+use Rattle.std.proofs.Common.{◌≡◌, ◌++◌, List, [], Some, None, refl, sym, ap, ◌∙◌, subst}
+use Rattle.std.specs.Prelude.{slice_get}
+use Rattle.std.specs.Option.{option_copied, option_map}
+use Rattle.apl_machine_state.specs.Frames.{IsFrame}
+use Rattle.apl_frames.specs.Flat.{flat_rest}
+use Rattle.apl_frames.proofs.Standing.{is_frame}
+use Rattle.apl_machine.proofs.Readers.{rest_reads}
 use Rattle.apl_machine.proofs.machine.Machine.frame.Goals as goal
 
-pub returns-then-k-ne0-clause-none : goal.returns-then-k-ne0-clause-none
-returns-then-k-ne0-clause-none c =
-    ap (λ (s : State). rest_at s.contexts c.args.k) (sym c.self.view_is)
-    ∙ ap (λ o. rest_at (contexts_of o) c.args.k) c.in-Some.is
-    ∙ none_behind (StatementContext c.in-Some.statement.text (flat_rest c.in-Some.statement.line)) c.args.k c.if-k-ne0.true
+pub returns-in_default-clause-none : goal.returns-in_default-clause-none
+returns-in_default-clause-none c = rest_reads c.self.inside.workspace c.args.self.now c.args.k None c.self.view_is (sym (ap option_copied c.in_default.is) ∙ c.get.ensures ∙ ap (λ m. slice_get m.workspace.contexts c.args.k) c.self-inside.view_is)
+
+pub returns-in_default-line-clause-none : goal.returns-in_default-line-clause-none
+returns-in_default-line-clause-none c =
+    rest_reads c.self.inside.workspace c.args.self.now c.args.k (Some c.in-Some.context.now) c.self.view_is (sym (ap option_copied c.in-Some.is) ∙ c.get.ensures ∙ ap (λ m. slice_get m.workspace.contexts c.args.k) c.self-inside.view_is)
+    ∙ ap (option_map flat_rest) (sym c.line.ensures ∙ ap option_copied c.in_default-line.is)
 
 pub returns-clause-some : goal.returns-clause-some
 returns-clause-some c =
-    let line = c.in-Some.statement.line in
-    let at : rest_at c.args.self.now.contexts c.args.k ≡ Some (flat_rest line) =
-    ap (λ (s : State). rest_at s.contexts c.args.k) (sym c.self.view_is)
-    ∙ ap (λ o. rest_at (contexts_of o) c.args.k) c.in-Some.is
-    ∙ ap (rest_at (StatementContext c.in-Some.statement.text (flat_rest line) ∷ [])) c.if-k-ne0.false in
-    (flat_rest line, at, rw (c.lend.ensures.code, c.lend.ensures.done, c.lend.ensures.operands) (is_frame line c.lend.ensures.stands))
+    let f = c.in-Some-line.line.now in
+    let at = rest_reads c.self.inside.workspace c.args.self.now c.args.k (Some c.in-Some.context.now) c.self.view_is (sym (ap option_copied c.in-Some.is) ∙ c.get.ensures ∙ ap (λ m. slice_get m.workspace.contexts c.args.k) c.self-inside.view_is)
+    ∙ ap (option_map flat_rest) (sym c.line.ensures ∙ ap option_copied c.in-Some-line.is) in
+    let frame = is_frame f c.lend.ensures.stands in (
+      flat_rest f,
+      at,
+      subst (λ x. IsFrame (flat_rest f) x c.lend.result.done c.lend.result.operands.now) (sym c.lend.ensures.code)
+          (subst (λ x. IsFrame (flat_rest f) f.code x c.lend.result.operands.now) (sym c.lend.ensures.done)
+          (subst (λ x. IsFrame (flat_rest f) f.code f.done x) (sym c.lend.ensures.operands) frame)),
+    )

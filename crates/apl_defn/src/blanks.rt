@@ -1,0 +1,40 @@
+//! Blanks round a text.
+ghost use Rattle.std.specs.Prelude.{◌≡◌, reverse};
+ghost use Rattle.apl_defn.specs.Blanks.{trimmed, without_front};
+
+use apl_charset::Ch;
+
+/// The text without the blanks in front.
+fn without_front(text: &[Ch]) -> &[Ch]
+    ensures { result.now ≡ without_front text.now }
+{
+    let mut rest = text;
+    while let Some((first, behind)) = rest.split_first() {
+        if *first != Ch::default() {
+            break;
+        }
+        rest = behind;
+    }
+    rest
+}
+
+/// The text without the blanks behind it.
+fn without_back(text: &[Ch]) -> &[Ch]
+    ensures { result.now ≡ reverse (without_front (reverse text.now)) }
+{
+    let mut rest = text;
+    while let Some((last, front)) = rest.split_last() {
+        if *last != Ch::default() {
+            break;
+        }
+        rest = front;
+    }
+    rest
+}
+
+/// The text without the blanks at both ends.
+pub fn trimmed(text: &[Ch]) -> &[Ch]
+    ensures { result.now ≡ trimmed text.now }
+{
+    without_back(without_front(text))
+}

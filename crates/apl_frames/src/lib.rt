@@ -1,0 +1,8 @@
+//! Lines that are being done: their code, how much of it is done, and the operand stack.
+#![tactic(auto)]
+
+mod frame;
+#[cfg(test)]
+mod tests;
+
+pub use frame::{Frame, FrameBuf, Stage};

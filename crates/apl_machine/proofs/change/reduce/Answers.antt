@@ -1,0 +1,46 @@
+use Rattle.std.proofs.Common.{[], ◌∷◌, take, reverse, ap, sym, ◌∙◌}
+use Rattle.std.proofs.lemmas.List.{reverse-append}
+use Rattle.apl_machine_state.specs.declared.operand.Operand.TheVariants.{Value}
+use Rattle.apl_machine_state.specs.Outcomes.{Becomes}
+use Rattle.apl_operands.specs.Operands.{fetched}
+use Rattle.apl_contexts.specs.Contexts.{lines_in}
+use Rattle.apl_phrases.specs.Effects.{acted, seen}
+use Rattle.apl_phrases.proofs.Effects.{ends_in, fails_it, line_numbers_it}
+use Rattle.apl_machine.proofs.Faulty.{faulty_phrase}
+use Rattle.apl_machine.proofs.change.reduce.Goals as goal
+
+pub last_operand-requires-clause-value : goal.last_operand-requires-clause-value
+last_operand-requires-clause-value c =
+    let lines = lines_in c.args.contexts.now in
+    let ps = fetched c.args.operands.constants.now c.as_slice-sources.result.now (reverse c.args.operands.stack.now) in
+    ends_in lines c.in_ok-operand.field-0 c.in-Passes.deed (acted (seen c.args.scene lines) c.args.instr.now.action ps) ps c.in-Passes.is (c.in_ok-operand.ensures lines)
+
+pub returns-in-Fails : goal.returns-in-Fails
+returns-in-Fails c =
+    let i = c.args.instr.now in
+    let lines = lines_in c.args.contexts.now in
+    let ps = fetched c.args.operands.constants.now i.arguments (reverse c.args.operands.stack.now) in
+    let o = acted (seen c.args.scene lines) i.action ps in
+    let h = rw c.as_slice-sources.ensures at (c.in_ok-operand.ensures lines) in
+    faulty_phrase c.failing.result c.in-Fails.fault o c.args.operands.stack.now i.arguments c.args.context.now i.at (fails_it lines c.in_ok-operand.field-0 c.in-Fails.fault o ps c.in-Fails.is h) c.failing.ensures
+
+pub returns-in_ok-numbers-in-GivesLineNumbers : goal.returns-in_ok-numbers-in-GivesLineNumbers
+returns-in_ok-numbers-in-GivesLineNumbers c =
+    let i = c.args.instr.now in
+    let stack = c.args.operands.stack.now in
+    let lines = lines_in c.args.contexts.now in
+    let ps = fetched c.args.operands.constants.now i.arguments (reverse stack) in
+    let o = acted (seen c.args.scene lines) i.action ps in
+    let h = rw c.as_slice-sources.ensures at (c.in_ok-operand.ensures lines) in
+    let numbers = c.in_ok-numbers-in-GivesLineNumbers.numbers in
+    let becomes = line_numbers_it lines c.in_ok-operand.field-0 o ps c.in-GivesLineNumbers.is h in
+    let left = c.left-left-in-GivesLineNumbers.result in
+    let beneath = rw c.as_slice-sources.ensures at c.left-left-in-GivesLineNumbers.ensures.left in
+    λ ms. (
+      c.left-left-in-GivesLineNumbers.ensures.within,
+      record {
+        gives = Value numbers;
+        lies = reverse-append (take left stack) (Value numbers ∷ []) ∙ ap (λ os. Value numbers ∷ os) (sym beneath);
+        is = becomes ∙ ap Becomes (sym c.in_ok-numbers-in-GivesLineNumbers.ensures);
+      },
+    )

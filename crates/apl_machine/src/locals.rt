@@ -1,0 +1,96 @@
+//! The names that a call begins with.
+ghost use Rattle.std.specs.Prelude.{◌≡◌, ◌≤◌, ◌++◌, ℤ, All, IfOk, List, OnOk, map, option_copied};
+ghost use Rattle.apl_machine_state.specs.Calls.{bound_to, label_of, local_of, named, names_of_call};
+ghost use Rattle.apl_phrases.specs.Effects.{seen};
+
+use apl_arrays::{Array, Cell};
+use apl_defn::Definition;
+use apl_names::Binding;
+use apl_phrases::{Scene, origin_name};
+use apl_symbols::Name;
+use std::alloc::{AllocError, Global};
+
+/// What an argument's name stands for: its value, or none where the call gives none.
+fn bound_to(argument: Option<Array>) -> Binding
+    ensures { result ≡ bound_to argument }
+{
+    match argument {
+        Some(array) => Binding::Value(array),
+        None => Binding::Unset,
+    }
+}
+
+/// Adds a name, where there is one.
+fn push_named(
+    names: &mut Vec<(Name, Binding)>,
+    name: Option<Name>,
+    binding: Binding,
+) -> Result<(), AllocError>
+    ensures { OnOk result (names.new.items ≡ names.old.items ++ named name binding) }
+{
+    if let Some(name) = name {
+        names.push((name, binding))?;
+    }
+    Ok(())
+}
+
+/// What a local stands for as a call begins: nothing yet, but `⎕IO` has the caller's value.
+fn local_of(alloc: Global, scene: Scene<'_>, name: &Name) -> Result<(Name, Binding), AllocError>
+    requires { scene.io ≤ 1 }
+    ensures { IfOk result (λ e. (lines : List ℤ) → e ≡ local_of (seen scene.entry lines) name.now) }
+{
+    if *name == origin_name() {
+        let origin = Array::scalar(alloc, Cell::Num(scene.origin() as i64))?;
+        Ok((*name, Binding::Value(origin)))
+    } else {
+        Ok((*name, Binding::Unset))
+    }
+}
+
+/// Adds the locals.
+fn push_locals(
+    alloc: Global,
+    names: &mut Vec<(Name, Binding)>,
+    scene: Scene<'_>,
+    locals: &[Name],
+) -> Result<(), AllocError>
+    requires { scene.io ≤ 1 }
+    ensures { OnOk result ((lines : List ℤ) → names.new.items ≡ names.old.items ++ map (local_of (seen scene.entry lines)) locals.now) }
+{
+    for local in locals {
+        names.push(local_of(alloc, scene, local)?)?;
+    }
+    Ok(())
+}
+
+/// Adds the labels, each of which is the number of its line.
+fn push_labels(names: &mut Vec<(Name, Binding)>, labels: &[(Name, usize)]) -> Result<(), AllocError>
+    requires { All (λ l. l.1 ≤ 999) labels.now }
+    ensures { OnOk result (names.new.items ≡ names.old.items ++ map label_of labels.now) }
+{
+    for (name, line) in labels {
+        names.push((*name, Binding::Label(*line as u16)))?;
+    }
+    Ok(())
+}
+
+/// What the names of a call stand for as it begins.
+pub(crate) fn names_of_call(
+    alloc: Global,
+    scene: Scene<'_>,
+    definition: &Definition,
+    left: Option<Array>,
+    right: Option<Array>,
+) -> Result<Vec<(Name, Binding)>, AllocError>
+    requires { scene.io ≤ 1 }
+    ensures { IfOk result (λ names. (lines : List ℤ) → names.items ≡ names_of_call (seen scene.entry lines) definition.now left right) }
+{
+    let header = definition.header();
+    let mut names = Vec::new(alloc);
+    push_named(&mut names, header.result, Binding::Unset)?;
+    push_named(&mut names, header.left, bound_to(left))?;
+    push_named(&mut names, header.right, bound_to(right))?;
+    push_locals(alloc, &mut names, scene, header.locals.as_slice())?;
+    push_labels(&mut names, definition.labels())?;
+    Ok(names)
+}

@@ -1,0 +1,225 @@
+//! Operands of instructions.
+ghost use Rattle.std.specs.Prelude.{◌≡◌, ◌≤◌, ◌<◌, IfOk, length, reverse, take, List, [], ◌∷◌, Option, Some, option_copied, option_map};
+ghost use Rattle.apl_code.specs.declared.instr.Source.{Source};
+ghost use Rattle.apl_operands.specs.Operands.{AreThere, fetched, fetched_one, unfetched_one, unfetched};
+ghost use Rattle.apl_arrays.specs.Cells.{Arr};
+ghost use Rattle.apl_machine_state.specs.declared.operand.Operand.TheVariants.{Value};
+ghost use Rattle.apl_operands.specs.Operands.{EndsInValue, last_value, next_operands, operand_of, only, one_value};
+ghost use Rattle.apl_machine_state.specs.Items.{constant_at};
+ghost use Rattle.apl_machine_state.specs.Outcomes.{taken_of, taken_one, taken_two, taken_three};
+ghost use Rattle.apl_primitives.specs.Taken.{taken};
+
+use apl_arrays::Array;
+use apl_code::Source;
+use apl_machine_state::{Operand, Slots};
+use apl_primitives::Arguments;
+use std::alloc::AllocError;
+
+/// An operand where it lies: a constant of the line, or on the operand stack.
+#[derive(Clone, Copy)]
+pub enum Held<'a> {
+    Value(&'a Array),
+    Slots(&'a Slots),
+}
+
+/// Where instructions take their operands from: the constants of the line, and the operand stack,
+/// its top last.
+#[derive(Clone, Copy)]
+pub struct Operands<'a> {
+    pub constants: &'a [Array],
+    pub stack: &'a [Operand],
+}
+
+/// An operand, and what is left beneath it.
+pub fn fetch(operands: Operands<'_>, source: Source) -> (Held<'_>, Operands<'_>)
+    requires { AreThere (length operands.constants.now) (Some source ∷ []) (length operands.stack.now) }
+    ensures held { operand_of result.0 ≡ fetched_one operands.entry.constants.now source (reverse operands.entry.stack.now) }
+    ensures constants { result.1.constants.now ≡ operands.entry.constants.now }
+    ensures below { reverse result.1.stack.now ≡ unfetched_one source (reverse operands.entry.stack.now) }
+    ensures there { (more : List (Option Source)) → AreThere (length operands.entry.constants.now) (Some source ∷ more) (length operands.entry.stack.now) → AreThere (length operands.entry.constants.now) more (length result.1.stack.now) }
+{
+    match source {
+        Source::Constant(k) => (Held::Value(&operands.constants[k]), operands),
+        Source::Stack => {
+            let Some((top, stack)) = operands.stack.split_last() else {
+                unreachable!()
+            };
+            let below = Operands {
+                constants: operands.constants,
+                stack,
+            };
+            match top {
+                Operand::Value(array) => (Held::Value(array), below),
+                Operand::Slots(slots) => (Held::Slots(slots), below),
+            }
+        }
+    }
+}
+
+/// The one operand of an instruction that has one.
+fn only(sources: &[Option<Source>]) -> Option<Source>
+    ensures { result ≡ only sources.now }
+{
+    match sources {
+        [Some(source)] => Some(*source),
+        _ => None,
+    }
+}
+
+/// The value that an instruction takes, if it takes one value alone.
+pub fn one_value<'a>(sources: &[Option<Source>], operands: Operands<'a>) -> Option<&'a Array>
+    requires { AreThere (length operands.constants.now) sources.now (length operands.stack.now) }
+    ensures { option_copied result ≡ one_value (fetched operands.entry.constants.now sources.now (reverse operands.entry.stack.now)) }
+{
+    let source = only(sources)?;
+    match fetch(operands, source).0 {
+        Held::Value(array) => Some(array),
+        Held::Slots(_) => None,
+    }
+}
+
+/// An operand, if an instruction takes one here, and what is left beneath it.
+fn next(operands: Operands<'_>, source: Option<Source>) -> (Option<Held<'_>>, Operands<'_>)
+    requires { AreThere (length operands.constants.now) (source ∷ []) (length operands.stack.now) }
+    ensures held { (more : List (Option Source)) → fetched operands.entry.constants.now (source ∷ more) (reverse operands.entry.stack.now) ≡ option_map operand_of result.0 ∷ fetched result.1.constants.now more (reverse result.1.stack.now) }
+    ensures there { (more : List (Option Source)) → AreThere (length operands.entry.constants.now) (source ∷ more) (length operands.entry.stack.now) → AreThere (length result.1.constants.now) more (length result.1.stack.now) }
+{
+    match source {
+        Some(source) => {
+            let (held, rest) = fetch(operands, source);
+            (Some(held), rest)
+        }
+        None => (None, operands),
+    }
+}
+
+/// What a phrase takes that takes this alone.
+fn one_argument(b: Option<Held<'_>>) -> Arguments<'_>
+    ensures { taken result ≡ taken_one (option_map operand_of b.entry) }
+{
+    match b {
+        Some(Held::Value(b)) => Arguments::One(b),
+        _ => Arguments::Other,
+    }
+}
+
+/// What a phrase takes that takes these two, from the left.
+fn two_arguments<'a>(first: Option<Held<'a>>, second: Option<Held<'a>>) -> Arguments<'a>
+    ensures { taken result ≡ taken_two (option_map operand_of first.entry) (option_map operand_of second.entry) }
+{
+    match (first, second) {
+        (Some(Held::Value(a)), Some(Held::Value(b))) => Arguments::Two(a, b),
+        (Some(Held::Slots(axis)), Some(Held::Value(b))) => Arguments::AlongOne(axis.as_slice(), b),
+        (Some(Held::Value(b)), Some(Held::Slots(slots))) => {
+            Arguments::Selected(b, slots.as_slice())
+        }
+        _ => Arguments::Other,
+    }
+}
+
+/// What a phrase takes that takes these three, from the left.
+fn three_arguments<'a>(
+    first: Option<Held<'a>>,
+    second: Option<Held<'a>>,
+    third: Option<Held<'a>>,
+) -> Arguments<'a>
+    ensures { taken result ≡ taken_three (option_map operand_of first.entry) (option_map operand_of second.entry) (option_map operand_of third.entry) }
+{
+    match (first, second, third) {
+        (Some(Held::Value(a)), Some(Held::Slots(axis)), Some(Held::Value(b))) => {
+            Arguments::AlongTwo(a, axis.as_slice(), b)
+        }
+        _ => Arguments::Other,
+    }
+}
+
+/// The values and index lists that an instruction takes: what stands further left lies nearer the top.
+#[tactic(auto, using(crate::proofs::Fetching::first_there, crate::proofs::Fetching::too_few, crate::proofs::Fetching::too_many))]
+pub fn arguments<'a>(sources: &[Option<Source>], operands: Operands<'a>) -> Arguments<'a>
+    requires { AreThere (length operands.constants.now) sources.now (length operands.stack.now) }
+    ensures { taken result ≡ taken_of (fetched operands.entry.constants.now sources.now (reverse operands.entry.stack.now)) }
+{
+    match sources {
+        [first] => one_argument(next(operands, *first).0),
+        [first, second] => {
+            let (first, rest) = next(operands, *first);
+            two_arguments(first, next(rest, *second).0)
+        }
+        [first, second, third] => {
+            let (first, rest) = next(operands, *first);
+            let (second, rest) = next(rest, *second);
+            three_arguments(first, second, next(rest, *third).0)
+        }
+        _ => Arguments::Other,
+    }
+}
+
+/// How many operands are left beneath this one, where there are so many.
+fn left_beneath(source: Option<Source>, left: usize, stack: &[Operand]) -> usize
+    requires { left ≤ length stack.now }
+    ensures within { result ≤ length stack.now }
+    ensures left { (more : List (Option Source)) → unfetched (source ∷ more) (reverse (take left stack.now)) ≡ unfetched more (reverse (take result stack.now)) }
+{
+    let _ = stack;
+    let Some(source) = source else {
+        return left;
+    };
+    match source {
+        Source::Stack => left.saturating_sub(1),
+        Source::Constant(_) => left,
+    }
+}
+
+/// How many operands an instruction leaves beneath those that it takes.
+pub fn left(sources: &[Option<Source>], stack: &[Operand]) -> usize
+    ensures within { result ≤ length stack.now }
+    ensures left { unfetched sources.now (reverse stack.now) ≡ reverse (take result stack.now) }
+{
+    let mut left = stack.len();
+    for source in sources {
+        left = left_beneath(*source, left, stack);
+    }
+    left
+}
+
+/// What a phrase gives.
+#[derive(Drop)]
+pub enum Given {
+    /// This.
+    New(Operand),
+    /// An operand that lies on the stack, as it is.
+    Stays,
+}
+
+/// A copy of a constant of the line.
+fn constant(operands: Operands<'_>, k: usize) -> Result<Array, AllocError>
+    requires { k < length operands.constants.now }
+    ensures { IfOk result (λ array. array ≡ constant_at operands.entry.constants.now k) }
+{
+    operands.constants[k].copy()
+}
+
+/// The value of the last operand, and how many operands are left: up to that value where it stays on the stack, and beneath
+/// those that the instruction takes where it is new.
+pub fn last_operand(
+    sources: &[Option<Source>],
+    operands: Operands<'_>,
+) -> Result<(Given, usize), AllocError>
+    requires there { AreThere (length operands.constants.now) sources.now (length operands.stack.now) }
+    requires value { EndsInValue (fetched operands.constants.now sources.now (reverse operands.stack.now)) }
+    ensures within { IfOk result (λ r. r.1 ≤ length operands.entry.stack.now) }
+    ensures value { IfOk result (λ r. (b : Arr) → last_value (fetched operands.entry.constants.now sources.now (reverse operands.entry.stack.now)) ≡ Some b → reverse (next_operands r.0 r.1 operands.entry.stack.now) ≡ Value b ∷ unfetched sources.now (reverse operands.entry.stack.now)) }
+{
+    let Some((last, others)) = sources.split_last() else {
+        unreachable!()
+    };
+    let left = left(others, operands.stack);
+    let Some(last) = last else { unreachable!() };
+    match last {
+        Source::Stack => Ok((Given::Stays, left)),
+        Source::Constant(k) => {
+            let value = constant(operands, *k)?;
+            Ok((Given::New(Operand::Value(value)), left))
+        }
+    }
+}

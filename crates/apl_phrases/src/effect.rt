@@ -1,0 +1,72 @@
+//! What phrases do.
+ghost use Rattle.std.specs.Prelude.{◌≤◌, IfOk, ℤ, List, Option, Result};
+ghost use Rattle.apl_arrays.specs.Answers.{Answers};
+ghost use Rattle.apl_arrays.specs.Cells.{Arr};
+ghost use Rattle.apl_faults.specs.declared.fault.Fault.{Fault};
+ghost use Rattle.apl_machine_state.specs.declared.operand.Operand.{Operand};
+ghost use Rattle.apl_machine_state.specs.Environment.{index_origin};
+ghost use Rattle.apl_machine_state.specs.Outcomes.{of_result};
+ghost use Rattle.apl_primitives.specs.Taken.{taken};
+ghost use Rattle.apl_primitives.specs.Values.{phrase_value};
+ghost use Rattle.apl_phrases.specs.Effects.{IsEffect, seen};
+
+use crate::scene::Scene;
+use apl_arrays::{Array, Stop};
+use apl_code::Row;
+use apl_faults::Fault;
+use apl_machine_state::{Operand, OutLine};
+use apl_names::DefinedFunction;
+use apl_primitives::{Arguments, phrase_value};
+use apl_symbols::Name;
+use std::alloc::{AllocError, Global};
+
+/// What a phrase does.
+#[derive(Drop)]
+pub enum Effect {
+    /// It gives this.
+    Gives(Operand),
+    /// It gives the value of its last operand, and does this beside.
+    Passes(Deed),
+    /// It gives the line numbers of the standing calls.
+    GivesLineNumbers,
+    /// It calls a function with these arguments.
+    Calls(DefinedFunction, Option<Array>, Option<Array>),
+    /// It fails.
+    Fails(Fault),
+}
+
+/// What a phrase does beside giving a value.
+#[derive(Drop)]
+pub enum Deed {
+    Nothing,
+    /// These lines are written.
+    Writes(Vec<OutLine>),
+    /// The name has this value from now on.
+    Assigns(Name, Array),
+    /// The workspace has this index origin from now on.
+    SetsOrigin(usize),
+}
+
+/// What a phrase does whose function answers this.
+fn effect_of(answer: Result<Array, Stop>) -> Result<Effect, AllocError>
+    ensures { IfOk result (λ e. (lines : List ℤ) (defined : Result Arr Fault) (operands : List (Option Operand)) → Answers (λ a. a) defined answer → IsEffect lines e (of_result defined) operands) }
+{
+    match answer {
+        Ok(array) => Ok(Effect::Gives(Operand::Value(array))),
+        Err(Stop::Fault(fault)) => Ok(Effect::Fails(fault)),
+        Err(Stop::Memory) => Err(AllocError),
+    }
+}
+
+/// What a phrase of a row gives that the primitives give.
+pub fn value(
+    alloc: Global,
+    scene: Scene<'_>,
+    row: Row,
+    arguments: Arguments<'_>,
+) -> Result<Effect, AllocError>
+    requires { scene.io ≤ 1 }
+    ensures { IfOk result (λ e. (lines : List ℤ) (operands : List (Option Operand)) → IsEffect lines e (of_result (phrase_value row (taken arguments.entry) (index_origin (seen scene.entry lines)))) operands) }
+{
+    effect_of(phrase_value(alloc, row, arguments, scene.origin()))
+}

@@ -1,0 +1,145 @@
+//! What a phrase does with its operands.
+ghost use Rattle.std.specs.Prelude.{◌≡◌, ◌≤◌, IfOk, length, map, reverse, ℤ, List, [], ◌∷◌, Option, Result};
+ghost use Rattle.apl_code.specs.declared.instr.Source.{Source};
+ghost use Rattle.apl_machine_state.specs.declared.operand.Operand.{Operand};
+ghost use Rattle.apl_code.specs.declared.row.Row.TheVariants.{Group};
+ghost use Rattle.apl_machine_state.specs.Outcomes.{Makes, outcome, shown, value_in, taken_of, of_result};
+ghost use Rattle.apl_primitives.specs.Taken.{taken};
+ghost use Rattle.apl_primitives.specs.Values.{phrase_value};
+ghost use Rattle.apl_operands.specs.Operands.{AreThere, fetched};
+ghost use Rattle.apl_phrases.specs.Effects.{IsEffect, acted, seen};
+
+use crate::assign::{assign, assign_indexed, read};
+use crate::calls::{call, dyadic, monadic};
+use crate::effect::{Deed, Effect, value};
+use crate::lines::said;
+use crate::scene::Scene;
+use apl_arrays::Array;
+use apl_code::{Action, Row, Source};
+use apl_faults::Fault;
+use apl_format::display;
+use apl_machine_state::{Operand, Slots};
+use apl_operands::{Held, Operands, arguments, fetch};
+use apl_primitives::Arguments;
+use std::alloc::{AllocError, Global};
+
+/// `( B )`: the value stays as it is.
+#[tactic(auto, using(apl_operands::proofs::Fetching::one_taken))]
+fn group(arguments: Arguments<'_>) -> Effect
+    ensures { (lines : List ℤ) (operands : List (Option Operand)) → taken arguments.entry ≡ taken_of operands → IsEffect lines result (of_result (phrase_value Group (taken arguments.entry) 1)) operands }
+{
+    match arguments {
+        Arguments::One(_) => Effect::Passes(Deed::Nothing),
+        _ => Effect::Fails(Fault::Syntax),
+    }
+}
+
+/// `⎕ ← B`
+#[tactic(auto, using(apl_operands::proofs::Fetching::one_taken))]
+fn show(alloc: Global, arguments: Arguments<'_>) -> Result<Effect, AllocError>
+    ensures { IfOk result (λ e. (lines : List ℤ) (operands : List (Option Operand)) → taken arguments.entry ≡ taken_of operands → IsEffect lines e (shown (taken arguments.entry)) operands) }
+{
+    match arguments {
+        Arguments::One(b) => Ok(Effect::Passes(Deed::Writes(said(alloc, display(alloc, b)?)?))),
+        _ => Ok(Effect::Fails(Fault::Syntax)),
+    }
+}
+
+/// A slot of an index list, and what is left beneath it.
+fn slot(
+    operands: Operands<'_>,
+    source: Option<Source>,
+) -> Result<(Option<Array>, Operands<'_>), AllocError>
+    requires { AreThere (length operands.constants.now) (source ∷ []) (length operands.stack.now) }
+    ensures constants { IfOk result (λ r. r.1.constants.now ≡ operands.entry.constants.now) }
+    ensures slot { IfOk result (λ r. (more : List (Option Source)) → map value_in (fetched operands.entry.constants.now (source ∷ more) (reverse operands.entry.stack.now)) ≡ r.0 ∷ map value_in (fetched operands.entry.constants.now more (reverse r.1.stack.now))) }
+    ensures there { IfOk result (λ r. (more : List (Option Source)) → AreThere (length operands.entry.constants.now) (source ∷ more) (length operands.entry.stack.now) → AreThere (length operands.entry.constants.now) more (length r.1.stack.now)) }
+{
+    let Some(source) = source else {
+        return Ok((None, operands));
+    };
+    let (held, rest) = fetch(operands, source);
+    match held {
+        Held::Value(array) => Ok((Some(array.copy()?), rest)),
+        Held::Slots(_) => Ok((None, rest)),
+    }
+}
+
+/// The slots of an index list.
+fn slots(
+    alloc: Global,
+    sources: &[Option<Source>],
+    operands: Operands<'_>,
+) -> Result<Vec<Option<Array>>, AllocError>
+    requires { AreThere (length operands.constants.now) sources.now (length operands.stack.now) }
+    ensures { IfOk result (λ slots. slots.items ≡ map value_in (fetched operands.entry.constants.now sources.now (reverse operands.entry.stack.now))) }
+{
+    let mut slots = Vec::with_capacity(alloc, sources.len())?;
+    let mut rest = operands;
+    for source in sources {
+        let (one, below) = slot(rest, *source)?;
+        slots.push(one)?;
+        rest = below;
+    }
+    Ok(slots)
+}
+
+/// An index list.
+fn index_list(
+    alloc: Global,
+    sources: &[Option<Source>],
+    operands: Operands<'_>,
+) -> Result<Effect, AllocError>
+    requires { AreThere (length operands.constants.now) sources.now (length operands.stack.now) }
+    ensures { IfOk result (λ e. (lines : List ℤ) → IsEffect lines e (Makes (map value_in (fetched operands.entry.constants.now sources.now (reverse operands.entry.stack.now)))) (fetched operands.entry.constants.now sources.now (reverse operands.entry.stack.now))) }
+{
+    let slots = slots(alloc, sources, operands)?;
+    Ok(Effect::Gives(Operand::Slots(Slots::new(slots))))
+}
+
+/// What a phrase of this row does.
+fn perform_row(
+    alloc: Global,
+    scene: Scene<'_>,
+    row: Row,
+    sources: &[Option<Source>],
+    operands: Operands<'_>,
+) -> Result<Effect, AllocError>
+    requires there { AreThere (length operands.constants.now) sources.now (length operands.stack.now) }
+    requires small { scene.io ≤ 1 }
+    ensures { IfOk result (λ e. (lines : List ℤ) → IsEffect lines e (outcome (seen scene.entry lines) row (fetched operands.entry.constants.now sources.now (reverse operands.entry.stack.now))) (fetched operands.entry.constants.now sources.now (reverse operands.entry.stack.now))) }
+{
+    match row {
+        Row::Index(_) => index_list(alloc, sources, operands),
+        Row::Group => Ok(group(arguments(sources, operands))),
+        Row::Read(variable) => read(alloc, scene, variable),
+        Row::Call(variable) => call(scene, variable),
+        Row::Monadic(function) => { monadic(alloc, scene, function, arguments(sources, operands)) }
+        Row::Dyadic(function) => dyadic(alloc, scene, function, arguments(sources, operands)),
+        Row::Assign(variable) => assign(alloc, scene, variable, arguments(sources, operands)),
+        Row::AssignIndexed(variable) => {
+            assign_indexed(alloc, scene, variable, arguments(sources, operands))
+        }
+        Row::Show => show(alloc, arguments(sources, operands)),
+        _ => value(alloc, scene, row, arguments(sources, operands)),
+    }
+}
+
+/// What a phrase's instruction does.
+pub fn perform(
+    alloc: Global,
+    scene: Scene<'_>,
+    action: Action,
+    sources: &[Option<Source>],
+    operands: Operands<'_>,
+) -> Result<Effect, AllocError>
+    requires there { AreThere (length operands.constants.now) sources.now (length operands.stack.now) }
+    requires small { scene.io ≤ 1 }
+    ensures { IfOk result (λ e. (lines : List ℤ) → IsEffect lines e (acted (seen scene.entry lines) action (fetched operands.entry.constants.now sources.now (reverse operands.entry.stack.now))) (fetched operands.entry.constants.now sources.now (reverse operands.entry.stack.now))) }
+{
+    match action {
+        Action::Box => index_list(alloc, sources, operands),
+        Action::Phrase(row) => perform_row(alloc, scene, row, sources, operands),
+        Action::End(_) => Ok(Effect::Fails(Fault::Syntax)),
+    }
+}

@@ -1,0 +1,60 @@
+//! What phrases see beside their operands.
+ghost use Rattle.std.specs.Prelude.{◌≡◌, ◌≤◌};
+ghost use Rattle.apl_machine_state.specs.Environment.{origin_by, origin_in, origin_name};
+ghost use Rattle.apl_names.specs.Maps.{found};
+
+use apl_arrays::{Array, Ravel};
+use apl_charset::Ch;
+use apl_names::{Binding, Names};
+use apl_symbols::Name;
+
+/// What phrases see beside their operands. The line numbers of the standing calls are not lent.
+#[derive(Clone, Copy)]
+pub struct Scene<'a> {
+    /// The names in force.
+    pub names: &'a Names,
+    /// The index origin of the workspace: 0 or 1.
+    pub io: usize,
+    /// How many calls stand.
+    pub standing: usize,
+}
+
+/// `⎕IO` as a name, as the maps of calls know it.
+#[tactic(auto, unfolding(apl_charset::specs::Set::is_member))]
+pub fn origin_name() -> Name
+    ensures { result ≡ origin_name }
+{
+    let word = [Ch::member('⎕'), Ch::ascii(b'I'), Ch::ascii(b'O')];
+    let Some(name) = Name::new(&word) else {
+        unreachable!()
+    };
+    name
+}
+
+/// The origin that an array stands for, which holds 0 or 1.
+fn origin_in(array: &Array) -> usize
+    ensures value { result ≡ origin_in array.now.items }
+    ensures small { result ≤ 1 }
+{
+    match array.ravel() {
+        Ravel::Nums(numbers) => match numbers.as_slice() {
+            [0, ..] => 0,
+            _ => 1,
+        },
+        Ravel::Chars(_) => 1,
+    }
+}
+
+impl<'a> Scene<'a> {
+    /// The index origin in force.
+    pub fn origin(self) -> usize
+        requires { self.io ≤ 1 }
+        ensures value { result ≡ origin_by (found self.entry.names.now origin_name) self.entry.io }
+        ensures small { result ≤ 1 }
+    {
+        match self.names.binding(&origin_name()) {
+            Some(Binding::Value(array)) => origin_in(array),
+            _ => self.io,
+        }
+    }
+}

@@ -1,0 +1,48 @@
+-- Steps neither see nor change the open definition.
+use Rattle.std.proofs.Common.{◌≡◌, ℕ, zero, suc, List, Option, Bool, true, false, cond, ap, ◌∙◌, refl}
+use Rattle.apl_defn.specs.Definitions.{Text, Definition, is_line}
+use Rattle.apl_names.specs.Maps.{Map}
+use Rattle.apl_machine_state.specs.declared.output.Progress.{Progress}
+use Rattle.apl_machine_state.specs.Environment.{World, Context}
+use Rattle.apl_machine_state.specs.Changes.{Change, Rests, Moves, Arrives, change}
+use Rattle.apl_machine_state.specs.State.{State, is_idle, step, steps, steps_progress, last_progress, standing, progress, turn, applied, arrived}
+
+-- the state with that definition open, if any
+abbrev pub within : Option (List Text) → State → State
+within d s = record s { definition = d }
+
+arrived-within : (d : Option (List Text)) (is_there : Bool) (s : State) (w : World) (f : Definition) (n : ℕ) (locals : Map) (below : List Context) (lines : List Text) (ended : Bool) →
+    (arrived is_there (within d s) w f n locals below lines ended).state ≡ within d (arrived is_there s w f n locals below lines ended).state
+arrived-within d true s w f n locals below lines ended = refl
+arrived-within d false s w f n locals below lines ended = refl
+
+applied-within : (d : Option (List Text)) (s : State) (c : Change) → (applied (within d s) c).state ≡ within d (applied s c).state
+applied-within d s Rests = refl
+applied-within d s (Moves w contexts lines ended) = refl
+applied-within d s (Arrives w f n locals below lines ended) = arrived-within d (is_line f n) s w f n locals below lines ended
+
+pub steps-within : (d : Option (List Text)) (n : ℕ) (s : State) → steps n (within d s) ≡ within d (steps n s)
+steps-within d zero s = refl
+steps-within d (suc n) s = ap (steps n) (applied-within d s (change s.world s.contexts)) ∙ steps-within d n (step s)
+
+arrived-progress : (d : Option (List Text)) (is_there : Bool) (s : State) (w : World) (f : Definition) (n : ℕ) (locals : Map) (below : List Context) (lines : List Text) (ended : Bool) →
+    progress (arrived is_there (within d s) w f n locals below lines ended) ≡ progress (arrived is_there s w f n locals below lines ended)
+arrived-progress d true s w f n locals below lines ended = refl
+arrived-progress d false s w f n locals below lines ended = refl
+
+applied-progress : (d : Option (List Text)) (s : State) (c : Change) → progress (applied (within d s) c) ≡ progress (applied s c)
+applied-progress d s Rests = refl
+applied-progress d s (Moves w contexts lines ended) = refl
+applied-progress d s (Arrives w f n locals below lines ended) = arrived-progress d (is_line f n) s w f n locals below lines ended
+
+last_progress-within : (d : Option (List Text)) (before : Progress) (n : ℕ) (s : State) → last_progress before n (within d s) ≡ last_progress before n s
+last_progress-within d before zero s = refl
+last_progress-within d before (suc n) s =
+    ap (λ (p : Progress). cond (is_idle s) before (last_progress p n (step (within d s)))) (applied-progress d s (change s.world s.contexts))
+    ∙ ap (λ (t : State). cond (is_idle s) before (last_progress (progress (turn s)) n t)) (applied-within d s (change s.world s.contexts))
+    ∙ ap (λ (p : Progress). cond (is_idle s) before p) (last_progress-within d (progress (turn s)) n (step s))
+
+pub progress-within : (d : Option (List Text)) (n : ℕ) (s : State) → steps_progress n (within d s) ≡ steps_progress n s
+progress-within d n s = last_progress-within d (standing s) n s
+
+pub ruleset same_steps = (steps-within, progress-within)
