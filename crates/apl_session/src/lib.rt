@@ -3,8 +3,6 @@
 #![tactic(auto)]
 
 mod definition;
-#[cfg(test)]
-mod definition_tests;
 mod devices;
 mod lines;
 mod runs;
