@@ -18,6 +18,15 @@ abbrev pub name_in : Kind → Option Text
 name_in (Name name) = Some name
 name_in kind = None
 
+-- the name that tokens are
+abbrev pub only_name : Answer → Option Text
+only_name (Ok (token ∷ [])) = name_in token.kind
+only_name tokens = None
+
+-- the name that a text is, if it is one
+abbrev pub name_of : Text → Option Text
+name_of text = only_name (tokens_of text)
+
 -- the local that a token is
 abbrev pub local_in : Kind → Option Text
 local_in (Name name) = Some name

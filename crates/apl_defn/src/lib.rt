@@ -8,6 +8,7 @@ mod error;
 mod laws;
 mod line;
 mod listing;
+mod name;
 mod parts;
 mod reading;
 #[cfg(test)]
@@ -19,5 +20,6 @@ pub use definition::Definition;
 pub use error::DefnError;
 pub use laws::{definitions, headers};
 pub use listing::{canonical, show};
+pub use name::name_of;
 pub use parts::{Header, Names};
 pub use reading::header;

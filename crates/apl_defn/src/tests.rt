@@ -1,9 +1,10 @@
 // Headers and definitions, read, refused and written.
 use crate::{
-    Definition, DefnError, Names, canonical, define, definitions, header, headers, show, trimmed,
+    Definition, DefnError, Names, canonical, define, definitions, header, headers, name_of, show,
+    trimmed,
 };
 use apl_charset::{Text, decode_line, encode};
-use apl_symbols::Class;
+use apl_symbols::{Class, Name};
 use std::alloc::Global;
 use std::test::Fail;
 
@@ -230,6 +231,26 @@ fn classes(rt: HostRuntime) -> Result<(), Fail> {
     ];
     for (line, want) in rows {
         assert_eq!(rt; defined(rt.alloc(), &[line])?.class(), want, "{line}");
+    }
+    Ok(())
+}
+
+#[test]
+fn names_as_texts(rt: HostRuntime) -> Result<(), Fail> {
+    for (line, is_name) in [
+        ("LOOP", true),
+        ("∆1", true),
+        ("", false),
+        ("1X", false),
+        ("A B", false),
+        ("⎕IO", false),
+        ("A⍝", false),
+        ("'AB", false),
+        ("ABCDEFGHIJKLMNOPQRSTUVWXYZABCDEFG", false),
+    ] {
+        let text = text(rt.alloc(), line)?;
+        let want = if is_name { Name::new(text.as_slice()) } else { None };
+        assert!(rt; name_of(rt.alloc(), text.as_slice())? == want, "{line}");
     }
     Ok(())
 }

@@ -46,10 +46,14 @@ abbrev pub call_of : Option Call → Option (List ℕ × ℕ)
 call_of None = None
 call_of (Some call) = Some (call.name.now, call.line)
 
+-- a line of a call: the name and the line number
+unfoldable pub place : List ℕ × ℕ → List ℕ
+place call = call.0 ++ codes "[" ++ decimal call.1 ++ codes "]"
+
 -- what stands before the line's text: a call's name and line number, or six blanks
 unfoldable pub prefix : Option (List ℕ × ℕ) → List ℕ
 prefix None = replicate 6 32
-prefix (Some call) = call.0 ++ codes "[" ++ decimal call.1 ++ codes "] "
+prefix (Some call) = place call ++ codes " "
 
 -- the name, the line, and a caret under the column
 unfoldable pub report : Fault → Option (List ℕ × ℕ) → List ℕ → ℕ → List (List ℕ)

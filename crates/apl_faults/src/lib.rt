@@ -7,4 +7,4 @@ mod reports;
 mod tests;
 
 pub use fault::Fault;
-pub use reports::{Call, fault_line, report};
+pub use reports::{Call, fault_line, place, report};

@@ -1,6 +1,6 @@
 // Reports of faults.
-ghost use Rattle.std.specs.Prelude.{◌≡◌, ◌≤◌, ◌<◌, ◌^◌, IfOk, replicate, ◌++◌, ◌∷◌, []};
-ghost use Rattle.apl_faults.specs.Report.{name_of, prefix, call_of, report};
+ghost use Rattle.std.specs.Prelude.{◌≡◌, ◌≤◌, ◌<◌, ◌^◌, IfOk, OnOk, replicate, ◌++◌, ◌∷◌, []};
+ghost use Rattle.apl_faults.specs.Report.{name_of, place, prefix, call_of, report};
 
 use crate::fault::Fault;
 use apl_charset::{Ch, Text, push_ascii};
@@ -14,6 +14,28 @@ pub struct Call<'a> {
     pub line: usize,
 }
 
+/// Adds the name of a call and the number of its line in brackets.
+#[tactic(auto, unfolding(crate::specs::Report::place))]
+fn push_place(out: &mut Vec<Ch>, call: Call) -> Result<(), AllocError>
+    ensures { OnOk result (out.new.items ≡ out.old.items ++ place (call.entry.name.now, call.entry.line)) }
+{
+    let mut digits = Buffer::new();
+    out.extend_from_slice(call.name)?;
+    push_ascii(out, b"[")?;
+    push_ascii(out, digits.format(call.line).as_bytes())?;
+    push_ascii(out, b"]")?;
+    Ok(())
+}
+
+/// A line of a call, as state indicators, stops and traces show it: `FACT[3]`.
+pub fn place(alloc: Global, call: Call) -> Result<Text, AllocError>
+    ensures { IfOk result (λ t. t ≡ place (call.entry.name.now, call.entry.line)) }
+{
+    let mut out = Vec::new(alloc);
+    push_place(&mut out, call)?;
+    Ok(Text::new(out))
+}
+
 /// What stands before the text of the faulty line.
 #[tactic(auto, unfolding(crate::specs::Report::prefix))]
 fn prefix(alloc: Global, call: Option<Call>) -> Result<Vec<Ch>, AllocError>
@@ -23,11 +45,8 @@ fn prefix(alloc: Global, call: Option<Call>) -> Result<Vec<Ch>, AllocError>
     match call {
         None => push_ascii(&mut out, b"      ")?,
         Some(call) => {
-            let mut digits = Buffer::new();
-            out.extend_from_slice(call.name)?;
-            push_ascii(&mut out, b"[")?;
-            push_ascii(&mut out, digits.format(call.line).as_bytes())?;
-            push_ascii(&mut out, b"] ")?;
+            push_place(&mut out, call)?;
+            push_ascii(&mut out, b" ")?;
         }
     }
     Ok(out)

@@ -1,6 +1,6 @@
 // Reports as they are written.
 use crate::fault::Fault;
-use crate::reports::{Call, fault_line, report};
+use crate::reports::{Call, fault_line, place, report};
 use apl_charset::{Text, decode_line, encode};
 use std::alloc::Global;
 use std::test::Fail;
@@ -56,6 +56,7 @@ fn in_a_call(rt: HostRuntime) -> Result<(), Fail> {
         name: name.as_slice(),
         line: 3,
     };
+    assert!(rt; is_written(rt.alloc(), &place(rt.alloc(), call)?, "FACT[3]")?);
     let lines = report(rt.alloc(), Fault::Limit, Some(call), text.as_slice(), 4)?;
     let want = ["LIMIT ERROR", "FACT[3] Z←N×FACT N-1", "           ^"];
     assert_eq!(rt; lines.len(), want.len());

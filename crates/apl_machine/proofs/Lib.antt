@@ -10,3 +10,4 @@ pub mod Entered
 pub mod Ends
 pub mod Readers
 pub mod Parts
+pub mod Erased

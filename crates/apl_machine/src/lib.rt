@@ -4,10 +4,11 @@
 mod change;
 mod locals;
 mod machine;
+mod objects;
 mod reports;
 mod returns;
 mod workspace;
 
 pub use apl_frames::Frame;
-pub use apl_machine_state::{Operand, OutLine, Progress, Slots};
+pub use apl_machine_state::{Level, Operand, OutLine, Progress, Slots};
 pub use machine::{BeginError, Machine};

@@ -3,7 +3,8 @@ ghost use Rattle.std.specs.Prelude.{◌≡◌, ◌↔◌, [], ◌∷◌, None, S
 ghost use Rattle.apl_machine_state.specs.Items.{Rest};
 ghost use Rattle.apl_machine_state.specs.Environment.{class_of, rest_at};
 ghost use Rattle.apl_machine_state.specs.Frames.{IsFrame};
-ghost use Rattle.apl_machine_state.specs.State.{State, clear, definition_of, function_in, interrupt, is_global_variable, is_idle, is_variable, progress, step, turn, value_of, with_function, with_lines};
+ghost use Rattle.apl_machine_state.specs.Objects.{cleared, erased, globals, levels};
+ghost use Rattle.apl_machine_state.specs.State.{State, clear, definition_of, interrupt, is_global_variable, is_idle, progress, step, turn, value_of, with_function, with_lines};
 ghost use Rattle.apl_machine_state.specs.Beginning.{begun, colon_of, started};
 ghost use Rattle.apl_machine_state.specs.State.{Turn};
 ghost use Rattle.apl_names.specs.Maps.{Map};
@@ -13,6 +14,7 @@ ghost use Rattle.apl_machine.specs.Changes.{IsChange};
 ghost use Rattle.apl_machine.specs.Spaces.{IsSound, state_of};
 
 use crate::change::{Change, change_of};
+use crate::objects::{clear, define, erase, function_in, is_variable};
 use crate::reports::{context_fault, token_fault, typed_fault};
 use crate::workspace::Workspace;
 use apl_arrays::Array;
@@ -21,8 +23,8 @@ use apl_contexts::{Context, Contexts, Statement, begin_line};
 use apl_defn::Definition;
 use apl_faults::Fault;
 use apl_frames::Frame;
-use apl_machine_state::{OutLine, Progress};
-use apl_names::{Binding, DefinedFunction, Names};
+use apl_machine_state::{Level, OutLine, Progress};
+use apl_names::Names;
 use apl_phrases::said;
 use apl_symbols::{Class, Name, Symbol};
 use apl_tokens::{Kind, Token, tokens};
@@ -153,40 +155,6 @@ fn abandon(workspace: &mut Workspace) -> Result<(), AllocError>
     let report = context_fault(workspace.alloc, Fault::Interrupt, newest, 1)?;
     workspace.fail(report)?;
     Ok(())
-}
-
-/// Defines a function, in the place of what its name stood for globally. After an error nothing has
-/// changed.
-fn define(workspace: &mut Workspace, definition: Definition) -> Result<(), AllocError>
-    requires sound { IsSound workspace.old }
-    ensures sound { IsSound workspace.new }
-    ensures ok { OnOk result (state_of workspace.new ≡ with_function definition (state_of workspace.old)) }
-    ensures err { OnErr result (workspace.new ≡ workspace.old) }
-{
-    let name = definition.header().name;
-    let function = DefinedFunction::new(workspace.alloc, definition)?;
-    workspace.names.function(&name, function)?;
-    Ok(())
-}
-
-/// The function that a binding is, if it is one.
-fn function_in(binding: Option<&Binding>) -> Option<&Definition>
-    ensures { option_copied result ≡ function_in (option_copied binding.entry) }
-{
-    match binding {
-        Some(Binding::Function(function)) => Some(function.definition()),
-        _ => None,
-    }
-}
-
-/// Whether a binding is a variable.
-fn is_variable(binding: Option<&Binding>) -> bool
-    ensures { result ≡ is_variable (option_copied binding.entry) }
-{
-    match binding {
-        Some(Binding::Value(_)) => true,
-        _ => false,
-    }
 }
 
 /// Begins the statement of a typed text on an idle machine, or reports its fault. After an error
@@ -373,6 +341,35 @@ impl Machine {
     {
         define(&mut self.workspace, definition)?;
         Ok(())
+    }
+
+    /// The global names, ascending, and whether each is that of a function.
+    pub fn globals(&self) -> Result<Vec<(Name, bool)>, AllocError>
+        ensures { IfOk result (λ names. names.items ≡ globals self.now) }
+    {
+        self.workspace.names.globals()
+    }
+
+    /// Erases the global objects of these names; a name of none is passed over. Calls that stand go
+    /// on with their own definitions. It takes no memory.
+    pub fn erase(&mut self, names: &[Name])
+        ensures { self.new ≡ erased names.now self.old }
+    {
+        erase(&mut self.workspace, names);
+    }
+
+    /// Makes it a clear workspace, with the output that is written. It takes no memory.
+    pub fn clear(&mut self)
+        ensures { self.new ≡ cleared self.old }
+    {
+        clear(&mut self.workspace);
+    }
+
+    /// The standing calls, newest first, as a state indicator shows them.
+    pub fn levels(&self) -> Result<Vec<Level>, AllocError>
+        ensures { IfOk result (λ found. found.items ≡ levels self.now.contexts) }
+    {
+        self.workspace.contexts.levels(self.workspace.alloc)
     }
 
     /// The translations of the lines that began last. They change no answer.

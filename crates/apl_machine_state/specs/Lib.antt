@@ -7,4 +7,5 @@ pub mod Reports
 pub mod Calls
 pub mod Changes
 pub mod State
+pub mod Objects
 pub mod Beginning

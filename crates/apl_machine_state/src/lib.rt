@@ -2,10 +2,12 @@
 //! its definitions use.
 #![tactic(auto)]
 
+mod level;
 mod operand;
 mod output;
 #[cfg(test)]
 mod tests;
 
+pub use level::Level;
 pub use operand::{Operand, Slots};
 pub use output::{OutLine, Progress};

@@ -10,3 +10,4 @@ pub mod GlobalSlots
 pub mod GlobalAnswers
 pub mod Taking
 pub mod LocalAnswers
+pub mod GlobalKinds

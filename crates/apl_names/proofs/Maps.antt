@@ -160,7 +160,7 @@ either (k ∷ ks) js q = by (bytes_eq k q) (either ks js q)
     by true h = refl
     by false h = h
 
-neither : (c d : Bool) → (c || d) ≡ false → (c ≡ false) × (d ≡ false)
+pub neither : (c d : Bool) → (c || d) ≡ false → (c ≡ false) × (d ≡ false)
 neither true d h = absurd (true≢false h)
 neither false d h = (refl, h)
 

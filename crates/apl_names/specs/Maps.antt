@@ -1,5 +1,5 @@
 -- The names in force: maps from names to what they stand for, the newest first and the global one last.
-use Rattle.std.specs.Prelude.{ℕ, List, [], ◌∷◌, Option, Some, None, is_some, if◌then◌else◌}
+use Rattle.std.specs.Prelude.{ℕ, List, [], ◌∷◌, map, Bool, true, false, Option, Some, None, is_some, if◌then◌else◌}
 use Rattle.std.specs.Option.{option_or}
 use Rattle.std.specs.declared.cmp.Ordering.{Ordering}
 use Rattle.std.specs.Ordering.{nat_cmp}
@@ -92,3 +92,17 @@ last_map (m ∷ k ∷ ms) = last_map (k ∷ ms)
 abbrev pub first_map : List Map → Map
 first_map [] = []
 first_map (m ∷ ms) = m
+
+-- the function that a binding is
+abbrev pub function_in : Option Binding → Option defn.Definition
+function_in (Some (Function d)) = Some d
+function_in binding = None
+
+-- the binding is a function
+abbrev pub is_function : Binding → Bool
+is_function (Function d) = true
+is_function binding = false
+
+-- the names that a map has, ascending, and whether each is that of a function
+abbrev pub kinds_in : Map → List (Text × Bool)
+kinds_in m = map (λ e. (e.0, is_function e.1)) m

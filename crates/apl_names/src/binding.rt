@@ -1,6 +1,6 @@
 //! What a name stands for.
 ghost use Rattle.std.specs.Prelude.{◌≡◌, option_copied, Some};
-ghost use Rattle.apl_names.specs.Maps.{value_in, class_in};
+ghost use Rattle.apl_names.specs.Maps.{value_in, class_in, is_function};
 
 use crate::function::DefinedFunction;
 use apl_arrays::Array;
@@ -54,5 +54,12 @@ impl Binding {
             Binding::Label(_) => Class::Variable,
             Binding::Value(_) => Class::Variable,
         }
+    }
+
+    /// Whether it is a function.
+    pub(crate) fn is_function(&self) -> bool
+        ensures { result ≡ is_function self.now }
+    {
+        matches!(self, Binding::Function(_))
     }
 }

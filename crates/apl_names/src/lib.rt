@@ -3,6 +3,7 @@
 
 mod binding;
 mod function;
+mod global_scope;
 mod names;
 mod slots;
 #[cfg(test)]

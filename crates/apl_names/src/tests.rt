@@ -177,3 +177,57 @@ fn shared_functions(rt: HostRuntime) -> Result<(), Fail> {
     assert_eq!(rt; shared.definition().len(), 2);
     Ok(())
 }
+
+#[test]
+fn globals_ascend(rt: HostRuntime) -> Result<(), Fail> {
+    let alloc = rt.alloc();
+    let [x, y, z] = three_names().ok_or("no name")?;
+    let niladic = defined(alloc, &["F"])?;
+    let mut names = Names::new(alloc);
+    assert!(rt; names.globals()?.is_empty());
+    assign(&mut names, alloc, &z, 3)?;
+    assign(&mut names, alloc, &x, 1)?;
+    let mut locals = Vec::new(alloc);
+    locals.push((x, Binding::Function(niladic.share()?)))?;
+    locals.push((y, Binding::Label(4)))?;
+    names.enter(locals)?;
+    assert_eq!(rt;
+        names.globals()?.as_slice(),
+        [(x, false), (z, false)].as_slice()
+    );
+    names.function(&y, niladic)?;
+    assert_eq!(rt;
+        names.globals()?.as_slice(),
+        [(x, false), (y, true), (z, false)].as_slice()
+    );
+    names.erase(&z);
+    assert_eq!(rt;
+        names.globals()?.as_slice(),
+        [(x, false), (y, true)].as_slice()
+    );
+    assert_eq!(rt; names.depth(), 2);
+    names.leave();
+    names.erase(&x);
+    assert_eq!(rt; names.globals()?.as_slice(), [(y, true)].as_slice());
+    Ok(())
+}
+
+#[test]
+fn cleared_under_a_scope(rt: HostRuntime) -> Result<(), Fail> {
+    let alloc = rt.alloc();
+    let [x, y, _] = three_names().ok_or("no name")?;
+    let mut names = Names::new(alloc);
+    assign(&mut names, alloc, &x, 1)?;
+    let mut locals = Vec::new(alloc);
+    locals.push((x, Binding::Label(2)))?;
+    locals.push((y, Binding::Label(3)))?;
+    names.enter(locals)?;
+    names.clear();
+    assert_eq!(rt; names.depth(), 1);
+    assert!(rt; names.binding(&x).is_none());
+    assert!(rt; names.binding(&y).is_none());
+    assert!(rt; names.globals()?.is_empty());
+    assign(&mut names, alloc, &x, 4)?;
+    assert_eq!(rt; number(&names, &x), Some(4));
+    Ok(())
+}

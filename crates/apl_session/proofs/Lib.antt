@@ -5,3 +5,5 @@ pub mod Writing
 pub mod Reading
 pub mod Transcripts
 pub mod Reached
+pub mod Blanks
+pub mod Obeyed

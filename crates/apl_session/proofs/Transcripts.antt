@@ -19,10 +19,15 @@ use Rattle.apl_machine_state.specs.Calls.{begun_line, returned}
 use Rattle.apl_machine_state.specs.Reports.{said}
 use Rattle.apl_machine_state.specs.Changes.{Change, Rests, Moves, Arrives, change}
 use Rattle.apl_machine_state.specs.State.{State, is_idle, step, steps, applied, arrived, with_lines, interrupted, definition_of, is_global_variable, with_function}
+use Rattle.apl_machine_state.specs.Objects.{erased, without_global}
 use Rattle.apl_machine_state.specs.Beginning.{begun, begun_by, started, colon_of}
 use Rattle.apl_session.specs.Events.{Event, Line, Steps, Interrupt, after, after_event, typed_as, typed_in, typed_behind, first_mark}
+use Rattle.apl_session.specs.declared.commands.Command.{Command}
+use Rattle.apl_session.specs.declared.commands.Command.TheVariants.{StateIndicator, Functions, Variables, Erase, Clear}
+use Rattle.apl_session.specs.Commands.{before_blank, from_blank, words_of, command_of, names_in, erasing, obeyed, ordered, commanded}
 use Rattle.apl_session.specs.Defining.{refused, closed, opened, behind_mark, shown_name, shown, opened_by, shown_or_opened, typed_behind_del, del, kept, defined_by, added}
-use Rattle.apl_faults.specs.declared.fault.Fault.TheVariants.{Defn, Character, Command}
+use Rattle.apl_faults.specs.declared.fault.Fault.{Fault}
+use Rattle.apl_faults.specs.declared.fault.Fault.TheVariants.{Defn, Character, Command as CommandFault}
 use Rattle.apl_faults.specs.Report.{name_of}
 use Rattle.apl_session.specs.Transcript.{written, events_of, line_events, after_lines, transcript_of, silent}
 use Rattle.apl_session.proofs.Events.{after-append}
@@ -92,14 +97,48 @@ added-behind front s lines line =
     (defined_by (closed (behind front s)) (defined_of lines)) (opened (kept lines line) (behind front s))
     (defined_by-behind front (closed s) (defined_of lines)) refl
 
+refused-behind : (front : List OutLine) (s : State) (fault : Fault) → refused (behind front s) fault ≡ behind front (refused s fault)
+refused-behind front s fault = lines-behind front s (name_of fault ∷ [])
+
+erased-behind : (front : List OutLine) (names : List Text) (s : State) → erased names (behind front s) ≡ behind front (erased names s)
+erased-behind front [] s = refl
+erased-behind front (name ∷ names) s = erased-behind front names (without_global name s)
+
+erasing-behind : (front : List OutLine) (names : Option (List Text)) (s : State) → erasing (behind front s) names ≡ behind front (erasing s names)
+erasing-behind front None s = refused-behind front s CommandFault
+erasing-behind front (Some []) s = refused-behind front s CommandFault
+erasing-behind front (Some (name ∷ names)) s = erased-behind front (name ∷ names) s
+
+obeyed-behind : (front : List OutLine) (c : Command) (s : State) → obeyed (behind front s) c ≡ behind front (obeyed s c)
+obeyed-behind front StateIndicator s = lines-behind front s _
+obeyed-behind front Functions s = lines-behind front s _
+obeyed-behind front Variables s = lines-behind front s _
+obeyed-behind front Erase s = refused-behind front s CommandFault
+obeyed-behind front Clear s = refl
+
+ordered-behind : (front : List OutLine) (c : Option Command) (words : List Text) (s : State) → ordered (behind front s) c words ≡ behind front (ordered s c words)
+ordered-behind front None words s = refused-behind front s CommandFault
+ordered-behind front (Some Erase) words s = erasing-behind front (names_in words) s
+ordered-behind front (Some StateIndicator) [] s = obeyed-behind front StateIndicator s
+ordered-behind front (Some StateIndicator) (word ∷ words) s = refused-behind front s CommandFault
+ordered-behind front (Some Functions) [] s = obeyed-behind front Functions s
+ordered-behind front (Some Functions) (word ∷ words) s = refused-behind front s CommandFault
+ordered-behind front (Some Variables) [] s = obeyed-behind front Variables s
+ordered-behind front (Some Variables) (word ∷ words) s = refused-behind front s CommandFault
+ordered-behind front (Some Clear) [] s = obeyed-behind front Clear s
+ordered-behind front (Some Clear) (word ∷ words) s = refused-behind front s CommandFault
+
+commanded-behind : (front : List OutLine) (text : Text) (s : State) → commanded (behind front s) text ≡ behind front (commanded s text)
+commanded-behind front text s = ordered-behind front (command_of (before_blank text)) (words_of (from_blank text)) s
+
 typed_behind-behind : (front : List OutLine) (s : State) (text : Text) (mark : Option ℕ) → typed_behind (behind front s) text mark ≡ behind front (typed_behind s text mark)
 typed_behind-behind front s text None = begun_by-behind front s text (tokens_of text)
 typed_behind-behind front s text (Some mark) =
     let rest : Text = behind_mark text in
     let statement : State = begun s text in
-    choose-behind front (mark == 41) (refused s Command) (if mark == 0x2207 then typed_behind_del s rest else statement)
-    (refused (behind front s) Command) (if mark == 0x2207 then typed_behind_del (behind front s) rest else begun (behind front s) text)
-    (lines-behind front s (name_of Command ∷ []))
+    choose-behind front (mark == 41) (commanded s rest) (if mark == 0x2207 then typed_behind_del s rest else statement)
+    (commanded (behind front s) rest) (if mark == 0x2207 then typed_behind_del (behind front s) rest else begun (behind front s) text)
+    (commanded-behind front rest s)
     (choose-behind front (mark == 0x2207) (typed_behind_del s rest) statement (typed_behind_del (behind front s) rest) (begun (behind front s) text)
     (shown_or_opened-behind front s rest (shown_name rest)) (begun_by-behind front s text (tokens_of text)))
 

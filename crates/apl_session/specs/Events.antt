@@ -1,21 +1,22 @@
 -- What typed lines, steps and interrupts make of a state.
 use Rattle.std.specs.Prelude.{◌≡◌, ℕ, ◌<◌, ◌==◌, not, List, [], ◌∷◌, find, Option, Some, None, if◌then◌else◌}
 use Rattle.apl_charset.specs.Decoding.{decoded}
-use Rattle.apl_faults.specs.declared.fault.Fault.TheVariants.{Character, Command}
+use Rattle.apl_faults.specs.declared.fault.Fault.TheVariants.{Character}
 use Rattle.apl_defn.specs.Definitions.{Text}
 use Rattle.apl_defn.specs.Blanks.{trimmed}
 use Rattle.apl_machine_state.specs.State.{State, is_idle, steps, interrupt}
 use Rattle.apl_machine_state.specs.Beginning.{begun}
 use Rattle.apl_session.specs.Defining.{refused, behind_mark, typed_behind_del, added}
+use Rattle.apl_session.specs.Commands.{commanded}
 
 -- the first character of a text that is no blank
 abbrev pub first_mark : Text → Option ℕ
 first_mark text = find (λ c. not (c == 32)) text
 
--- A text with this first mark is typed outside a definition: ) begins a command, and none is known; ∇ shows a function or opens a definition; every other text is a statement.
+-- A text with this first mark is typed outside a definition: ) begins a command; ∇ shows a function or opens a definition; every other text is a statement.
 abbrev pub typed_behind : State → Text → Option ℕ → State
 typed_behind s text None = begun s text
-typed_behind s text (Some mark) = if mark == 41 then refused s Command else (if mark == 0x2207 then typed_behind_del s (behind_mark text) else begun s text)
+typed_behind s text (Some mark) = if mark == 41 then commanded s (behind_mark text) else (if mark == 0x2207 then typed_behind_del s (behind_mark text) else begun s text)
 
 -- a text is typed, where these are the lines of the open definition, if one is open
 abbrev pub typed_in : State → Option (List Text) → Text → State

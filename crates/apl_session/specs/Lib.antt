@@ -1,4 +1,5 @@
 pub mod Defining
+pub mod Commands
 pub mod Events
 pub mod Transcript
 pub mod Views

@@ -1,7 +1,8 @@
-//! Sessions with a machine: lines of bytes that are typed, definitions of functions among them,
-//! steps, interrupts, and runs over whole inputs.
+//! Sessions with a machine: lines of bytes that are typed, commands and definitions of functions
+//! among them, steps, interrupts, and runs over whole inputs.
 #![tactic(auto)]
 
+mod commands;
 mod definition;
 mod devices;
 mod lines;
@@ -11,6 +12,7 @@ mod streams;
 mod tape;
 #[cfg(test)]
 mod tests;
+mod words;
 
 pub use devices::{Failed, Sink, Source};
 pub use runs::{RunError, run};

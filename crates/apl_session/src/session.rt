@@ -1,10 +1,12 @@
 // A machine that is typed to.
 ghost use Rattle.std.specs.Prelude.{◌≡◌, ◌↔◌, [], ◌∷◌, ℕ, ◌<◌, take, slice_get, not, ◌==◌, find, true, Some, None, IfErr, IfOk, OnOk, OnErr, IsErrOf, IsFalse};
 ghost use Rattle.apl_machine_state.specs.State.{is_idle, steps, steps_progress, interrupt};
+ghost use Rattle.apl_session.specs.Commands.{commanded};
 ghost use Rattle.apl_session.specs.Defining.{refused, closed, typed_behind_del};
 ghost use Rattle.apl_session.specs.Events as model;
 ghost use Rattle.apl_session.specs.Views.{event as event_view, event_list};
 
+use crate::commands::obey;
 use crate::definition::{OpenDefinition, behind_mark, close, is_close, refuse, show_or_open};
 use apl_charset::{Ch, CharFault, decode_line};
 use apl_defn::trimmed;
@@ -184,6 +186,16 @@ impl Session {
         Ok(())
     }
 
+    /// Obeys the command behind `)`.
+    #[tactic(auto, using(crate::proofs::Obeyed::as_commanded))]
+    fn feed_command(&mut self, text: &[Ch]) -> Result<(), AllocError>
+        requires { self.old.definition ≡ None }
+        ensures ok { OnOk result (self.new ≡ commanded self.old text.now) }
+        ensures err { OnErr result (self.new ≡ self.old) }
+    {
+        obey(self.alloc, &mut self.machine, text)
+    }
+
     /// Types a text on an idle machine outside a definition.
     fn feed_outside(&mut self, text: &[Ch]) -> Result<(), FeedError>
         requires { self.old.definition ≡ None }
@@ -192,7 +204,7 @@ impl Session {
         ensures err { OnErr result (self.new ≡ self.old) }
     {
         match first_mark(text).map(|c| c.code()) {
-            Some(')') => Ok(self.refuse(Fault::Command)?),
+            Some(')') => Ok(self.feed_command(behind_mark(text))?),
             Some('∇') => Ok(self.feed_del(behind_mark(text))?),
             _ => match self.machine.begin(text) {
                 Ok(()) => Ok(()),

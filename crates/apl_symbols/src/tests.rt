@@ -28,6 +28,25 @@ fn names(rt: HostRuntime) -> Result<(), Fail> {
 }
 
 #[test]
+fn names_ascend(rt: HostRuntime) -> Result<(), Fail> {
+    let ascending = ["", "A", "A1", "AB", "B", "a", "⎕IO"];
+    for pair in ascending.windows(2) {
+        let first = decode_line(rt.alloc(), pair[0].as_bytes())?;
+        let second = decode_line(rt.alloc(), pair[1].as_bytes())?;
+        let (Some(first), Some(second)) = (
+            Name::new(first.as_slice()),
+            Name::new(second.as_slice()),
+        ) else {
+            assert!(rt; false, "{}", pair[0]);
+            continue;
+        };
+        assert!(rt; first < second, "{}", pair[0]);
+        assert!(rt; first != second, "{}", pair[0]);
+    }
+    Ok(())
+}
+
+#[test]
 fn symbols(rt: HostRuntime) {
     symbols_by_glyph();
     let rows = [

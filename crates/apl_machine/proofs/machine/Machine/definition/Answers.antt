@@ -1,6 +1,6 @@
 use Rattle.std.proofs.Common.{◌≡◌, List, refl, sym, ap, ◌∙◌, subst}
 use Rattle.apl_names.specs.Maps.{last_map, said}
-use Rattle.apl_machine_state.specs.State.{function_in}
+use Rattle.apl_names.specs.Maps.{function_in}
 use Rattle.apl_machine.proofs.Readers.{global_reads}
 use Rattle.apl_machine.proofs.machine.Machine.definition.Goals as goal
 

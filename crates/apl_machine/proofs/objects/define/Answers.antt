@@ -3,7 +3,7 @@ use Rattle.apl_defn.specs.Definitions.{Header}
 use Rattle.apl_machine_state.specs.State.{with_function}
 use Rattle.apl_machine.specs.Spaces.{Space, IsSound, state_of}
 use Rattle.apl_machine.proofs.Parts.{define_sound, define_is}
-use Rattle.apl_machine.proofs.machine.define.Goals as goal
+use Rattle.apl_machine.proofs.objects.define.Goals as goal
 
 pub returns-clause-sound : goal.returns-clause-sound
 returns-clause-sound c =

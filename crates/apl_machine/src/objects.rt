@@ -1,0 +1,77 @@
+//! The global objects of a workspace.
+ghost use Rattle.std.specs.Prelude.{◌≡◌, OnErr, OnOk, option_copied};
+ghost use Rattle.apl_machine_state.specs.Objects.{cleared, erased, without_global};
+ghost use Rattle.apl_machine_state.specs.State.{is_variable, with_function};
+ghost use Rattle.apl_names.specs.Maps.{function_in};
+ghost use Rattle.apl_machine.specs.Spaces.{IsSound, state_of};
+
+use crate::workspace::Workspace;
+use apl_defn::Definition;
+use apl_names::{Binding, DefinedFunction};
+use apl_symbols::Name;
+use std::alloc::AllocError;
+
+/// Defines a function, in the place of what its name stood for globally. After an error nothing has
+/// changed.
+pub(crate) fn define(workspace: &mut Workspace, definition: Definition) -> Result<(), AllocError>
+    requires sound { IsSound workspace.old }
+    ensures sound { IsSound workspace.new }
+    ensures ok { OnOk result (state_of workspace.new ≡ with_function definition (state_of workspace.old)) }
+    ensures err { OnErr result (workspace.new ≡ workspace.old) }
+{
+    let name = definition.header().name;
+    let function = DefinedFunction::new(workspace.alloc, definition)?;
+    workspace.names.function(&name, function)?;
+    Ok(())
+}
+
+/// The function that a binding is, if it is one.
+pub(crate) fn function_in(binding: Option<&Binding>) -> Option<&Definition>
+    ensures { option_copied result ≡ function_in (option_copied binding.entry) }
+{
+    match binding {
+        Some(Binding::Function(function)) => Some(function.definition()),
+        _ => None,
+    }
+}
+
+/// Whether a binding is a variable.
+pub(crate) fn is_variable(binding: Option<&Binding>) -> bool
+    ensures { result ≡ is_variable (option_copied binding.entry) }
+{
+    match binding {
+        Some(Binding::Value(_)) => true,
+        _ => false,
+    }
+}
+
+/// Erases the global object of a name, if there is one.
+fn erase_one(workspace: &mut Workspace, name: &Name)
+    requires sound { IsSound workspace.old }
+    ensures sound { IsSound workspace.new }
+    ensures erased { state_of workspace.new ≡ without_global name.now (state_of workspace.old) }
+{
+    workspace.names.erase(name);
+}
+
+/// Erases the global objects of these names, one after another.
+pub(crate) fn erase(workspace: &mut Workspace, names: &[Name])
+    requires sound { IsSound workspace.old }
+    ensures sound { IsSound workspace.new }
+    ensures erased { state_of workspace.new ≡ erased names.now (state_of workspace.old) }
+{
+    for name in names {
+        erase_one(workspace, name);
+    }
+}
+
+/// Makes it a clear workspace, with the output that is written.
+pub(crate) fn clear(workspace: &mut Workspace)
+    requires sound { IsSound workspace.old }
+    ensures sound { IsSound workspace.new }
+    ensures cleared { state_of workspace.new ≡ cleared (state_of workspace.old) }
+{
+    workspace.names.clear();
+    workspace.io = 1;
+    workspace.contexts.clear();
+}

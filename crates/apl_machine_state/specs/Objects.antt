@@ -1,0 +1,34 @@
+-- What commands ask of a state and make of it: its global objects and its standing calls.
+use Rattle.std.specs.Prelude.{Bool, List, [], ◌∷◌}
+use Rattle.apl_defn.specs.Definitions.{Text}
+use Rattle.apl_names.specs.Maps.{kinds_in, without_entry}
+use Rattle.apl_machine_state.specs.declared.level.Level.{Level}
+use Rattle.apl_machine_state.specs.Vectors.{without_vector}
+use Rattle.apl_machine_state.specs.Environment.{Context, Statement, Call, is_suspended}
+use Rattle.apl_machine_state.specs.State.{State, clear}
+
+-- the standing calls, newest first, as a state indicator shows them
+abbrev pub levels : List Context → List Level
+levels [] = []
+levels (Statement text rest ∷ below) = levels below
+levels (Call d n locals rest ∷ below) = record { name = d.header.name; line = n; suspended = is_suspended rest } ∷ levels below
+
+-- the global names, ascending, and whether each is that of a function
+abbrev pub globals : State → List (Text × Bool)
+globals s = kinds_in s.world.globals
+
+-- The name stands for nothing globally. The vectors of a function go with it; standing calls go on with their own definitions.
+abbrev pub without_global : Text → State → State
+without_global name s = record s {
+  world = record s.world { globals = without_entry name s.world.globals; traces = without_vector name s.world.traces };
+  stops = without_vector name s.stops;
+}
+
+-- the global objects of these names are erased; a name of none is passed over
+abbrev pub erased : List Text → State → State
+erased [] s = s
+erased (name ∷ names) s = erased names (without_global name s)
+
+-- a clear workspace, with the output that is written
+abbrev pub cleared : State → State
+cleared s = record clear { output = s.output }
