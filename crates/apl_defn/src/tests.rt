@@ -249,7 +249,11 @@ fn names_as_texts(rt: HostRuntime) -> Result<(), Fail> {
         ("ABCDEFGHIJKLMNOPQRSTUVWXYZABCDEFG", false),
     ] {
         let text = text(rt.alloc(), line)?;
-        let want = if is_name { Name::new(text.as_slice()) } else { None };
+        let want = if is_name {
+            Name::new(text.as_slice())
+        } else {
+            None
+        };
         assert!(rt; name_of(rt.alloc(), text.as_slice())? == want, "{line}");
     }
     Ok(())

@@ -1,6 +1,6 @@
 -- What erasing a global object makes of a machine.
-use Rattle.std.proofs.Common.{◌≡◌, ℕ, suc, true, false, List, [], ◌∷◌, drop, length, Option, Some, None, refl, sym, ap, ◌∙◌, subst, arith}
-use Rattle.std.specs.Prelude.{is_none, Bool, Result, Ok, Err, IfOk}
+use Rattle.std.proofs.Common.{◌≡◌, suc, true, false, List, [], ◌∷◌, drop, length, Option, Some, None, refl, sym, ap, ◌∙◌, subst, arith}
+use Rattle.std.specs.Prelude.{is_none, Bool, Result, IfOk}
 use Rattle.std.specs.Global.{Vec}
 use Rattle.std.specs.declared.alloc.AllocError.{AllocError}
 use Rattle.std.specs.Option.{option_map}
@@ -11,12 +11,14 @@ use Rattle.apl_machine_state.specs.declared.level.Level.{Level}
 use Rattle.apl_frames.specs.Flat.{Flat, flat_rest}
 use Rattle.apl_contexts.specs.declared.context.Context.{Context}
 use Rattle.apl_contexts.specs.declared.context.Context.TheVariants.{Statement, Call}
-use Rattle.apl_contexts.specs.Contexts.{calls, dressed, levels_in, state_at, under}
+use Rattle.apl_contexts.specs.Contexts.{calls, dressed, levels_in, under}
 use Rattle.apl_machine.specs.Spaces.{Space, IsSound, state_of}
-use Rattle.apl_machine.proofs.Parts.{same_parts}
-use Rattle.apl_machine.proofs.Readers.{last_under}
+use Rattle.apl_vectors.specs.Vectors.{Vectors, without_vector}
+use Rattle.apl_machine.proofs.Readers.{last_under, then_ok}
 use Rattle.apl_machine_state.specs.State.{State}
 use Rattle.apl_contexts.specs.Callers.{Caller}
+use Rattle.apl_machine.proofs.Parts.{parts, same_parts, without_vectors}
+use Rattle.apl_machine.specs.Worlds.{Settings, settings, state_at}
 
 length_erased : (n : Text) (ms : List Map) → length (without_global n ms) ≡ length ms
 length_erased n [] = refl
@@ -39,16 +41,18 @@ under_erased n [] (Call c ∷ cs) e = cc
 under_erased n (m ∷ []) (Call c ∷ cs) e = cc
 under_erased n (m ∷ k ∷ ms) (Call c ∷ cs) e = under_erased n (k ∷ ms) cs (omega arith)
 
-pub erase_sound : (s : Space) (ns : List Map) (n : Text) → IsSound s → ns ≡ without_global n s.maps → IsSound (record s { maps = ns })
-erase_sound s ns n h e = subst (λ (x : List Map). IsSound (record s { maps = x })) (sym e) (record {
+pub erase_sound : (s : Space) (ns : List Map) (stops traces : Vectors) (n : Text) → IsSound s → ns ≡ without_global n s.maps → IsSound (record s { maps = ns; kept = settings stops traces s.kept.origin })
+erase_sound s ns stops traces n h e = subst (λ (x : List Map). IsSound (record s { maps = x; kept = settings stops traces s.kept.origin })) (sym e) (record {
   contexts = record { stacked = h.contexts.stacked; as_many = length_erased n s.maps ∙ h.contexts.as_many };
   origin = h.origin;
 })
 
-pub erase_is : (s : Space) (ns : List Map) (n : Text) → IsSound s → ns ≡ without_global n s.maps → state_of (record s { maps = ns }) ≡ objects.without_global n (state_of s)
-erase_is s ns n h e =
-    ap (λ (x : List Map). state_at x s.io s.contexts s.output) e
-    ∙ same_parts _ _ s.io _ _ s.output s.output (under_erased n s.maps s.contexts h.contexts.as_many) (dressed_erased n s.maps s.contexts h.contexts.as_many) refl
+pub erase_is : (s : Space) (ns : List Map) (stops traces : Vectors) (n : Text) → IsSound s → ns ≡ without_global n s.maps → stops ≡ without_vector n s.kept.stops → traces ≡ without_vector n s.kept.traces → state_of (record s { maps = ns; kept = settings stops traces s.kept.origin }) ≡ objects.without_global n (state_of s)
+erase_is s ns stops traces n h e a b =
+    let kept = settings stops traces s.kept.origin in
+    ap (λ (x : List Map). state_at x kept s.contexts s.output) e
+    ∙ same_parts _ _ kept _ _ s.output s.output (under_erased n s.maps s.contexts h.contexts.as_many) (dressed_erased n s.maps s.contexts h.contexts.as_many) refl
+    ∙ ap (λ (k : Settings). parts (without_entry n (under s.maps s.contexts)) k (dressed s.maps s.contexts) s.output) (without_vectors s.kept stops traces n n refl a b)
 
 -- a call's level
 level_of : (c : Caller) (ms : List Map) (cs : List Context) (r : Option Flat) → objects.levels (dressed (drop 1 ms) cs) ≡ levels_in cs → objects.levels (model.Call c.definition c.at (first_map ms) (option_map flat_rest r) ∷ dressed (drop 1 ms) cs) ≡ record { name = c.definition.header.name; line = c.at; suspended = is_none r } ∷ levels_in cs
@@ -60,10 +64,6 @@ levels_are : (ms : List Map) (cs : List Context) → objects.levels (dressed ms 
 levels_are ms [] = refl
 levels_are ms (Statement s ∷ cs) = levels_are ms cs
 levels_are ms (Call c ∷ cs) = level_of c ms cs c.rest (levels_are (drop 1 ms) cs)
-
-then_ok : {A E : Type 0} {P Q : A → Type 0} (r : Result A E) → ((x : A) → P x → Q x) → IfOk r P → IfOk r Q
-then_ok (Ok x) f h = f x h
-then_ok (Err e) f h = tt
 
 pub levels_read : (s : Space) (t : State) (r : Result (Vec Level) AllocError) → state_of s ≡ t → IfOk r (λ v. v.items ≡ levels_in s.contexts) → IfOk r (λ v. v.items ≡ objects.levels t.contexts)
 levels_read s t r e h = then_ok r (λ v i. i ∙ sym (levels_are s.maps s.contexts) ∙ ap (λ (u : State). objects.levels u.contexts) e) h

@@ -1,27 +1,34 @@
 -- What the readers of a machine see of its state, and what defining and interrupting make of it.
-use Rattle.std.proofs.Common.{◌≡◌, ℕ, zero, suc, ◌≤◌, Bool, true, false, List, [], ◌∷◌, ◌++◌, drop, length, Option, Some, None, refl, sym, ap, ◌∙◌, subst, arith}
-use Rattle.std.specs.Prelude.{slice_get, is_some, IsSome, if◌then◌else◌}
+use Rattle.std.proofs.Common.{◌≡◌, ℕ, zero, suc, Bool, true, false, List, [], ◌∷◌, drop, length, Option, Some, None, refl, sym, ap, ◌∙◌, arith}
+use Rattle.std.specs.Prelude.{slice_get, is_some, IsSome, if◌then◌else◌, Result, Ok, Err, IfOk}
 use Rattle.std.specs.Option.{option_map}
 use Rattle.apl_names.specs.declared.binding.Binding.{Binding}
 use Rattle.apl_names.specs.Maps.{Map, Text, assigned, class_in, first_map, found, last_map, said, value_in, with_entry, with_global}
-use Rattle.apl_machine_state.specs.declared.output.OutLine.{OutLine}
 use Rattle.apl_machine_state.specs.Items.{Rest}
 use Rattle.apl_machine_state.specs.Environment as model
-use Rattle.apl_machine_state.specs.Environment.{class_of, environment, rest_at}
-use Rattle.apl_defn.specs.Definitions.{is_line}
+use Rattle.apl_machine_state.specs.Environment.{World, class_of, environment, rest_at}
+use Rattle.apl_defn.specs.Definitions.{Definition, is_line}
 use Rattle.apl_machine_state.specs.Calls.{begun_line}
-use Rattle.apl_machine_state.specs.Changes.{Moves, line_from, returns}
-use Rattle.apl_machine_state.specs.State.{State, applied, arrived, value_of}
-use Rattle.apl_frames.specs.Flat.{Flat, flat_rest}
+use Rattle.apl_machine_state.specs.Changes.{Arrives, Moves, line_from, returns}
+use Rattle.apl_machine_state.specs.State.{State, applied, arrived, comes_to, value_of}
+use Rattle.apl_vectors.specs.Vectors.{has_line}
+use Rattle.apl_frames.specs.Flat.{flat_rest}
 use Rattle.apl_contexts.specs.declared.context.Context.{Context}
 use Rattle.apl_contexts.specs.declared.context.Context.TheVariants.{Statement, Call}
-use Rattle.apl_contexts.specs.Contexts.{AreSound, calls, dressed, line_in, rest_in, state_at, under, world_at}
-use Rattle.apl_machine.specs.Changes.{branched}
-use Rattle.apl_machine.specs.Spaces.{Space, IsSound, state_of}
+use Rattle.apl_contexts.specs.Contexts.{calls, dressed, line_in, rest_in, under}
+use Rattle.apl_contexts.specs.declared.context.Statement.{Statement as Typed}
+use Rattle.apl_machine.specs.Changes.{branched, ended, escaped}
+use Rattle.apl_machine.specs.Spaces.{Space, IsSound, IsStatement, branched_in, state_of}
 use Rattle.apl_machine.proofs.Environments.{env_is}
+use Rattle.apl_machine.specs.Worlds.{Settings, world_at}
+
+-- what follows for a result
+pub then_ok : {A E : Type 0} {P Q : A → Type 0} (r : Result A E) → ((x : A) → P x → Q x) → IfOk r P → IfOk r Q
+then_ok (Ok x) f h = f x h
+then_ok (Err e) f h = tt
 
 env_of : (s : Space) → IsSound s → environment (state_of s).world (state_of s).contexts ≡ s.maps
-env_of s h = env_is s.maps s.io s.contexts h.contexts.as_many
+env_of s h = env_is s.maps s.kept s.contexts h.contexts.as_many
 
 pub class_reads : (s : Space) (t : State) (name : Text) → IsSound s → state_of s ≡ t → class_in (found s.maps name) ≡ class_of t.world t.contexts name
 class_reads s t name h e = ap (λ (ns : List Map). class_in (found ns name)) (sym (env_of s h)) ∙ ap (λ (u : State). class_of u.world u.contexts name) e
@@ -95,20 +102,59 @@ length_assigned (m ∷ k ∷ ms) n b = length_choice (is_some (said m n)) m k ms
     length_choice true m k ms n b h = refl
     length_choice false m k ms n b h = ap suc h
 
--- ---- a branch ends its line
+-- ---- what steps come to
 
-pub branch_ends : (s : State) (ms : List Map) (io : ℕ) (cs : List Context) (aim : Option ℕ) → IsSome (line_in cs) → true ≡ (applied s (branched (world_at ms io cs) (dressed ms cs) aim)).ended
-branch_ends s ms io [] aim h = cc
-branch_ends s ms io (Statement q ∷ []) aim h = refl
-branch_ends s ms io (Statement q ∷ Statement r ∷ cs) aim h = refl
-branch_ends s ms io (Statement q ∷ Call c ∷ cs) None h = refl
-branch_ends s ms io (Statement q ∷ Call c ∷ cs) (Some m) h = by_test (is_line c.definition m)
+-- where a call comes to a line, or returns, its line has ended
+arrived_ends : (line : Bool) (s : State) (w : World) (d : Definition) (n : ℕ) (locals : Map) (below : List model.Context) (lines : List Text) → (arrived line s w d n locals below lines true).ended ≡ true
+arrived_ends true s w d n locals below lines = by_stop (has_line d.header.name n s.stops)
   where
-    by_test : (b : Bool) → true ≡ (applied s (if b then Moves (world_at ms io (Statement q ∷ Call c ∷ cs)) (begun_line (world_at ms io (Statement q ∷ Call c ∷ cs)) c.definition m (first_map ms) (dressed (drop 1 ms) cs)) [] true else returns (world_at ms io (Statement q ∷ Call c ∷ cs)) c.definition (first_map ms) (dressed (drop 1 ms) cs) [] true)).ended
-    by_test true = refl
-    by_test false = refl
-branch_ends s ms io (Call c ∷ cs) aim h = by_test (is_line c.definition (line_from c.at aim))
+    by_stop : (stop : Bool) → (comes_to stop s w d n locals below lines true).ended ≡ true
+    by_stop true = refl
+    by_stop false = refl
+arrived_ends false s w d n locals below lines = refl
+
+-- a typed branch ends its line, and comes to no stop
+by_test : (line : Bool) (s : State) (w : World) (contexts : List model.Context) (d : Definition) (locals : Map) (below : List model.Context) → ((applied s (if line then Moves w contexts [] true else returns w d locals below [] true)).ended ≡ true) × ((applied s (if line then Moves w contexts [] true else returns w d locals below [] true)).stopped ≡ false)
+by_test true s w contexts d locals below = (refl, refl)
+by_test false s w contexts d locals below = (refl, refl)
+
+typed_ends : (s : State) (ms : List Map) (kept : Settings) (q : Typed) (cs : List Context) (aim : Option ℕ) (texts : List Text) → ((applied s (branched (world_at ms kept (Statement q ∷ cs)) (dressed ms (Statement q ∷ cs)) aim texts)).ended ≡ true) × ((applied s (branched (world_at ms kept (Statement q ∷ cs)) (dressed ms (Statement q ∷ cs)) aim texts)).stopped ≡ false)
+typed_ends s ms kept q [] aim texts = (refl, refl)
+typed_ends s ms kept q (Statement r ∷ cs) aim texts = (refl, refl)
+typed_ends s ms kept q (Call c ∷ cs) None texts = (refl, refl)
+typed_ends s ms kept q (Call c ∷ cs) (Some m) texts = by_test (is_line c.definition m) s (world_at ms kept (Statement q ∷ Call c ∷ cs)) (begun_line (world_at ms kept (Statement q ∷ Call c ∷ cs)) c.definition m (first_map ms) (dressed (drop 1 ms) cs)) c.definition (first_map ms) (dressed (drop 1 ms) cs)
+
+pub branch_ends : (s : State) (ms : List Map) (kept : Settings) (cs : List Context) (aim : Option ℕ) (texts : List Text) → IsSome (line_in cs) → (applied s (branched (world_at ms kept cs) (dressed ms cs) aim texts)).ended ≡ true
+branch_ends s ms kept [] aim texts h = cc
+branch_ends s ms kept (Statement q ∷ cs) aim texts h = (typed_ends s ms kept q cs aim texts).0
+branch_ends s ms kept (Call c ∷ cs) aim texts h = arrived_ends (is_line c.definition (line_from c.at aim)) s (world_at ms kept (Call c ∷ cs)) c.definition (line_from c.at aim) (first_map ms) (dressed (drop 1 ms) cs) texts
+
+pub branch_goes : (s : Space) (aim : Option ℕ) (texts : List Text) → IsStatement s.contexts → false ≡ (branched_in s aim texts).stopped
+branch_goes s aim texts h = by_contexts s.contexts h
   where
-    by_test : (b : Bool) → true ≡ (arrived b s (world_at ms io (Call c ∷ cs)) c.definition (line_from c.at aim) (first_map ms) (dressed (drop 1 ms) cs) [] true).ended
-    by_test true = refl
-    by_test false = refl
+    by_contexts : (cs : List Context) → IsStatement cs → false ≡ (applied (state_of s) (branched (world_at s.maps s.kept cs) (dressed s.maps cs) aim texts)).stopped
+    by_contexts [] h = absurd h
+    by_contexts (Statement q ∷ cs) h = sym (typed_ends (state_of s) s.maps s.kept q cs aim texts).1
+    by_contexts (Call c ∷ cs) h = absurd h
+
+pub end_ends : (s : State) (ms : List Map) (kept : Settings) (cs : List Context) (texts : List Text) → IsSome (line_in cs) → (applied s (ended (world_at ms kept cs) (dressed ms cs) texts)).ended ≡ true
+end_ends s ms kept [] texts h = cc
+end_ends s ms kept (Statement q ∷ cs) texts h = refl
+end_ends s ms kept (Call c ∷ cs) texts h = arrived_ends (is_line c.definition (suc c.at)) s (world_at ms kept (Call c ∷ cs)) c.definition (suc c.at) (first_map ms) (dressed (drop 1 ms) cs) texts
+
+pub escape_ends : (s : State) (ms : List Map) (kept : Settings) (cs : List Context) (texts : List Text) → IsSome (line_in cs) → ((applied s (escaped (world_at ms kept cs) (dressed ms cs) texts)).stopped ≡ false) × ((applied s (escaped (world_at ms kept cs) (dressed ms cs) texts)).ended ≡ true)
+escape_ends s ms kept [] texts h = cc
+escape_ends s ms kept (Statement q ∷ cs) texts h = (refl, refl)
+escape_ends s ms kept (Call c ∷ cs) texts h = (refl, refl)
+
+-- a call ends a line only where it stops before one
+pub call_ends : (s : State) (w : World) (d : Definition) (locals : Map) (below : List model.Context) → (applied s (Arrives w d 1 locals below [] false)).ended ≡ (applied s (Arrives w d 1 locals below [] false)).stopped
+call_ends s w d locals below = by_line (is_line d 1)
+  where
+    by_stop : (stop : Bool) → (comes_to stop s w d 1 locals below [] false).ended ≡ (comes_to stop s w d 1 locals below [] false).stopped
+    by_stop true = refl
+    by_stop false = refl
+
+    by_line : (line : Bool) → (arrived line s w d 1 locals below [] false).ended ≡ (arrived line s w d 1 locals below [] false).stopped
+    by_line true = by_stop (has_line d.header.name 1 s.stops)
+    by_line false = refl

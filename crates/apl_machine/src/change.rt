@@ -1,29 +1,39 @@
 //! What a step makes of a machine.
-ghost use Rattle.std.specs.Prelude.{◌≡◌, ◌≤◌, ◌∷◌, [], true, IfOk, IsSome, List, ℕ, length, reverse};
+ghost use Rattle.std.specs.Prelude.{◌≡◌, ◌≤◌, ◌∷◌, [], true, IfOk, IsSome, List, Some, ℕ, length, reverse};
 ghost use Rattle.apl_arrays.specs.Cells.{Numbers};
 ghost use Rattle.apl_arrays.specs.Simple.{vector};
+ghost use Rattle.apl_format.specs.Display.{display};
 ghost use Rattle.apl_names.specs.Maps.{Map};
+ghost use Rattle.apl_vectors.specs.Vectors.{Vectors};
+ghost use Rattle.apl_machine_state.specs.declared.operand.Operand.TheVariants.{Value};
 ghost use Rattle.apl_machine_state.specs.Changes.{aim, leads_nowhere, line_number};
 ghost use Rattle.apl_machine_state.specs.Reports.{fault_lines};
+ghost use Rattle.apl_machine_state.specs.Watching.{arrow, blank};
 ghost use Rattle.apl_operands.specs.Operands.{AreThere, fetched};
 ghost use Rattle.apl_frames.specs.Ends.{HoldsValue, IsColumn, has_place, is_of_value};
 ghost use Rattle.apl_contexts.specs.Contexts.{AreSound, dressed, line_in, lines_in};
 ghost use Rattle.apl_machine.specs.Changes.{IsChange};
-ghost use Rattle.apl_machine.specs.Leaving.{Faulty, IsLeaving, leaving};
+ghost use Rattle.apl_machine.specs.Leaving.{Aims, Faulty, IsLeaving, Shows, leaving};
 ghost use Rattle.apl_machine.specs.Reduced.{IsReduced};
+ghost use Rattle.apl_machine.specs.Traces.{trace_of};
+ghost use Rattle.apl_machine.specs.Worlds.{settings};
 ghost use Rattle.apl_phrases.specs.Effects.{acted, seen};
 
 use crate::reports::context_fault;
+use crate::traces::{trace, trace_value};
 use apl_arrays::{Array, Ravel};
+use apl_charset::Ch;
 use apl_code::{Action, Ending, Instr};
 use apl_contexts::{Context, Contexts};
 use apl_faults::Fault;
 use apl_format::display;
 use apl_frames::Stage;
-use apl_machine_state::{Operand, OutLine};
+use apl_machine_state::{Operand, OutLine, Watch};
 use apl_names::{DefinedFunction, Names};
 use apl_operands::{Given, Operands, last_operand, left, one_value};
 use apl_phrases::{Deed, Effect, Scene, perform, said};
+use apl_symbols::Name;
+use apl_vectors::Vectors;
 use std::alloc::{AllocError, Global};
 
 /// What the next step makes of a machine.
@@ -31,14 +41,17 @@ use std::alloc::{AllocError, Global};
 pub enum Change {
     /// A phrase gives this, with so many operands left, and does that beside.
     Goes(Given, usize, Deed),
+    /// A phrase asks the stop or trace vector of a function, which is replaced where there is a new
+    /// one, with so many operands left.
+    Asks(Watch, Name, Option<Vec<usize>>, usize),
     /// A phrase calls a function with these arguments, with so many operands left.
     Calls(DefinedFunction, Option<Array>, Option<Array>, usize),
     /// The line ends, and these lines are written.
     Ends(Vec<OutLine>),
-    /// The line branches to the line of this number, or on.
-    Branches(Option<usize>),
-    /// `→` alone drops the contexts through the nearest statement.
-    Escapes,
+    /// The line branches to the line of this number, or on, and these lines are written.
+    Branches(Option<usize>, Vec<OutLine>),
+    /// `→` alone drops the contexts through the nearest statement, and these lines are written.
+    Escapes(Vec<OutLine>),
     /// A fault abandons the line, and these lines report it.
     Fails(Vec<OutLine>),
 }
@@ -81,9 +94,85 @@ fn failing(
     column: usize,
 ) -> Result<Change, AllocError>
     requires { (1 ≤ column) × (column ≤ 501) }
-    ensures { IfOk result (λ change. (ms : List Map) (rest : Fault → List (List ℕ)) → rest fault ≡ fault_lines fault column (dressed ms (context.now ∷ [])) → IsLeaving change (Faulty fault) rest) }
+    ensures { IfOk result (λ change. (ms : List Map) (trace : List ℕ → List (List ℕ) → List (List ℕ)) (rest : Fault → List (List ℕ)) → rest fault ≡ fault_lines fault column (dressed ms (context.now ∷ [])) → IsLeaving change (Faulty fault) trace rest) }
 {
     Ok(Change::Fails(context_fault(alloc, fault, context, column)?))
+}
+
+/// The mark of a trace before where a branch goes.
+#[tactic(auto, unfolding(apl_charset::specs::Set::is_member))]
+fn arrow() -> [Ch; 2]
+    ensures { result ≡ arrow }
+{
+    [Ch::ascii(b' '), Ch::member('→')]
+}
+
+/// The line of a context ends with a value that isn't shown.
+fn hiding(
+    alloc: Global,
+    traces: &Vectors,
+    context: &Context,
+    value: &Array,
+) -> Result<Change, AllocError>
+    ensures { IfOk result (λ change. (report : Fault → List (List ℕ)) → IsLeaving change (Shows [] blank (display value.now)) (trace_of traces.now context.now) report) }
+{
+    let mark = [Ch::ascii(b' ')];
+    Ok(Change::Ends(trace_value(alloc, traces, context, &mark, value)?))
+}
+
+/// The line of a context shows a value.
+fn showing(
+    alloc: Global,
+    traces: &Vectors,
+    context: &Context,
+    value: &Array,
+) -> Result<Change, AllocError>
+    ensures { IfOk result (λ change. (report : Fault → List (List ℕ)) → IsLeaving change (Shows (display value.now) blank (display value.now)) (trace_of traces.now context.now) report) }
+{
+    let mark = [Ch::ascii(b' ')];
+    let mut lines = said(alloc, display(alloc, value)?)?;
+    lines.append(&mut trace_value(alloc, traces, context, &mark, value)?)?;
+    Ok(Change::Ends(lines))
+}
+
+/// The line of a context branches to a value, which is no character.
+fn branching(
+    alloc: Global,
+    traces: &Vectors,
+    context: &Context,
+    value: &Array,
+) -> Result<Change, AllocError>
+    ensures { IfOk result (λ change. (report : Fault → List (List ℕ)) → IsLeaving change (Aims (aim value.now.items) (display value.now)) (trace_of traces.now context.now) report) }
+{
+    let lines = trace_value(alloc, traces, context, &arrow(), value)?;
+    Ok(Change::Branches(aim(value), lines))
+}
+
+/// How a line is left with a value.
+fn leaving_with(
+    alloc: Global,
+    ending: Ending,
+    instr: &Instr,
+    value: &Array,
+    traces: &Vectors,
+    context: &Context,
+) -> Result<Change, AllocError>
+    requires value { is_of_value ending ≡ true }
+    requires placed { has_place ending ≡ true → IsColumn instr.now.at }
+    ensures { IfOk result (λ change. (ms : List Map) → IsLeaving change (leaving ending (Some (Value value.now) ∷ [])) (trace_of traces.now context.now) (λ fault. fault_lines fault instr.now.at (dressed ms (context.now ∷ [])))) }
+{
+    match ending {
+        Ending::Hidden => hiding(alloc, traces, context, value),
+        Ending::Shown => showing(alloc, traces, context, value),
+        Ending::Branch => {
+            if leads_nowhere(value) {
+                failing(alloc, Fault::Domain, context, instr.at)
+            } else {
+                branching(alloc, traces, context, value)
+            }
+        }
+        _ => unreachable!(),
+    }
 }
 
 /// How a line is left.
@@ -92,32 +181,24 @@ fn leaving(
     ending: Ending,
     instr: &Instr,
     operands: Operands<'_>,
+    traces: &Vectors,
     context: &Context,
 ) -> Result<Change, AllocError>
     requires there { AreThere (length operands.constants.now) instr.now.arguments (length operands.stack.now) }
     requires value { is_of_value ending ≡ true → HoldsValue (fetched operands.constants.now instr.now.arguments (reverse operands.stack.now)) }
     requires placed { has_place ending ≡ true → IsColumn instr.now.at }
-    ensures { IfOk result (λ change. (ms : List Map) → IsLeaving change (leaving ending (fetched operands.entry.constants.now instr.now.arguments (reverse operands.entry.stack.now))) (λ fault. fault_lines fault instr.now.at (dressed ms (context.now ∷ [])))) }
+    ensures { IfOk result (λ change. (ms : List Map) → IsLeaving change (leaving ending (fetched operands.entry.constants.now instr.now.arguments (reverse operands.entry.stack.now))) (trace_of traces.now context.now) (λ fault. fault_lines fault instr.now.at (dressed ms (context.now ∷ [])))) }
 {
     match ending {
-        Ending::Nothing | Ending::Hidden => Ok(Change::Ends(Vec::new(alloc))),
-        Ending::Escape => Ok(Change::Escapes),
-        Ending::Shown => {
-            let Some(value) = one_value(instr.arguments.as_slice(), operands) else {
-                unreachable!()
-            };
-            Ok(Change::Ends(said(alloc, display(alloc, value)?)?))
-        }
-        Ending::Branch => {
-            let Some(value) = one_value(instr.arguments.as_slice(), operands) else {
-                unreachable!()
-            };
-            if leads_nowhere(value) {
-                return failing(alloc, Fault::Domain, context, instr.at);
-            }
-            Ok(Change::Branches(aim(value)))
-        }
+        Ending::Nothing => Ok(Change::Ends(trace(alloc, traces, context, &[])?)),
+        Ending::Escape => Ok(Change::Escapes(trace(alloc, traces, context, &arrow())?)),
         Ending::Fail => failing(alloc, Fault::Syntax, context, instr.at),
+        _ => {
+            let Some(value) = one_value(instr.arguments.as_slice(), operands) else {
+                unreachable!()
+            };
+            leaving_with(alloc, ending, instr, value, traces, context)
+        }
     }
 }
 
@@ -168,6 +249,10 @@ fn reduce(
             let left = left(sources, operands.stack);
             Ok(Change::Calls(function, first, second, left))
         }
+        Effect::Asks(which, name, lines) => {
+            let left = left(sources, operands.stack);
+            Ok(Change::Asks(which, name, lines, left))
+        }
         Effect::Fails(fault) => failing(alloc, fault, context, instr.at),
     }
 }
@@ -176,13 +261,14 @@ fn reduce(
 pub fn change_of(
     alloc: Global,
     names: &Names,
+    traces: &Vectors,
     io: usize,
     contexts: &Contexts,
 ) -> Result<Change, AllocError>
     requires sound { AreSound contexts.now names.now }
     requires small { io ≤ 1 }
     requires runs { IsSome (line_in contexts.now) }
-    ensures { IfOk result (λ change. IsChange change names.now io contexts.now) }
+    ensures { IfOk result (λ change. (stops : Vectors) → IsChange change names.now (settings stops traces.now io) contexts.now) }
 {
     let Some(context) = contexts.newest() else {
         unreachable!()
@@ -191,7 +277,7 @@ pub fn change_of(
         unreachable!()
     };
     if line.stage() == Stage::Emptied {
-        return Ok(Change::Ends(Vec::new(alloc)));
+        return Ok(Change::Ends(trace(alloc, traces, context, &[])?));
     }
     let instr = line.next();
     let operands = Operands {
@@ -199,7 +285,7 @@ pub fn change_of(
         stack: line.operands(),
     };
     if let Action::End(ending) = instr.action {
-        return leaving(alloc, ending, instr, operands, context);
+        return leaving(alloc, ending, instr, operands, traces, context);
     }
     let scene = Scene {
         names,

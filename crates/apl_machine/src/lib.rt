@@ -2,11 +2,14 @@
 #![tactic(auto)]
 
 mod change;
+mod entering;
 mod locals;
 mod machine;
 mod objects;
 mod reports;
 mod returns;
+mod stepping;
+mod traces;
 mod workspace;
 
 pub use apl_frames::Frame;

@@ -1,21 +1,19 @@
 //! The machine.
-ghost use Rattle.std.specs.Prelude.{◌≡◌, ◌↔◌, [], ◌∷◌, None, Some, Ok, true, false, IfOk, IfSome, IfNone, IsSome, List, OnOk, OnErr, IsErrOf, IsFalse, option_copied};
+ghost use Rattle.std.specs.Prelude.{◌≡◌, ◌↔◌, [], ◌∷◌, None, Some, Ok, true, false, IfOk, IfSome, IfNone, OnOk, OnErr, IsErrOf, IsFalse, option_copied, option_map};
 ghost use Rattle.apl_machine_state.specs.Items.{Rest};
 ghost use Rattle.apl_machine_state.specs.Environment.{class_of, rest_at};
 ghost use Rattle.apl_machine_state.specs.Frames.{IsFrame};
-ghost use Rattle.apl_machine_state.specs.Objects.{cleared, erased, globals, levels};
+ghost use Rattle.apl_machine_state.specs.Objects.{cleared, erased, globals, levels, vectors_of};
 ghost use Rattle.apl_machine_state.specs.State.{State, clear, definition_of, interrupt, is_global_variable, is_idle, progress, step, turn, value_of, with_function, with_lines};
 ghost use Rattle.apl_machine_state.specs.Beginning.{begun, colon_of, started};
-ghost use Rattle.apl_machine_state.specs.State.{Turn};
-ghost use Rattle.apl_names.specs.Maps.{Map};
 ghost use Rattle.apl_tokens.specs.Tokens.{tokens_of};
-ghost use Rattle.apl_contexts.specs.Contexts.{dressed, line_in};
-ghost use Rattle.apl_machine.specs.Changes.{IsChange};
+ghost use Rattle.apl_contexts.specs.Contexts.{line_in};
 ghost use Rattle.apl_machine.specs.Spaces.{IsSound, state_of};
 
-use crate::change::{Change, change_of};
+use crate::change::change_of;
 use crate::objects::{clear, define, erase, function_in, is_variable};
-use crate::reports::{context_fault, token_fault, typed_fault};
+use crate::reports::{token_fault, typed_fault};
+use crate::stepping::{abandon, apply, progress_of};
 use crate::workspace::Workspace;
 use apl_arrays::Array;
 use apl_charset::{Ch, Text};
@@ -29,6 +27,7 @@ use apl_phrases::said;
 use apl_symbols::{Class, Name, Symbol};
 use apl_tokens::{Kind, Token, tokens};
 use apl_translate::Cache;
+use apl_vectors::Vectors;
 use std::alloc::{AllocError, Global};
 use std::marker::Model;
 use std::mem;
@@ -90,73 +89,6 @@ fn colon_of(tokens: &[Token]) -> Option<usize>
     }
 }
 
-/// Where a machine stands after a step, which may have ended a line.
-fn progress_of(contexts: &Contexts, ended: bool) -> Progress
-    ensures { (t : Turn) → t.stopped ≡ false → t.ended ≡ ended → (ms : List Map) → t.state.contexts ≡ dressed ms contexts.now → result ≡ progress t }
-{
-    if contexts.line().is_none() {
-        Progress::Idle
-    } else if ended {
-        Progress::LineEnd
-    } else {
-        Progress::Running
-    }
-}
-
-/// Makes a step, and tells whether it ended a line or branched. After an error nothing has changed.
-fn apply(workspace: &mut Workspace, change: Change) -> Result<bool, AllocError>
-    requires sound { IsSound workspace.old }
-    requires runs { IsSome (line_in workspace.old.contexts) }
-    requires change { IsChange change workspace.old.maps workspace.old.io workspace.old.contexts }
-    ensures sound { IsSound workspace.new }
-    ensures ok { OnOk result (state_of workspace.new ≡ step (state_of workspace.old)) }
-    ensures ended { IfOk result (λ ended. ended ≡ (turn (state_of workspace.old)).ended) }
-    ensures err { OnErr result (workspace.new ≡ workspace.old) }
-{
-    match change {
-        Change::Goes(given, left, deed) => {
-            workspace.go_on(given, left, deed)?;
-            Ok(false)
-        }
-        Change::Calls(function, first, second, left) => {
-            workspace.enter(function, (first, second), left)?;
-            Ok(false)
-        }
-        Change::Ends(lines) => {
-            workspace.end_line(lines)?;
-            Ok(true)
-        }
-        Change::Branches(aim) => {
-            workspace.branch(aim)?;
-            Ok(true)
-        }
-        Change::Escapes => {
-            workspace.escape();
-            Ok(true)
-        }
-        Change::Fails(report) => {
-            workspace.fail(report)?;
-            Ok(false)
-        }
-    }
-}
-
-/// Abandons what runs, with a report. After an error nothing has changed.
-fn abandon(workspace: &mut Workspace) -> Result<(), AllocError>
-    requires sound { IsSound workspace.old }
-    requires runs { IsSome (line_in workspace.old.contexts) }
-    ensures sound { IsSound workspace.new }
-    ensures ok { OnOk result (state_of workspace.new ≡ interrupt (state_of workspace.old)) }
-    ensures err { OnErr result (workspace.new ≡ workspace.old) }
-{
-    let Some(newest) = workspace.contexts.newest() else {
-        unreachable!()
-    };
-    let report = context_fault(workspace.alloc, Fault::Interrupt, newest, 1)?;
-    workspace.fail(report)?;
-    Ok(())
-}
-
 /// Begins the statement of a typed text on an idle machine, or reports its fault. After an error
 /// nothing has changed.
 fn begin(workspace: &mut Workspace, text: &[Ch]) -> Result<(), AllocError>
@@ -213,6 +145,8 @@ impl Machine {
             workspace: Workspace {
                 alloc,
                 names: Names::new(alloc),
+                stops: Vectors::new(alloc),
+                traces: Vectors::new(alloc),
                 io: 1,
                 cache: Cache::new(alloc),
                 contexts: Contexts::new(alloc),
@@ -253,9 +187,15 @@ impl Machine {
             return Ok(Progress::Idle);
         }
         let space = &self.workspace;
-        let change = change_of(space.alloc, &space.names, space.io, &space.contexts)?;
-        let ended = apply(&mut self.workspace, change)?;
-        Ok(progress_of(&self.workspace.contexts, ended))
+        let change = change_of(
+            space.alloc,
+            &space.names,
+            &space.traces,
+            space.io,
+            &space.contexts,
+        )?;
+        let pace = apply(&mut self.workspace, change)?;
+        Ok(progress_of(&self.workspace.contexts, pace))
     }
 
     /// Abandons what runs, with a report; an idle machine stays as it is. After an error the
@@ -323,6 +263,19 @@ impl Machine {
         function_in(self.workspace.names.global(name))
     }
 
+    /// The stop and trace vectors of a global function. There are none where the name is not that of
+    /// a global function.
+    pub fn vectors(&self, name: &Name) -> Option<(&[usize], &[usize])>
+        ensures { option_map (λ v. (v.0.now, v.1.now)) result ≡ vectors_of self.now name.now }
+    {
+        if self.definition(name).is_none() {
+            return None;
+        }
+        let stops = self.workspace.stops.get(name);
+        let traces = self.workspace.traces.get(name);
+        Some((stops, traces))
+    }
+
     /// Whether a name is that of a global variable.
     pub fn is_variable(&self, name: &Name) -> bool
         ensures { result ≡ is_global_variable self.now name.now }
@@ -330,9 +283,10 @@ impl Machine {
         is_variable(self.workspace.names.global(name))
     }
 
-    /// Defines a function, in the place of what its name stood for globally. The machine is idle,
-    /// and the name is not that of a global variable, by the caller's care. Calls that stand go on
-    /// with their own definitions. After an error the machine is as before.
+    /// Defines a function, in the place of what its name stood for globally, with empty stop and trace
+    /// vectors. The machine is idle, and the name is not that of a global variable, by the caller's
+    /// care. Calls that stand go on with their own definitions. After an error the machine is as
+    /// before.
     pub fn define(&mut self, definition: Definition) -> Result<(), AllocError>
         requires idle { is_idle self.old ≡ true }
         requires free { is_global_variable self.old definition.header.name ≡ false }
@@ -350,8 +304,8 @@ impl Machine {
         self.workspace.names.globals()
     }
 
-    /// Erases the global objects of these names; a name of none is passed over. Calls that stand go
-    /// on with their own definitions. It takes no memory.
+    /// Erases the global objects of these names, with their stop and trace vectors; a name of none is
+    /// passed over. Calls that stand go on with their own definitions. It takes no memory.
     pub fn erase(&mut self, names: &[Name])
         ensures { self.new ≡ erased names.now self.old }
     {

@@ -11,8 +11,8 @@ use apl_names::{Binding, DefinedFunction};
 use apl_symbols::Name;
 use std::alloc::AllocError;
 
-/// Defines a function, in the place of what its name stood for globally. After an error nothing has
-/// changed.
+/// Defines a function, in the place of what its name stood for globally, with empty stop and trace
+/// vectors. After an error nothing has changed.
 pub(crate) fn define(workspace: &mut Workspace, definition: Definition) -> Result<(), AllocError>
     requires sound { IsSound workspace.old }
     ensures sound { IsSound workspace.new }
@@ -22,6 +22,8 @@ pub(crate) fn define(workspace: &mut Workspace, definition: Definition) -> Resul
     let name = definition.header().name;
     let function = DefinedFunction::new(workspace.alloc, definition)?;
     workspace.names.function(&name, function)?;
+    workspace.stops.remove(&name);
+    workspace.traces.remove(&name);
     Ok(())
 }
 
@@ -45,13 +47,15 @@ pub(crate) fn is_variable(binding: Option<&Binding>) -> bool
     }
 }
 
-/// Erases the global object of a name, if there is one.
+/// Erases the global object of a name, if there is one, with its stop and trace vectors.
 fn erase_one(workspace: &mut Workspace, name: &Name)
     requires sound { IsSound workspace.old }
     ensures sound { IsSound workspace.new }
     ensures erased { state_of workspace.new ≡ without_global name.now (state_of workspace.old) }
 {
     workspace.names.erase(name);
+    workspace.stops.remove(name);
+    workspace.traces.remove(name);
 }
 
 /// Erases the global objects of these names, one after another.
@@ -72,6 +76,8 @@ pub(crate) fn clear(workspace: &mut Workspace)
     ensures cleared { state_of workspace.new ≡ cleared (state_of workspace.old) }
 {
     workspace.names.clear();
+    workspace.stops.clear();
+    workspace.traces.clear();
     workspace.io = 1;
     workspace.contexts.clear();
 }

@@ -8,7 +8,7 @@ use Rattle.apl_names.specs.declared.binding.Binding.{Binding}
 use Rattle.apl_names.specs.declared.binding.Binding.TheVariants.{Value}
 use Rattle.apl_names.specs.Maps.{Map, found, class_in, first_map}
 use Rattle.apl_defn.specs.Definitions.{Text, Definition}
-use Rattle.apl_machine_state.specs.Vectors.{Vectors}
+use Rattle.apl_vectors.specs.Vectors.{Vectors}
 use Rattle.apl_machine_state.specs.Items.{Rest}
 
 -- An immediate statement, or a call of a function at one of its lines, with the map of its names. A call without a rest is suspended before its line.

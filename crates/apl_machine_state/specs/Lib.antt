@@ -1,7 +1,7 @@
-pub mod Vectors
 pub mod Items
 pub mod Environment
 pub mod Frames
+pub mod Watching
 pub mod Outcomes
 pub mod Reports
 pub mod Calls

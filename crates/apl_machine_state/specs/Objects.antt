@@ -1,11 +1,11 @@
 -- What commands ask of a state and make of it: its global objects and its standing calls.
-use Rattle.std.specs.Prelude.{Bool, List, [], ◌∷◌}
-use Rattle.apl_defn.specs.Definitions.{Text}
+use Rattle.std.specs.Prelude.{ℕ, Bool, List, [], ◌∷◌, Option, Some, None}
+use Rattle.apl_defn.specs.Definitions.{Text, Definition}
 use Rattle.apl_names.specs.Maps.{kinds_in, without_entry}
 use Rattle.apl_machine_state.specs.declared.level.Level.{Level}
-use Rattle.apl_machine_state.specs.Vectors.{without_vector}
+use Rattle.apl_vectors.specs.Vectors.{vector_of, without_vector}
 use Rattle.apl_machine_state.specs.Environment.{Context, Statement, Call, is_suspended}
-use Rattle.apl_machine_state.specs.State.{State, clear}
+use Rattle.apl_machine_state.specs.State.{State, clear, definition_of}
 
 -- the standing calls, newest first, as a state indicator shows them
 abbrev pub levels : List Context → List Level
@@ -32,3 +32,11 @@ erased (name ∷ names) s = erased names (without_global name s)
 -- a clear workspace, with the output that is written
 abbrev pub cleared : State → State
 cleared s = record clear { output = s.output }
+
+abbrev pub vectors_by : Option Definition → List ℕ → List ℕ → Option (List ℕ × List ℕ)
+vectors_by None stops traces = None
+vectors_by (Some d) stops traces = Some (stops, traces)
+
+-- the stop and trace vectors of a global function
+abbrev pub vectors_of : State → Text → Option (List ℕ × List ℕ)
+vectors_of s name = vectors_by (definition_of s name) (vector_of name s.stops) (vector_of name s.world.traces)

@@ -7,7 +7,9 @@ mod operand;
 mod output;
 #[cfg(test)]
 mod tests;
+mod watch;
 
 pub use level::Level;
 pub use operand::{Operand, Slots};
 pub use output::{OutLine, Progress};
+pub use watch::Watch;

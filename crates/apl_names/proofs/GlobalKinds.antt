@@ -1,5 +1,5 @@
 -- The names of the global scope, as the slots give them from the last on.
-use Rattle.std.proofs.Common.{◌≡◌, ℕ, zero, suc, ◌-◌, ◌<◌, ◌≤◌, Bool, true, false, ◌||◌, List, [], ◌∷◌, length, drop, get_or, All, Option, Some, None, refl, sym, ap, subst, ◌∙◌, arith}
+use Rattle.std.proofs.Common.{◌≡◌, ℕ, zero, suc, ◌-◌, ◌<◌, ◌≤◌, Bool, false, ◌||◌, List, [], ◌∷◌, length, drop, get_or, All, Some, None, refl, sym, ap, subst, ◌∙◌, arith}
 use Rattle.std.proofs.Math.Seq.{drop-cons}
 use Rattle.std.specs.Prelude.{option_map, unwrap_or}
 use Rattle.std.specs.Global.{Vec}
@@ -12,9 +12,8 @@ use Rattle.std.specs.Map.{keys_of}
 use Rattle.apl_names.specs.declared.binding.Binding.{Binding}
 use Rattle.apl_names.specs.declared.slots.SlotContent.{SlotContent}
 use Rattle.apl_names.specs.Maps.{Text, Map, name_cmp, said, with_entry, last_map, is_function, kinds_in}
-use Rattle.apl_names.specs.Slots.{Content, Contents, Scope, scope_of, name_at, named, has, hidden_of, AreWithin, IsSound, held_of, maps_of, with_held, listed}
+use Rattle.apl_names.specs.Slots.{Content, Contents, Scope, scope_of, name_at, named, has, hidden_of, AreWithin, held_of, maps_of, with_held, listed}
 use Rattle.apl_names.proofs.Maps.{IsMap, AreMaps, Holds, same_map, listed_map, said_listed, whole, neither}
-use Rattle.apl_names.proofs.Globals.{NoneHas}
 use Rattle.apl_names.proofs.GlobalSlots.{none_hidden}
 use Rattle.apl_names.proofs.GlobalAnswers.{global_says, global_seen}
 use Rattle.apl_names.proofs.Symbols.{length-keys_of}

@@ -14,7 +14,7 @@ use crate::scene::Scene;
 use apl_arrays::{Array, Stop};
 use apl_code::Row;
 use apl_faults::Fault;
-use apl_machine_state::{Operand, OutLine};
+use apl_machine_state::{Operand, OutLine, Watch};
 use apl_names::DefinedFunction;
 use apl_primitives::{Arguments, phrase_value};
 use apl_symbols::Name;
@@ -31,6 +31,8 @@ pub enum Effect {
     GivesLineNumbers,
     /// It calls a function with these arguments.
     Calls(DefinedFunction, Option<Array>, Option<Array>),
+    /// It gives the stop or trace vector that a function has, which is replaced where there is a new one.
+    Asks(Watch, Name, Option<Vec<usize>>),
     /// It fails.
     Fails(Fault),
 }

@@ -5,6 +5,7 @@ mod assign;
 mod calls;
 mod effect;
 mod lines;
+mod lines_among;
 mod name_class;
 #[cfg(test)]
 mod names_tests;
@@ -12,6 +13,9 @@ mod phrase;
 mod scene;
 #[cfg(test)]
 mod tests;
+mod watch;
+#[cfg(test)]
+mod watch_tests;
 
 pub use effect::{Deed, Effect};
 pub use lines::said;

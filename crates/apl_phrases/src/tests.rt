@@ -72,6 +72,7 @@ fn answer_of(effect: &Effect, name: Name) -> Answer {
                 Answer::Other
             }
         }
+        Effect::Asks(..) => Answer::Other,
         Effect::Fails(fault) => Answer::Fails(*fault),
     }
 }
@@ -151,7 +152,12 @@ pub(crate) fn alone(
 }
 
 /// What a phrase does that takes this value.
-fn of_one(alloc: Global, scene: Scene<'_>, row: Row, b: Array) -> Result<Effect, AllocError>
+pub(crate) fn of_one(
+    alloc: Global,
+    scene: Scene<'_>,
+    row: Row,
+    b: Array,
+) -> Result<Effect, AllocError>
     requires { scene.io ≤ 1 }
 {
     let constants = [b];
@@ -164,7 +170,7 @@ fn of_one(alloc: Global, scene: Scene<'_>, row: Row, b: Array) -> Result<Effect,
 }
 
 /// What a phrase does that takes these two values, the left one from the operand stack.
-fn of_two(
+pub(crate) fn of_two(
     alloc: Global,
     scene: Scene<'_>,
     row: Row,
@@ -279,7 +285,7 @@ fn dyadic_calls(rt: HostRuntime) -> Result<(), Fail> {
 }
 
 /// A text as an array: one character is a scalar.
-fn characters(alloc: Global, line: &str) -> Result<Array, Fail> {
+pub(crate) fn characters(alloc: Global, line: &str) -> Result<Array, Fail> {
     let characters = decode_line(alloc, line.as_bytes())?;
     if characters.len() > MAX_ELEMENTS {
         return Err(Fail::new("a long text"));
@@ -325,7 +331,7 @@ fn classes_of_names(rt: HostRuntime) -> Result<(), Fail> {
 }
 
 /// The characters as a matrix of one element.
-fn matrix(alloc: Global) -> Result<Array, Fail> {
+pub(crate) fn matrix(alloc: Global) -> Result<Array, Fail> {
     let ravel = Ravel::Chars(vec![in alloc; Ch::ascii(b'V')]?);
     Ok(Array::from_shape(&[1, 1], ravel)?)
 }

@@ -4,35 +4,48 @@ use Rattle.apl_defn.specs.Definitions.{Text, Definition, is_line}
 use Rattle.apl_names.specs.Maps.{Map}
 use Rattle.apl_machine_state.specs.declared.output.Progress.{Progress}
 use Rattle.apl_machine_state.specs.Environment.{World, Context}
-use Rattle.apl_machine_state.specs.Changes.{Change, Rests, Moves, Arrives, change}
-use Rattle.apl_machine_state.specs.State.{State, is_idle, step, steps, steps_progress, last_progress, standing, progress, turn, applied, arrived}
+use Rattle.apl_machine_state.specs.Changes.{Change, Rests, Moves, AsksStops, Arrives, change}
+use Rattle.apl_machine_state.specs.State.{State, is_idle, step, steps, steps_progress, last_progress, standing, progress, turn, applied, arrived, comes_to}
+use Rattle.apl_vectors.specs.Vectors.{has_line}
 
 -- the state with that definition open, if any
 abbrev pub within : Option (List Text) → State → State
 within d s = record s { definition = d }
 
+comes-within : (d : Option (List Text)) (stops : Bool) (s : State) (w : World) (f : Definition) (n : ℕ) (locals : Map) (below : List Context) (lines : List Text) (ended : Bool) →
+    (comes_to stops (within d s) w f n locals below lines ended).state ≡ within d (comes_to stops s w f n locals below lines ended).state
+comes-within d true s w f n locals below lines ended = refl
+comes-within d false s w f n locals below lines ended = refl
+
 arrived-within : (d : Option (List Text)) (is_there : Bool) (s : State) (w : World) (f : Definition) (n : ℕ) (locals : Map) (below : List Context) (lines : List Text) (ended : Bool) →
     (arrived is_there (within d s) w f n locals below lines ended).state ≡ within d (arrived is_there s w f n locals below lines ended).state
-arrived-within d true s w f n locals below lines ended = refl
+arrived-within d true s w f n locals below lines ended = comes-within d (has_line f.header.name n s.stops) s w f n locals below lines ended
 arrived-within d false s w f n locals below lines ended = refl
 
 applied-within : (d : Option (List Text)) (s : State) (c : Change) → (applied (within d s) c).state ≡ within d (applied s c).state
 applied-within d s Rests = refl
 applied-within d s (Moves w contexts lines ended) = refl
+applied-within d s (AsksStops w name lines given) = refl
 applied-within d s (Arrives w f n locals below lines ended) = arrived-within d (is_line f n) s w f n locals below lines ended
 
 pub steps-within : (d : Option (List Text)) (n : ℕ) (s : State) → steps n (within d s) ≡ within d (steps n s)
 steps-within d zero s = refl
 steps-within d (suc n) s = ap (steps n) (applied-within d s (change s.world s.contexts)) ∙ steps-within d n (step s)
 
+comes-progress : (d : Option (List Text)) (stops : Bool) (s : State) (w : World) (f : Definition) (n : ℕ) (locals : Map) (below : List Context) (lines : List Text) (ended : Bool) →
+    progress (comes_to stops (within d s) w f n locals below lines ended) ≡ progress (comes_to stops s w f n locals below lines ended)
+comes-progress d true s w f n locals below lines ended = refl
+comes-progress d false s w f n locals below lines ended = refl
+
 arrived-progress : (d : Option (List Text)) (is_there : Bool) (s : State) (w : World) (f : Definition) (n : ℕ) (locals : Map) (below : List Context) (lines : List Text) (ended : Bool) →
     progress (arrived is_there (within d s) w f n locals below lines ended) ≡ progress (arrived is_there s w f n locals below lines ended)
-arrived-progress d true s w f n locals below lines ended = refl
+arrived-progress d true s w f n locals below lines ended = comes-progress d (has_line f.header.name n s.stops) s w f n locals below lines ended
 arrived-progress d false s w f n locals below lines ended = refl
 
 applied-progress : (d : Option (List Text)) (s : State) (c : Change) → progress (applied (within d s) c) ≡ progress (applied s c)
 applied-progress d s Rests = refl
 applied-progress d s (Moves w contexts lines ended) = refl
+applied-progress d s (AsksStops w name lines given) = refl
 applied-progress d s (Arrives w f n locals below lines ended) = arrived-progress d (is_line f n) s w f n locals below lines ended
 
 last_progress-within : (d : Option (List Text)) (before : Progress) (n : ℕ) (s : State) → last_progress before n (within d s) ≡ last_progress before n s

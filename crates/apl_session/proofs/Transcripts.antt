@@ -14,12 +14,14 @@ use Rattle.apl_defn.specs.Reading.{header_of}
 use Rattle.apl_defn.specs.Defining.{defined_of}
 use Rattle.apl_defn.specs.Listing.{listed}
 use Rattle.apl_names.specs.Maps.{Map}
-use Rattle.apl_machine_state.specs.Environment.{World, Context}
+use Rattle.apl_machine_state.specs.Environment.{World, Context, Call}
 use Rattle.apl_machine_state.specs.Calls.{begun_line, returned}
 use Rattle.apl_machine_state.specs.Reports.{said}
-use Rattle.apl_machine_state.specs.Changes.{Change, Rests, Moves, Arrives, change}
-use Rattle.apl_machine_state.specs.State.{State, is_idle, step, steps, applied, arrived, with_lines, interrupted, definition_of, is_global_variable, with_function}
+use Rattle.apl_machine_state.specs.Changes.{Change, Rests, Moves, AsksStops, Arrives, change}
+use Rattle.apl_machine_state.specs.State.{State, is_idle, step, steps, applied, arrived, comes_to, stop_report, with_lines, interrupted, definition_of, is_global_variable, with_function}
 use Rattle.apl_machine_state.specs.Objects.{erased, without_global}
+use Rattle.apl_machine_state.specs.Watching.{lines_array}
+use Rattle.apl_vectors.specs.Vectors.{after_asking, has_line, vector_of}
 use Rattle.apl_machine_state.specs.Beginning.{begun, begun_by, started, colon_of}
 use Rattle.apl_session.specs.Events.{Event, Line, Steps, Interrupt, after, after_event, typed_as, typed_in, typed_behind, first_mark}
 use Rattle.apl_session.specs.declared.commands.Command.{Command}
@@ -39,15 +41,23 @@ behind front s = record s { output = front ++ s.output }
 lines-behind : (front : List OutLine) (s : State) (lines : List Text) → with_lines lines (behind front s) ≡ behind front (with_lines lines s)
 lines-behind front s lines = ap (λ (o : List OutLine). record s { output = o }) (append_assoc front s.output (said lines))
 
+comes-behind : (front : List OutLine) (stops : Bool) (s : State) (w : World) (d : Definition) (n : ℕ) (locals : Map) (below : List Context) (lines : List Text) (ended : Bool) →
+    (comes_to stops (behind front s) w d n locals below lines ended).state ≡ behind front (comes_to stops s w d n locals below lines ended).state
+comes-behind front true s w d n locals below lines ended =
+    ap (λ (o : List OutLine). record s { world = w; contexts = Call d n locals None ∷ below; output = o }) (append_assoc front s.output (said lines ++ stop_report d n ∷ []))
+comes-behind front false s w d n locals below lines ended = lines-behind front (record s { world = w; contexts = begun_line w d n locals below }) lines
+
 arrived-behind : (front : List OutLine) (is_there : Bool) (s : State) (w : World) (d : Definition) (n : ℕ) (locals : Map) (below : List Context) (lines : List Text) (ended : Bool) →
     (arrived is_there (behind front s) w d n locals below lines ended).state ≡ behind front (arrived is_there s w d n locals below lines ended).state
-arrived-behind front true s w d n locals below lines ended = lines-behind front (record s { world = w; contexts = begun_line w d n locals below }) lines
+arrived-behind front true s w d n locals below lines ended = comes-behind front (has_line d.header.name n s.stops) s w d n locals below lines ended
 arrived-behind front false s w d n locals below lines ended =
     lines-behind front (record s { world = w; contexts = (returned d locals below).contexts }) (lines ++ (returned d locals below).lines)
 
 applied-behind : (front : List OutLine) (s : State) (c : Change) → (applied (behind front s) c).state ≡ behind front (applied s c).state
 applied-behind front s Rests = refl
 applied-behind front s (Moves world contexts lines ended) = lines-behind front (record s { world = world; contexts = contexts }) lines
+applied-behind front s (AsksStops w name lines given) =
+    lines-behind front (record s { world = w; stops = after_asking name lines s.stops; contexts = given (lines_array (vector_of name s.stops)) }) []
 applied-behind front s (Arrives w d n locals below lines ended) = arrived-behind front (is_line d n) s w d n locals below lines ended
 
 steps-behind : (front : List OutLine) (n : ℕ) (s : State) → steps n (behind front s) ≡ behind front (steps n s)

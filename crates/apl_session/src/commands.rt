@@ -7,8 +7,9 @@ ghost use Rattle.apl_session.specs.Commands as model;
 use crate::definition::refuse;
 use crate::words::{names_in, next_word, split_blank};
 use apl_charset::{Ch, Text, push_ascii};
+use apl_debug::{Level, state_indicator};
 use apl_faults::{Call, Fault, place};
-use apl_machine::{Level, Machine};
+use apl_machine::Machine;
 use apl_symbols::Name;
 use std::alloc::{AllocError, Global};
 
@@ -128,7 +129,7 @@ fn show_levels(alloc: Global, machine: &mut Machine) -> Result<(), AllocError>
     ensures ok { OnOk result (machine.new ≡ with_lines (map model.shown_level (levels machine.old.contexts)) machine.old) }
     ensures err { OnErr result (machine.new ≡ machine.old) }
 {
-    let levels = machine.levels()?;
+    let levels = state_indicator(machine)?;
     let lines = level_lines(alloc, &levels)?;
     machine.say_lines(lines)
 }

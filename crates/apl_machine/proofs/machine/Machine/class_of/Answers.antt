@@ -1,4 +1,4 @@
-use Rattle.std.proofs.Common.{◌≡◌, List, refl, sym, ap, ◌∙◌, subst}
+use Rattle.std.proofs.Common.{ap, ◌∙◌}
 use Rattle.apl_names.specs.Maps.{class_in, found}
 use Rattle.apl_machine.proofs.Readers.{class_reads}
 use Rattle.apl_machine.proofs.machine.Machine.class_of.Goals as goal

@@ -1,4 +1,4 @@
-use Rattle.std.proofs.Common.{◌≡◌, List, refl, sym, ap, ◌∙◌, subst}
+use Rattle.std.proofs.Common.{ap, ◌∙◌}
 use Rattle.apl_names.specs.Maps.{last_map, said}
 use Rattle.apl_names.specs.Maps.{function_in}
 use Rattle.apl_machine.proofs.Readers.{global_reads}

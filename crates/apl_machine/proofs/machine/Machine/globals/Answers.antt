@@ -1,4 +1,4 @@
-use Rattle.std.proofs.Common.{ap, subst}
+use Rattle.std.proofs.Common.{subst}
 use Rattle.std.specs.Prelude.{◌≡◌, IfOk}
 use Rattle.apl_names.specs.Maps.{kinds_in, last_map}
 use Rattle.apl_machine.proofs.Erased.{globals_read}

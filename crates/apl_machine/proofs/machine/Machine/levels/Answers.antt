@@ -1,4 +1,4 @@
-use Rattle.std.proofs.Common.{ap, subst}
+use Rattle.std.proofs.Common.{subst}
 use Rattle.std.specs.Prelude.{◌≡◌, IfOk}
 use Rattle.apl_contexts.specs.Contexts.{levels_in}
 use Rattle.apl_machine.proofs.Erased.{levels_read}

@@ -1,4 +1,4 @@
-use Rattle.std.proofs.Common.{◌≡◌, List, refl, sym, ap, ◌∙◌, subst}
+use Rattle.std.proofs.Common.{ap, ◌∙◌}
 use Rattle.apl_names.specs.Maps.{value_in, found}
 use Rattle.apl_machine.proofs.Readers.{value_reads}
 use Rattle.apl_machine.proofs.machine.Machine.value.Goals as goal

@@ -1,0 +1,166 @@
+//! Calls begin.
+ghost use Rattle.std.specs.Prelude.{◌≡◌, ◌<◌, true, slice_get, IfOk, IfSome, IsSome, OnErr, OnOk, Some};
+ghost use Rattle.apl_code.specs.declared.instr.Instr.{Instr};
+ghost use Rattle.apl_defn.specs.Definitions.{is_line};
+ghost use Rattle.apl_frames.specs.Ends.{IsColumn};
+ghost use Rattle.apl_machine_state.specs.declared.operand.Operand.TheVariants.{Value};
+ghost use Rattle.apl_contexts.specs.Contexts.{line_in, suspended};
+ghost use Rattle.apl_contexts.specs.Moves.{CanMove};
+ghost use Rattle.apl_machine.specs.Spaces.{HasEntered, IsSound, called_in, entered_in, nothing_in, state_of, stopped_in};
+
+use crate::locals::names_of_call;
+use crate::reports::context_fault;
+use crate::traces::stop_report;
+use crate::workspace::Workspace;
+use apl_arrays::Array;
+use apl_contexts::{Call, Move, begin_line};
+use apl_faults::Fault;
+use apl_names::{Binding, DefinedFunction};
+use apl_phrases::Scene;
+use apl_symbols::Name;
+use std::alloc::AllocError;
+
+impl Workspace {
+    /// A call of a function, whose names stand in the newest scope, begins its first line.
+    fn begin_call(&mut self, function: DefinedFunction, left: usize) -> Result<(), AllocError>
+        requires can { IfSome (line_in self.old.contexts) (λ f. CanMove (Move.Awaits left) f) }
+        requires line { is_line function 1 ≡ true }
+        ensures ok { OnOk result (HasEntered self.old self.new function left) }
+        ensures err { OnErr result (self.new ≡ self.old) }
+    {
+        let Some(tokens) = function.definition().tokens(1) else {
+            unreachable!()
+        };
+        let line = begin_line(self.alloc, &self.names, &mut self.cache, tokens)?;
+        self.contexts.enter(Call::new(function, 1, line), left)?;
+        Ok(())
+    }
+
+    /// A call of a function with these names is suspended before its first line, which is reported.
+    /// After an error nothing has changed.
+    fn stop_call(
+        &mut self,
+        function: DefinedFunction,
+        names: Vec<(Name, Binding)>,
+        left: usize,
+    ) -> Result<(), AllocError>
+        requires sound { IsSound self.old }
+        requires can { IfSome (line_in self.old.contexts) (λ f. CanMove (Move.Awaits left) f) }
+        requires line { is_line function 1 ≡ true }
+        ensures ok { OnOk result (self.new ≡ stopped_in self.old names.items function left) }
+        ensures err { OnErr result (self.new ≡ self.old) }
+    {
+        let report = stop_report(self.alloc, function.definition(), 1)?;
+        self.output.reserve(1)?;
+        self.names.enter(names)?;
+        match self.contexts.enter(Call::stopped(function, 1), left) {
+            Ok(()) => {
+                self.output.push(report).unwrap();
+                Ok(())
+            }
+            Err(AllocError) => {
+                self.names.leave();
+                Err(AllocError)
+            }
+        }
+    }
+
+    /// A function without lines is called from the newest line, and returns at once, without a
+    /// value. After an error nothing has changed.
+    fn call_nothing(&mut self, left: usize) -> Result<(), AllocError>
+        requires sound { IsSound self.old }
+        requires can { IfSome (line_in self.old.contexts) (λ f. CanMove (Move.Awaits left) f) }
+        requires placed { IfSome (line_in self.old.contexts) (λ f. (i : Instr) × (slice_get f.code f.done ≡ Some i) × IsColumn i.at) }
+        requires runs { IsSome (line_in self.old.contexts) }
+        ensures sound { IsSound self.new }
+        ensures ok { OnOk result (state_of self.new ≡ nothing_in self.old left) }
+        ensures err { OnErr result (self.new ≡ self.old) }
+    {
+        let Some(caller) = self.contexts.newest() else {
+            unreachable!()
+        };
+        let Some(line) = caller.line() else {
+            unreachable!()
+        };
+        let frame = line.lend();
+        let Some(instr) = frame.code.instr(frame.done) else {
+            unreachable!()
+        };
+        let mut report = context_fault(self.alloc, Fault::Value, caller, instr.at)?;
+        self.output.reserve(report.len())?;
+        self.contexts.change(Move::Awaits(left));
+        let Some(line) = self.contexts.line() else {
+            unreachable!()
+        };
+        if line.missing().is_none() {
+            self.contexts.change(Move::IsEmptied);
+        } else {
+            self.output.append(&mut report).unwrap();
+            self.contexts.suspend();
+        }
+        Ok(())
+    }
+
+    /// A call of a function with lines and these names begins its first line, or stops before it.
+    /// Tells whether it stopped. After an error nothing has changed.
+    fn call_with(
+        &mut self,
+        function: DefinedFunction,
+        names: Vec<(Name, Binding)>,
+        left: usize,
+    ) -> Result<bool, AllocError>
+        requires sound { IsSound self.old }
+        requires can { IfSome (line_in self.old.contexts) (λ f. CanMove (Move.Awaits left) f) }
+        requires line { is_line function 1 ≡ true }
+        requires runs { IsSome (line_in self.old.contexts) }
+        ensures sound { IsSound self.new }
+        ensures ok { OnOk result (state_of self.new ≡ (entered_in self.old names.items function left).state) }
+        ensures stopped { IfOk result (λ stopped. stopped ≡ (entered_in self.old names.items function left).stopped) }
+        ensures err { OnErr result (self.new ≡ self.old) }
+    {
+        if self.stops.has(&function.definition().header().name, 1) {
+            self.stop_call(function, names, left)?;
+            return Ok(true);
+        }
+        self.names.enter(names)?;
+        match self.begin_call(function, left) {
+            Ok(()) => Ok(false),
+            Err(AllocError) => {
+                self.names.leave();
+                Err(AllocError)
+            }
+        }
+    }
+
+    /// A function is called from the newest line with these arguments: the call begins its first
+    /// line, stops before it, or returns where there is none. Tells whether it stopped. After an
+    /// error nothing has changed.
+    pub(crate) fn enter(
+        &mut self,
+        function: DefinedFunction,
+        arguments: (Option<Array>, Option<Array>),
+        left: usize,
+    ) -> Result<bool, AllocError>
+        requires sound { IsSound self.old }
+        requires can { IfSome (line_in self.old.contexts) (λ f. CanMove (Move.Awaits left) f) }
+        requires placed { IfSome (line_in self.old.contexts) (λ f. (i : Instr) × (slice_get f.code f.done ≡ Some i) × IsColumn i.at) }
+        requires runs { IsSome (line_in self.old.contexts) }
+        ensures sound { IsSound self.new }
+        ensures ok { OnOk result (state_of self.new ≡ (called_in self.old function arguments.0 arguments.1 left).state) }
+        ensures stopped { IfOk result (λ stopped. stopped ≡ (called_in self.old function arguments.0 arguments.1 left).stopped) }
+        ensures err { OnErr result (self.new ≡ self.old) }
+    {
+        let scene = Scene {
+            names: &self.names,
+            io: self.io,
+            standing: self.names.depth() - 1,
+        };
+        let (first, second) = arguments;
+        let names = names_of_call(self.alloc, scene, function.definition(), first, second)?;
+        if function.definition().len() == 0 {
+            self.call_nothing(left)?;
+            return Ok(false);
+        }
+        self.call_with(function, names, left)
+    }
+}

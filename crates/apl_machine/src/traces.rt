@@ -1,0 +1,150 @@
+//! What traced lines write, and what stops report.
+ghost use Rattle.std.specs.Prelude.{◌≡◌, ◌++◌, [], map, pos, true, IfNone, IfOk, IfSome};
+ghost use Rattle.apl_faults.specs.Report.{place};
+ghost use Rattle.apl_format.specs.Display.{display};
+ghost use Rattle.apl_machine_state.specs.Reports.{said};
+ghost use Rattle.apl_machine_state.specs.State.{stop_report};
+ghost use Rattle.apl_machine_state.specs.Watching.{behind, lines_array};
+ghost use Rattle.apl_machine.specs.Traces.{IsTraced, IsUntraced, trace_of};
+
+use apl_arrays::{Array, Ravel};
+use apl_charset::{Ch, Text};
+use apl_contexts::{Call, Context};
+use apl_defn::Definition;
+use apl_faults::{Call as Place, place};
+use apl_format::display;
+use apl_machine_state::OutLine;
+use apl_phrases::said;
+use apl_vectors::Vectors;
+use std::alloc::{AllocError, Global};
+
+/// The place of a line of a function.
+fn place_in(alloc: Global, definition: &Definition, at: usize) -> Result<Text, AllocError>
+    ensures { IfOk result (λ text. text ≡ place (definition.now.header.name, at)) }
+{
+    place(
+        alloc,
+        Place {
+            name: definition.header().name.as_slice(),
+            line: at,
+        },
+    )
+}
+
+/// The report of a stop before a line of a function.
+pub(crate) fn stop_report(
+    alloc: Global,
+    definition: &Definition,
+    at: usize,
+) -> Result<OutLine, AllocError>
+    ensures { IfOk result (λ line. line ≡ stop_report definition.now at) }
+{
+    let text = place_in(alloc, definition, at)?;
+    Ok(OutLine { text, stop: true })
+}
+
+/// The call whose line this context does, if that line is traced.
+fn traced<'a>(traces: &Vectors, context: &'a Context) -> Option<&'a Call>
+    ensures some { IfSome result (λ call. IsTraced traces.now context.now call.now) }
+    ensures none { IfNone result (IsUntraced traces.now context.now) }
+{
+    match context {
+        Context::Statement(_) => None,
+        Context::Call(call) => {
+            if traces.has(&call.definition().header().name, call.at()) {
+                Some(call)
+            } else {
+                None
+            }
+        }
+    }
+}
+
+/// These lines, the first of them behind a front, which stands alone where there are none.
+fn behind(mut front: Vec<Ch>, mut lines: Vec<Text>) -> Result<Vec<Text>, AllocError>
+    ensures { IfOk result (λ out. out.items ≡ behind front.items lines.items) }
+{
+    if let Some(first) = lines.as_mut_slice().first_mut() {
+        front.extend_from_slice(first.as_slice())?;
+        *first = Text::new(front);
+    } else {
+        lines.push(Text::new(front))?;
+    }
+    Ok(lines)
+}
+
+/// What the line of a call writes as it ends, if it is traced: its place, this mark, and these
+/// lines.
+fn trace_call(
+    alloc: Global,
+    call: &Call,
+    mark: &[Ch],
+    lines: Vec<Text>,
+) -> Result<Vec<OutLine>, AllocError>
+    ensures { IfOk result (λ out. out.items ≡ said (behind (place (call.now.definition.header.name, call.now.at) ++ mark.now) lines.items)) }
+{
+    let mut front = place_in(alloc, call.definition(), call.at())?.into_chars();
+    front.extend_from_slice(mark)?;
+    said(alloc, behind(front, lines)?)
+}
+
+/// What the line of a context writes as it ends without a value, if it is traced: its place and this
+/// mark.
+pub(crate) fn trace(
+    alloc: Global,
+    traces: &Vectors,
+    context: &Context,
+    mark: &[Ch],
+) -> Result<Vec<OutLine>, AllocError>
+    ensures { IfOk result (λ out. out.items ≡ said (trace_of traces.now context.now mark.now [])) }
+{
+    match traced(traces, context) {
+        Some(call) => trace_call(alloc, call, mark, Vec::new(alloc)),
+        None => Ok(Vec::new(alloc)),
+    }
+}
+
+/// What the line of a context writes as it ends with a value, if it is traced: its place, this mark,
+/// and the lines of the value's display, the first of them behind the mark.
+pub(crate) fn trace_value(
+    alloc: Global,
+    traces: &Vectors,
+    context: &Context,
+    mark: &[Ch],
+    value: &Array,
+) -> Result<Vec<OutLine>, AllocError>
+    ensures { IfOk result (λ out. out.items ≡ said (trace_of traces.now context.now mark.now (display value.now))) }
+{
+    match traced(traces, context) {
+        Some(call) => trace_call(alloc, call, mark, display(alloc, value)?),
+        None => Ok(Vec::new(alloc)),
+    }
+}
+
+/// Line numbers as the numbers of an array.
+fn numbers_of(alloc: Global, lines: &[usize]) -> Result<Vec<i64>, AllocError>
+    ensures { IfOk result (λ numbers. numbers.items ≡ map pos lines.now) }
+{
+    let mut numbers = Vec::with_capacity(alloc, lines.len())?;
+    for line in lines {
+        match i64::try_from(*line) {
+            Ok(number) => numbers.push(number)?,
+            // It doesn't come to this: a function has at most 999 lines.
+            Err(_) => return Err(AllocError),
+        }
+    }
+    Ok(numbers)
+}
+
+/// A vector of line numbers as an array.
+pub(crate) fn lines_array(alloc: Global, lines: &[usize]) -> Result<Array, AllocError>
+    ensures { IfOk result (λ array. array ≡ lines_array lines.now) }
+{
+    let numbers = numbers_of(alloc, lines)?;
+    let count = numbers.len();
+    match Array::from_shape(&[count], Ravel::Nums(numbers)) {
+        Ok(array) => Ok(array),
+        // Nor to this, for the same reason.
+        Err(_) => Err(AllocError),
+    }
+}

@@ -1,0 +1,130 @@
+//! `⎕STOP` and `⎕TRACE`, the stop and trace vectors of functions.
+ghost use Rattle.std.specs.Prelude.{◌≡◌, ◌≤◌, ℤ, IfOk, List, Option, option_copied, option_map, Some, None};
+ghost use Rattle.apl_arrays.specs.Ravels.{items_of};
+ghost use Rattle.apl_machine_state.specs.declared.operand.Operand.{Operand};
+ghost use Rattle.apl_machine_state.specs.Outcomes.{rewatch, watch, watched, watched_by};
+ghost use Rattle.apl_machine_state.specs.Watching.{function_named, is_list, lines_among, numbers_in};
+ghost use Rattle.apl_names.specs.Maps.{function_in, last_map, said};
+ghost use Rattle.apl_phrases.specs.Effects.{IsEffect, seen};
+
+use crate::effect::Effect;
+use crate::lines_among::lines_among;
+use crate::scene::Scene;
+use apl_arrays::{Array, Ravel};
+use apl_charset::Ch;
+use apl_defn::Definition;
+use apl_faults::Fault;
+use apl_machine_state::Watch;
+use apl_names::{Binding, Names};
+use apl_symbols::Name;
+use std::alloc::{AllocError, Global};
+
+/// Whether an array has at most one axis.
+fn is_list(array: &Array) -> bool
+    ensures { result ≡ is_list array.now }
+{
+    array.rank() <= 1
+}
+
+/// The numbers of an array of numbers, or of one without elements.
+fn numbers_in(array: &Array) -> Option<&[i64]>
+    ensures { option_copied result ≡ numbers_in array.now.items }
+{
+    match array.ravel() {
+        Ravel::Nums(numbers) => Some(numbers.as_slice()),
+        Ravel::Chars(text) => { if text.is_empty() { Some(&[]) } else { None } }
+    }
+}
+
+/// The function that a name stands for globally, whatever calls say of the name.
+fn global_function<'a>(names: &'a Names, name: &Name) -> Option<&'a Definition>
+    ensures { option_copied result ≡ function_in (said (last_map names.now) name.now) }
+{
+    match names.global(name) {
+        Some(Binding::Function(function)) => Some(function.definition()),
+        _ => None,
+    }
+}
+
+/// What is done where a vector of this function is asked, and is to have the lines among these numbers.
+fn ask(
+    alloc: Global,
+    which: Watch,
+    name: Name,
+    definition: &Definition,
+    numbers: Option<&[i64]>,
+) -> Result<Effect, AllocError>
+    ensures { IfOk result (λ e. (lines : List ℤ) (operands : List (Option Operand)) → IsEffect lines e (watched_by which name (Some definition.now) (option_map lines_among (option_copied numbers.entry))) operands) }
+{
+    match numbers {
+        Some(numbers) => {
+            let lines = lines_among(alloc, numbers, definition)?;
+            Ok(Effect::Asks(which, name, Some(lines)))
+        }
+        None => Ok(Effect::Asks(which, name, None)),
+    }
+}
+
+/// The same of the function that a text names.
+fn ask_named(
+    alloc: Global,
+    scene: Scene<'_>,
+    which: Watch,
+    text: &[Ch],
+    numbers: Option<&[i64]>,
+) -> Result<Effect, AllocError>
+    ensures { IfOk result (λ e. (lines : List ℤ) (operands : List (Option Operand)) → IsEffect lines e (watched_by which text.now (function_named (seen scene.entry lines) text.now) (option_map lines_among (option_copied numbers.entry))) operands) }
+{
+    let Some(name) = Name::new(text) else {
+        return Ok(Effect::Fails(Fault::Domain));
+    };
+    match global_function(scene.names, &name) {
+        Some(definition) => ask(alloc, which, name, definition, numbers),
+        None => Ok(Effect::Fails(Fault::Domain)),
+    }
+}
+
+/// The same of the function that an array names.
+fn watched(
+    alloc: Global,
+    scene: Scene<'_>,
+    which: Watch,
+    numbers: Option<&[i64]>,
+    b: &Array,
+) -> Result<Effect, AllocError>
+    ensures { IfOk result (λ e. (lines : List ℤ) (operands : List (Option Operand)) → IsEffect lines e (watched (seen scene.entry lines) which b.now.items (option_map lines_among (option_copied numbers.entry))) operands) }
+{
+    match b.ravel() {
+        Ravel::Nums(_) => Ok(Effect::Fails(Fault::Domain)),
+        Ravel::Chars(text) => ask_named(alloc, scene, which, text.as_slice(), numbers),
+    }
+}
+
+/// `⎕STOP B` and `⎕TRACE B`
+pub fn watch(alloc: Global, scene: Scene<'_>, which: Watch, b: &Array) -> Result<Effect, AllocError>
+    ensures { IfOk result (λ e. (lines : List ℤ) (operands : List (Option Operand)) → IsEffect lines e (watch (seen scene.entry lines) which b.now) operands) }
+{
+    if !is_list(b) {
+        return Ok(Effect::Fails(Fault::Rank));
+    }
+    watched(alloc, scene, which, None, b)
+}
+
+/// `A ⎕STOP B` and `A ⎕TRACE B`
+pub fn rewatch(
+    alloc: Global,
+    scene: Scene<'_>,
+    which: Watch,
+    a: &Array,
+    b: &Array,
+) -> Result<Effect, AllocError>
+    ensures { IfOk result (λ e. (lines : List ℤ) (operands : List (Option Operand)) → IsEffect lines e (rewatch (seen scene.entry lines) which a.now b.now) operands) }
+{
+    if !is_list(a) || !is_list(b) {
+        return Ok(Effect::Fails(Fault::Rank));
+    }
+    match numbers_in(a) {
+        Some(numbers) => watched(alloc, scene, which, Some(numbers), b),
+        None => Ok(Effect::Fails(Fault::Domain)),
+    }
+}
