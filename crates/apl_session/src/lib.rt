@@ -3,7 +3,11 @@
 #![tactic(auto)]
 
 mod commands;
+#[cfg(test)]
+mod commands_tests;
 mod definition;
+#[cfg(test)]
+mod definition_tests;
 mod devices;
 mod lines;
 mod runs;
