@@ -140,7 +140,7 @@ impl Phrase {
     }
 
     fn value(self, alloc: Global, arguments: Arguments<'_>) -> Result<Array, Stop> {
-        phrase_value(alloc, self.row(), arguments, ORIGIN)
+        phrase_value(alloc, &self.row(), arguments, ORIGIN)
     }
 }
 

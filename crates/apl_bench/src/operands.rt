@@ -107,7 +107,7 @@ impl Numbers {
         let lengths = Vec::from_slice(alloc, &[i64::from(side), i64::from(side)])?;
         let shape = Array::from_shape(&[2], Ravel::Nums(lengths))?;
         let reshape = Row::Dyadic(Function::Primitive(Primitive::Rho));
-        phrase_value(alloc, reshape, Arguments::Two(&shape, &numbers), 1)
+        phrase_value(alloc, &reshape, Arguments::Two(&shape, &numbers), 1)
     }
 }
 

@@ -1,2 +1,5 @@
 pub mod Bindable
 pub mod Lines
+pub mod Nearest
+pub mod Standing
+pub mod Blamed

@@ -1,3 +1,4 @@
 pub mod Callers
 pub mod Moves
 pub mod Contexts
+pub mod Stacks

@@ -133,6 +133,7 @@ fn a_call_is_answered(rt: HostRuntime) -> Result<(), Fail> {
     assert_eq!(rt; line.stage(), Stage::Pendent);
     assert_eq!(rt; line.operands().len(), 1);
     assert_eq!(rt; line.lend().done, 2);
+    assert_eq!(rt; line.awaited_at(), 2);
     assert_eq!(rt; line.missing(), Some(2));
     line.answer(number(alloc, 7)?);
     assert_eq!(rt; line.stage(), Stage::Ready);
@@ -150,6 +151,7 @@ fn a_call_gives_no_value(rt: HostRuntime) -> Result<(), Fail> {
     assert!(rt; give(&mut line, number(alloc, 5)?));
     assert!(rt; call(&mut line));
     assert!(rt; line.operands().is_empty());
+    assert_eq!(rt; line.awaited_at(), 3);
     assert_eq!(rt; line.missing(), None);
     line.empty();
     assert_eq!(rt; line.stage(), Stage::Emptied);

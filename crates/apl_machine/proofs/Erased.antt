@@ -10,7 +10,7 @@ use Rattle.apl_machine_state.specs.Objects as objects
 use Rattle.apl_machine_state.specs.declared.level.Level.{Level}
 use Rattle.apl_frames.specs.Flat.{Flat, flat_rest}
 use Rattle.apl_contexts.specs.declared.context.Context.{Context}
-use Rattle.apl_contexts.specs.declared.context.Context.TheVariants.{Statement, Call}
+use Rattle.apl_contexts.specs.declared.context.Context.TheVariants.{Statement, Call, Execute}
 use Rattle.apl_contexts.specs.Contexts.{calls, dressed, levels_in, under}
 use Rattle.apl_machine.specs.Spaces.{Space, IsSound, state_of}
 use Rattle.apl_vectors.specs.Vectors.{Vectors, without_vector}
@@ -31,6 +31,7 @@ dressed_erased n ms (Statement s ∷ cs) e = ap (λ (ds : List model.Context). m
 dressed_erased n [] (Call c ∷ cs) e = cc
 dressed_erased n (m ∷ []) (Call c ∷ cs) e = cc
 dressed_erased n (m ∷ k ∷ ms) (Call c ∷ cs) e = ap (λ (ds : List model.Context). model.Call c.definition c.at m (option_map flat_rest c.rest) ∷ ds) (dressed_erased n (k ∷ ms) cs (omega arith))
+dressed_erased n ms (Execute s ∷ cs) e = ap (λ (ds : List model.Context). model.Execute s.text (flat_rest s.line) ∷ ds) (dressed_erased n ms cs e)
 
 under_erased : (n : Text) (ms : List Map) (cs : List Context) → length ms ≡ suc (calls cs) → under (without_global n ms) cs ≡ without_entry n (under ms cs)
 under_erased n [] [] e = cc
@@ -40,6 +41,7 @@ under_erased n ms (Statement s ∷ cs) e = under_erased n ms cs e
 under_erased n [] (Call c ∷ cs) e = cc
 under_erased n (m ∷ []) (Call c ∷ cs) e = cc
 under_erased n (m ∷ k ∷ ms) (Call c ∷ cs) e = under_erased n (k ∷ ms) cs (omega arith)
+under_erased n ms (Execute s ∷ cs) e = under_erased n ms cs e
 
 pub erase_sound : (s : Space) (ns : List Map) (stops traces : Vectors) (n : Text) → IsSound s → ns ≡ without_global n s.maps → IsSound (record s { maps = ns; kept = settings stops traces s.kept.origin })
 erase_sound s ns stops traces n h e = subst (λ (x : List Map). IsSound (record s { maps = x; kept = settings stops traces s.kept.origin })) (sym e) (record {
@@ -64,6 +66,7 @@ levels_are : (ms : List Map) (cs : List Context) → objects.levels (dressed ms 
 levels_are ms [] = refl
 levels_are ms (Statement s ∷ cs) = levels_are ms cs
 levels_are ms (Call c ∷ cs) = level_of c ms cs c.rest (levels_are (drop 1 ms) cs)
+levels_are ms (Execute s ∷ cs) = levels_are ms cs
 
 pub levels_read : (s : Space) (t : State) (r : Result (Vec Level) AllocError) → state_of s ≡ t → IfOk r (λ v. v.items ≡ levels_in s.contexts) → IfOk r (λ v. v.items ≡ objects.levels t.contexts)
 levels_read s t r e h = then_ok r (λ v i. i ∙ sym (levels_are s.maps s.contexts) ∙ ap (λ (u : State). objects.levels u.contexts) e) h

@@ -1,13 +1,17 @@
 pub mod Environments
+pub mod Phrases
+pub mod Leaves
 pub mod Steps
 pub mod Faulty
 pub mod Sound
+pub mod There
 pub mod Lines
 pub mod Given
 pub mod Resumed
 pub mod CallNames
 pub mod Entered
 pub mod Ends
+pub mod Executed
 pub mod Readers
 pub mod Parts
 pub mod Erased

@@ -1,7 +1,8 @@
 -- What the readers of a machine see of its state, and what defining and interrupting make of it.
 use Rattle.std.proofs.Common.{◌≡◌, ℕ, zero, suc, Bool, true, false, List, [], ◌∷◌, drop, length, Option, Some, None, refl, sym, ap, ◌∙◌, arith}
-use Rattle.std.specs.Prelude.{slice_get, is_some, IsSome, if◌then◌else◌, Result, Ok, Err, IfOk}
+use Rattle.std.specs.Prelude.{slice_get, is_some, if◌then◌else◌, Result, Ok, Err, IfOk}
 use Rattle.std.specs.Option.{option_map}
+use Rattle.apl_arrays.specs.Cells.{Arr}
 use Rattle.apl_names.specs.declared.binding.Binding.{Binding}
 use Rattle.apl_names.specs.Maps.{Map, Text, assigned, class_in, first_map, found, last_map, said, value_in, with_entry, with_global}
 use Rattle.apl_machine_state.specs.Items.{Rest}
@@ -9,17 +10,18 @@ use Rattle.apl_machine_state.specs.Environment as model
 use Rattle.apl_machine_state.specs.Environment.{World, class_of, environment, rest_at}
 use Rattle.apl_defn.specs.Definitions.{Definition, is_line}
 use Rattle.apl_machine_state.specs.Calls.{begun_line}
-use Rattle.apl_machine_state.specs.Changes.{Arrives, Moves, line_from, returns}
+use Rattle.apl_machine_state.specs.Changes.{Arrives, Moves, branch_to, escape_to, line_from, resumed, returns}
 use Rattle.apl_machine_state.specs.State.{State, applied, arrived, comes_to, value_of}
 use Rattle.apl_vectors.specs.Vectors.{has_line}
 use Rattle.apl_frames.specs.Flat.{flat_rest}
 use Rattle.apl_contexts.specs.declared.context.Context.{Context}
-use Rattle.apl_contexts.specs.declared.context.Context.TheVariants.{Statement, Call}
+use Rattle.apl_contexts.specs.declared.context.Context.TheVariants.{Statement, Call, Execute}
 use Rattle.apl_contexts.specs.Contexts.{calls, dressed, line_in, rest_in, under}
-use Rattle.apl_contexts.specs.declared.context.Statement.{Statement as Typed}
-use Rattle.apl_machine.specs.Changes.{branched, ended, escaped}
+use Rattle.apl_machine.specs.Changes.{ended}
+use Rattle.apl_machine.specs.Executing.{executes}
 use Rattle.apl_machine.specs.Spaces.{Space, IsSound, IsStatement, branched_in, state_of}
 use Rattle.apl_machine.proofs.Environments.{env_is}
+use Rattle.apl_machine.proofs.There.{IsThere}
 use Rattle.apl_machine.specs.Worlds.{Settings, world_at}
 
 -- what follows for a result
@@ -45,6 +47,7 @@ last_under ms (Statement s ∷ cs) e = last_under ms cs e
 last_under [] (Call c ∷ cs) e = cc
 last_under (m ∷ []) (Call c ∷ cs) e = cc
 last_under (m ∷ k ∷ ms) (Call c ∷ cs) e = last_under (k ∷ ms) cs (omega arith)
+last_under ms (Execute s ∷ cs) e = last_under ms cs e
 
 pub global_reads : (s : Space) (t : State) (name : Text) → IsSound s → state_of s ≡ t → said (last_map s.maps) name ≡ said t.world.globals name
 global_reads s t name h e = ap (λ (m : Map). said m name) (last_under s.maps s.contexts h.contexts.as_many) ∙ ap (λ (u : State). said u.world.globals name) e
@@ -59,8 +62,10 @@ rest_is : (ms : List Map) (cs : List Context) (k : ℕ) → rest_at (dressed ms 
 rest_is ms [] k = refl
 rest_is ms (Statement s ∷ cs) zero = refl
 rest_is ms (Call c ∷ cs) zero = refl
+rest_is ms (Execute s ∷ cs) zero = refl
 rest_is ms (Statement s ∷ cs) (suc k) = rest_is ms cs k
 rest_is ms (Call c ∷ cs) (suc k) = rest_is (drop 1 ms) cs k
+rest_is ms (Execute s ∷ cs) (suc k) = rest_is ms cs k
 
 pub rest_reads : (s : Space) (t : State) (k : ℕ) (o : Option Context) → state_of s ≡ t → o ≡ slice_get s.contexts k → rest_at t.contexts k ≡ rest_got o
 rest_reads s t k o e g = ap (λ (u : State). rest_at u.contexts k) (sym e) ∙ rest_is s.maps s.contexts k ∙ ap rest_got (sym g)
@@ -81,6 +86,7 @@ dressed_global n b ms (Statement s ∷ cs) e = ap (λ (ds : List model.Context).
 dressed_global n b [] (Call c ∷ cs) e = cc
 dressed_global n b (m ∷ []) (Call c ∷ cs) e = cc
 dressed_global n b (m ∷ k ∷ ms) (Call c ∷ cs) e = ap (λ (ds : List model.Context). model.Call c.definition c.at m (option_map flat_rest c.rest) ∷ ds) (dressed_global n b (k ∷ ms) cs (omega arith))
+dressed_global n b ms (Execute s ∷ cs) e = ap (λ (ds : List model.Context). model.Execute s.text (flat_rest s.line) ∷ ds) (dressed_global n b ms cs e)
 
 pub under_global : (n : Text) (b : Binding) (ms : List Map) (cs : List Context) → length ms ≡ suc (calls cs) → under (with_global n b ms) cs ≡ with_entry n b (under ms cs)
 under_global n b [] [] e = cc
@@ -90,6 +96,7 @@ under_global n b ms (Statement s ∷ cs) e = under_global n b ms cs e
 under_global n b [] (Call c ∷ cs) e = cc
 under_global n b (m ∷ []) (Call c ∷ cs) e = cc
 under_global n b (m ∷ k ∷ ms) (Call c ∷ cs) e = under_global n b (k ∷ ms) cs (omega arith)
+under_global n b ms (Execute s ∷ cs) e = under_global n b ms cs e
 
 -- ---- an assignment adds no map
 
@@ -118,34 +125,46 @@ by_test : (line : Bool) (s : State) (w : World) (contexts : List model.Context) 
 by_test true s w contexts d locals below = (refl, refl)
 by_test false s w contexts d locals below = (refl, refl)
 
-typed_ends : (s : State) (ms : List Map) (kept : Settings) (q : Typed) (cs : List Context) (aim : Option ℕ) (texts : List Text) → ((applied s (branched (world_at ms kept (Statement q ∷ cs)) (dressed ms (Statement q ∷ cs)) aim texts)).ended ≡ true) × ((applied s (branched (world_at ms kept (Statement q ∷ cs)) (dressed ms (Statement q ∷ cs)) aim texts)).stopped ≡ false)
-typed_ends s ms kept q [] aim texts = (refl, refl)
-typed_ends s ms kept q (Statement r ∷ cs) aim texts = (refl, refl)
-typed_ends s ms kept q (Call c ∷ cs) None texts = (refl, refl)
-typed_ends s ms kept q (Call c ∷ cs) (Some m) texts = by_test (is_line c.definition m) s (world_at ms kept (Statement q ∷ Call c ∷ cs)) (begun_line (world_at ms kept (Statement q ∷ Call c ∷ cs)) c.definition m (first_map ms) (dressed (drop 1 ms) cs)) c.definition (first_map ms) (dressed (drop 1 ms) cs)
+typed_ends : (s : State) (ms : List Map) (kept : Settings) (cs : List Context) (aim : Option ℕ) → ((applied s (resumed (world_at ms kept cs) (dressed ms cs) aim)).ended ≡ true) × ((applied s (resumed (world_at ms kept cs) (dressed ms cs) aim)).stopped ≡ false)
+typed_ends s ms kept [] aim = (refl, refl)
+typed_ends s ms kept (Statement r ∷ cs) aim = (refl, refl)
+typed_ends s ms kept (Execute r ∷ cs) aim = (refl, refl)
+typed_ends s ms kept (Call c ∷ cs) None = (refl, refl)
+typed_ends s ms kept (Call c ∷ cs) (Some m) = by_test (is_line c.definition m) s (world_at ms kept (Call c ∷ cs)) (begun_line (world_at ms kept (Call c ∷ cs)) c.definition m (first_map ms) (dressed (drop 1 ms) cs)) c.definition (first_map ms) (dressed (drop 1 ms) cs)
 
-pub branch_ends : (s : State) (ms : List Map) (kept : Settings) (cs : List Context) (aim : Option ℕ) (texts : List Text) → IsSome (line_in cs) → (applied s (branched (world_at ms kept cs) (dressed ms cs) aim texts)).ended ≡ true
-branch_ends s ms kept [] aim texts h = cc
-branch_ends s ms kept (Statement q ∷ cs) aim texts h = (typed_ends s ms kept q cs aim texts).0
+pub branch_ends : (s : State) (ms : List Map) (kept : Settings) (cs : List Context) (aim : Option ℕ) (texts : List Text) → IsThere cs → (applied s (branch_to (world_at ms kept cs) (dressed ms cs) aim texts)).ended ≡ true
+branch_ends s ms kept [] aim texts h = absurd h
+branch_ends s ms kept (Statement q ∷ cs) aim texts h = (typed_ends s ms kept cs aim).0
 branch_ends s ms kept (Call c ∷ cs) aim texts h = arrived_ends (is_line c.definition (line_from c.at aim)) s (world_at ms kept (Call c ∷ cs)) c.definition (line_from c.at aim) (first_map ms) (dressed (drop 1 ms) cs) texts
+branch_ends s ms kept (Execute q ∷ cs) aim texts h = branch_ends s ms kept cs aim texts h
+
+branch_goes_on : (s : State) (ms : List Map) (kept : Settings) (cs : List Context) (aim : Option ℕ) (texts : List Text) → IsStatement cs → false ≡ (applied s (branch_to (world_at ms kept cs) (dressed ms cs) aim texts)).stopped
+branch_goes_on s ms kept [] aim texts h = absurd h
+branch_goes_on s ms kept (Statement q ∷ cs) aim texts h = sym (typed_ends s ms kept cs aim).1
+branch_goes_on s ms kept (Call c ∷ cs) aim texts h = absurd h
+branch_goes_on s ms kept (Execute q ∷ cs) aim texts h = branch_goes_on s ms kept cs aim texts h
 
 pub branch_goes : (s : Space) (aim : Option ℕ) (texts : List Text) → IsStatement s.contexts → false ≡ (branched_in s aim texts).stopped
-branch_goes s aim texts h = by_contexts s.contexts h
-  where
-    by_contexts : (cs : List Context) → IsStatement cs → false ≡ (applied (state_of s) (branched (world_at s.maps s.kept cs) (dressed s.maps cs) aim texts)).stopped
-    by_contexts [] h = absurd h
-    by_contexts (Statement q ∷ cs) h = sym (typed_ends (state_of s) s.maps s.kept q cs aim texts).1
-    by_contexts (Call c ∷ cs) h = absurd h
+branch_goes s aim texts h = branch_goes_on (state_of s) s.maps s.kept s.contexts aim texts h
 
-pub end_ends : (s : State) (ms : List Map) (kept : Settings) (cs : List Context) (texts : List Text) → IsSome (line_in cs) → (applied s (ended (world_at ms kept cs) (dressed ms cs) texts)).ended ≡ true
-end_ends s ms kept [] texts h = cc
-end_ends s ms kept (Statement q ∷ cs) texts h = refl
-end_ends s ms kept (Call c ∷ cs) texts h = arrived_ends (is_line c.definition (suc c.at)) s (world_at ms kept (Call c ∷ cs)) c.definition (suc c.at) (first_map ms) (dressed (drop 1 ms) cs) texts
+pub end_ends : (s : State) (ms : List Map) (kept : Settings) (cs : List Context) (texts : List Text) → executes cs ≡ false → is_some (line_in cs) ≡ true → (applied s (ended (world_at ms kept cs) (dressed ms cs) None texts)).ended ≡ true
+end_ends s ms kept [] texts b h = cc
+end_ends s ms kept (Statement q ∷ cs) texts b h = refl
+end_ends s ms kept (Call c ∷ cs) texts b h = arrived_ends (is_line c.definition (suc c.at)) s (world_at ms kept (Call c ∷ cs)) c.definition (suc c.at) (first_map ms) (dressed (drop 1 ms) cs) texts
+end_ends s ms kept (Execute q ∷ cs) texts b h = cc
 
-pub escape_ends : (s : State) (ms : List Map) (kept : Settings) (cs : List Context) (texts : List Text) → IsSome (line_in cs) → ((applied s (escaped (world_at ms kept cs) (dressed ms cs) texts)).stopped ≡ false) × ((applied s (escaped (world_at ms kept cs) (dressed ms cs) texts)).ended ≡ true)
-escape_ends s ms kept [] texts h = cc
+pub escape_ends : (s : State) (ms : List Map) (kept : Settings) (cs : List Context) (texts : List Text) → IsThere cs → ((applied s (escape_to (world_at ms kept cs) (dressed ms cs) texts)).stopped ≡ false) × ((applied s (escape_to (world_at ms kept cs) (dressed ms cs) texts)).ended ≡ true)
+escape_ends s ms kept [] texts h = absurd h
 escape_ends s ms kept (Statement q ∷ cs) texts h = (refl, refl)
 escape_ends s ms kept (Call c ∷ cs) texts h = (refl, refl)
+escape_ends s ms kept (Execute q ∷ cs) texts h = escape_ends s ms kept cs texts h
+
+-- the end of a text that is executed ends no line
+pub answer_goes : (s : State) (ms : List Map) (kept : Settings) (cs : List Context) (value : Option Arr) → executes cs ≡ true → ((applied s (ended (world_at ms kept cs) (dressed ms cs) value [])).stopped ≡ false) × ((applied s (ended (world_at ms kept cs) (dressed ms cs) value [])).ended ≡ false)
+answer_goes s ms kept [] value e = cc
+answer_goes s ms kept (Statement q ∷ cs) value e = cc
+answer_goes s ms kept (Call c ∷ cs) value e = cc
+answer_goes s ms kept (Execute q ∷ cs) value e = (refl, refl)
 
 -- a call ends a line only where it stops before one
 pub call_ends : (s : State) (w : World) (d : Definition) (locals : Map) (below : List model.Context) → (applied s (Arrives w d 1 locals below [] false)).ended ≡ (applied s (Arrives w d 1 locals below [] false)).stopped

@@ -1,5 +1,6 @@
 pub mod Worlds
 pub mod Deeds
+pub mod Executing
 pub mod Traces
 pub mod Leaving
 pub mod Reduced

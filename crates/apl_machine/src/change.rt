@@ -1,5 +1,5 @@
 //! What a step makes of a machine.
-ghost use Rattle.std.specs.Prelude.{◌≡◌, ◌≤◌, ◌∷◌, [], true, IfOk, IsSome, List, Some, ℕ, length, reverse};
+ghost use Rattle.std.specs.Prelude.{◌≡◌, ◌≤◌, ◌∷◌, [], true, IfOk, IsSome, List, None, Some, ℕ, length, reverse};
 ghost use Rattle.apl_arrays.specs.Cells.{Numbers};
 ghost use Rattle.apl_arrays.specs.Simple.{vector};
 ghost use Rattle.apl_format.specs.Display.{display};
@@ -11,9 +11,10 @@ ghost use Rattle.apl_machine_state.specs.Reports.{fault_lines};
 ghost use Rattle.apl_machine_state.specs.Watching.{arrow, blank};
 ghost use Rattle.apl_operands.specs.Operands.{AreThere, fetched};
 ghost use Rattle.apl_frames.specs.Ends.{HoldsValue, IsColumn, has_place, is_of_value};
-ghost use Rattle.apl_contexts.specs.Contexts.{AreSound, dressed, line_in, lines_in};
+ghost use Rattle.apl_contexts.specs.Contexts.{AreSound, AreStacked, Newest, dressed, line_in, lines_in};
 ghost use Rattle.apl_machine.specs.Changes.{IsChange};
-ghost use Rattle.apl_machine.specs.Leaving.{Aims, Faulty, IsLeaving, Shows, leaving};
+ghost use Rattle.apl_machine.specs.Executing.{executes};
+ghost use Rattle.apl_machine.specs.Leaving.{Aims, Faulty, IsLeaving, finished, leaving};
 ghost use Rattle.apl_machine.specs.Reduced.{IsReduced};
 ghost use Rattle.apl_machine.specs.Traces.{trace_of};
 ghost use Rattle.apl_machine.specs.Worlds.{settings};
@@ -22,7 +23,7 @@ ghost use Rattle.apl_phrases.specs.Effects.{acted, seen};
 use crate::reports::context_fault;
 use crate::traces::{trace, trace_value};
 use apl_arrays::{Array, Ravel};
-use apl_charset::Ch;
+use apl_charset::{Ch, Text};
 use apl_code::{Action, Ending, Instr};
 use apl_contexts::{Context, Contexts};
 use apl_faults::Fault;
@@ -33,6 +34,7 @@ use apl_names::{DefinedFunction, Names};
 use apl_operands::{Given, Operands, last_operand, left, one_value};
 use apl_phrases::{Deed, Effect, Scene, perform, said};
 use apl_symbols::Name;
+use apl_tokens::Token;
 use apl_vectors::Vectors;
 use std::alloc::{AllocError, Global};
 
@@ -46,8 +48,12 @@ pub enum Change {
     Asks(Watch, Name, Option<Vec<usize>>, usize),
     /// A phrase calls a function with these arguments, with so many operands left.
     Calls(DefinedFunction, Option<Array>, Option<Array>, usize),
-    /// The line ends, and these lines are written.
+    /// A phrase executes a text, of these tokens, with so many operands left.
+    Executes(Text, Vec<Token>, usize),
+    /// The line of a statement or a call ends, and these lines are written.
     Ends(Vec<OutLine>),
+    /// A text that is executed ends with this value, or without one.
+    Answers(Option<Array>),
     /// The line branches to the line of this number, or on, and these lines are written.
     Branches(Option<usize>, Vec<OutLine>),
     /// `→` alone drops the contexts through the nearest statement, and these lines are written.
@@ -86,17 +92,19 @@ fn aim(array: &Array) -> Option<usize>
     }
 }
 
-/// A fault in the line of a context.
+/// A fault in the line of the newest context.
 fn failing(
     alloc: Global,
     fault: Fault,
-    context: &Context,
+    contexts: &Contexts,
     column: usize,
 ) -> Result<Change, AllocError>
-    requires { (1 ≤ column) × (column ≤ 501) }
-    ensures { IfOk result (λ change. (ms : List Map) (trace : List ℕ → List (List ℕ) → List (List ℕ)) (rest : Fault → List (List ℕ)) → rest fault ≡ fault_lines fault column (dressed ms (context.now ∷ [])) → IsLeaving change (Faulty fault) trace rest) }
+    requires stacked { AreStacked Newest contexts.now }
+    requires column { IsColumn column }
+    ensures { IfOk result (λ change. (ms : List Map) (trace : List ℕ → List (List ℕ) → List (List ℕ)) (rest : Fault → List (List ℕ)) → rest fault ≡ fault_lines fault column (dressed ms contexts.now) → IsLeaving change (Faulty fault) trace rest) }
 {
-    Ok(Change::Fails(context_fault(alloc, fault, context, column)?))
+    let report = context_fault(alloc, fault, contexts.stack(), column)?;
+    Ok(Change::Fails(report))
 }
 
 /// The mark of a trace before where a branch goes.
@@ -107,97 +115,127 @@ fn arrow() -> [Ch; 2]
     [Ch::ascii(b' '), Ch::member('→')]
 }
 
-/// The line of a context ends with a value that isn't shown.
+/// Whether the newest context is a text that is executed.
+fn executes(contexts: &Contexts) -> bool
+    ensures { result ≡ executes contexts.now }
+{
+    matches!(contexts.newest(), Some(Context::Execute(_)))
+}
+
+/// The newest line ends without a value.
+fn finishing(alloc: Global, traces: &Vectors, contexts: &Contexts) -> Result<Change, AllocError>
+    ensures { IfOk result (λ change. (report : Fault → List (List ℕ)) → IsLeaving change (finished (executes contexts.now) None [] [] []) (trace_of traces.now contexts.now) report) }
+{
+    if executes(contexts) {
+        return Ok(Change::Answers(None));
+    }
+    Ok(Change::Ends(trace(alloc, traces, contexts.call(), &[])?))
+}
+
+/// The newest line ends with a value that isn't shown.
 fn hiding(
     alloc: Global,
     traces: &Vectors,
-    context: &Context,
+    contexts: &Contexts,
     value: &Array,
 ) -> Result<Change, AllocError>
-    ensures { IfOk result (λ change. (report : Fault → List (List ℕ)) → IsLeaving change (Shows [] blank (display value.now)) (trace_of traces.now context.now) report) }
+    ensures { IfOk result (λ change. (report : Fault → List (List ℕ)) → IsLeaving change (finished (executes contexts.now) (Some value.now) [] blank (display value.now)) (trace_of traces.now contexts.now) report) }
 {
+    if executes(contexts) {
+        return Ok(Change::Answers(Some(value.copy()?)));
+    }
     let mark = [Ch::ascii(b' ')];
-    Ok(Change::Ends(trace_value(alloc, traces, context, &mark, value)?))
-}
-
-/// The line of a context shows a value.
-fn showing(
-    alloc: Global,
-    traces: &Vectors,
-    context: &Context,
-    value: &Array,
-) -> Result<Change, AllocError>
-    ensures { IfOk result (λ change. (report : Fault → List (List ℕ)) → IsLeaving change (Shows (display value.now) blank (display value.now)) (trace_of traces.now context.now) report) }
-{
-    let mark = [Ch::ascii(b' ')];
-    let mut lines = said(alloc, display(alloc, value)?)?;
-    lines.append(&mut trace_value(alloc, traces, context, &mark, value)?)?;
+    let lines = trace_value(alloc, traces, contexts.call(), &mark, value)?;
     Ok(Change::Ends(lines))
 }
 
-/// The line of a context branches to a value, which is no character.
+/// The newest line shows a value, or gives it where it is a text that is executed.
+fn showing(
+    alloc: Global,
+    traces: &Vectors,
+    contexts: &Contexts,
+    value: &Array,
+) -> Result<Change, AllocError>
+    ensures { IfOk result (λ change. (report : Fault → List (List ℕ)) → IsLeaving change (finished (executes contexts.now) (Some value.now) (display value.now) blank (display value.now)) (trace_of traces.now contexts.now) report) }
+{
+    if executes(contexts) {
+        return Ok(Change::Answers(Some(value.copy()?)));
+    }
+    let mark = [Ch::ascii(b' ')];
+    let mut lines = said(alloc, display(alloc, value)?)?;
+    let mut traced = trace_value(alloc, traces, contexts.call(), &mark, value)?;
+    lines.append(&mut traced)?;
+    Ok(Change::Ends(lines))
+}
+
+/// The newest line branches to a value, which is no character.
 fn branching(
     alloc: Global,
     traces: &Vectors,
-    context: &Context,
+    contexts: &Contexts,
     value: &Array,
 ) -> Result<Change, AllocError>
-    ensures { IfOk result (λ change. (report : Fault → List (List ℕ)) → IsLeaving change (Aims (aim value.now.items) (display value.now)) (trace_of traces.now context.now) report) }
+    ensures { IfOk result (λ change. (report : Fault → List (List ℕ)) → IsLeaving change (Aims (aim value.now.items) (display value.now)) (trace_of traces.now contexts.now) report) }
 {
-    let lines = trace_value(alloc, traces, context, &arrow(), value)?;
+    let lines = trace_value(alloc, traces, contexts.call(), &arrow(), value)?;
     Ok(Change::Branches(aim(value), lines))
 }
 
-/// How a line is left with a value.
+/// How the newest line is left with a value.
 fn leaving_with(
     alloc: Global,
     ending: Ending,
     instr: &Instr,
     value: &Array,
     traces: &Vectors,
-    context: &Context,
+    contexts: &Contexts,
 ) -> Result<Change, AllocError>
     requires value { is_of_value ending ≡ true }
     requires placed { has_place ending ≡ true → IsColumn instr.now.at }
-    ensures { IfOk result (λ change. (ms : List Map) → IsLeaving change (leaving ending (Some (Value value.now) ∷ [])) (trace_of traces.now context.now) (λ fault. fault_lines fault instr.now.at (dressed ms (context.now ∷ [])))) }
+    requires stacked { AreStacked Newest contexts.now }
+    ensures { IfOk result (λ change. (ms : List Map) → IsLeaving change (leaving (executes contexts.now) ending (Some (Value value.now) ∷ [])) (trace_of traces.now contexts.now) (λ fault. fault_lines fault instr.now.at (dressed ms contexts.now))) }
 {
     match ending {
-        Ending::Hidden => hiding(alloc, traces, context, value),
-        Ending::Shown => showing(alloc, traces, context, value),
+        Ending::Hidden => hiding(alloc, traces, contexts, value),
+        Ending::Shown => showing(alloc, traces, contexts, value),
         Ending::Branch => {
             if leads_nowhere(value) {
-                failing(alloc, Fault::Domain, context, instr.at)
+                failing(alloc, Fault::Domain, contexts, instr.at)
             } else {
-                branching(alloc, traces, context, value)
+                branching(alloc, traces, contexts, value)
             }
         }
         _ => unreachable!(),
     }
 }
 
-/// How a line is left.
+/// How the newest line is left.
 fn leaving(
     alloc: Global,
     ending: Ending,
     instr: &Instr,
     operands: Operands<'_>,
     traces: &Vectors,
-    context: &Context,
+    contexts: &Contexts,
 ) -> Result<Change, AllocError>
     requires there { AreThere (length operands.constants.now) instr.now.arguments (length operands.stack.now) }
     requires value { is_of_value ending ≡ true → HoldsValue (fetched operands.constants.now instr.now.arguments (reverse operands.stack.now)) }
     requires placed { has_place ending ≡ true → IsColumn instr.now.at }
-    ensures { IfOk result (λ change. (ms : List Map) → IsLeaving change (leaving ending (fetched operands.entry.constants.now instr.now.arguments (reverse operands.entry.stack.now))) (trace_of traces.now context.now) (λ fault. fault_lines fault instr.now.at (dressed ms (context.now ∷ [])))) }
+    requires stacked { AreStacked Newest contexts.now }
+    ensures { IfOk result (λ change. (ms : List Map) → IsLeaving change (leaving (executes contexts.now) ending (fetched operands.entry.constants.now instr.now.arguments (reverse operands.entry.stack.now))) (trace_of traces.now contexts.now) (λ fault. fault_lines fault instr.now.at (dressed ms contexts.now))) }
 {
     match ending {
-        Ending::Nothing => Ok(Change::Ends(trace(alloc, traces, context, &[])?)),
-        Ending::Escape => Ok(Change::Escapes(trace(alloc, traces, context, &arrow())?)),
-        Ending::Fail => failing(alloc, Fault::Syntax, context, instr.at),
+        Ending::Nothing => finishing(alloc, traces, contexts),
+        Ending::Escape => {
+            let lines = trace(alloc, traces, contexts.call(), &arrow())?;
+            Ok(Change::Escapes(lines))
+        }
+        Ending::Fail => failing(alloc, Fault::Syntax, contexts, instr.at),
         _ => {
             let Some(value) = one_value(instr.arguments.as_slice(), operands) else {
                 unreachable!()
             };
-            leaving_with(alloc, ending, instr, value, traces, context)
+            leaving_with(alloc, ending, instr, value, traces, contexts)
         }
     }
 }
@@ -220,17 +258,17 @@ fn reduce(
     alloc: Global,
     scene: Scene<'_>,
     contexts: &Contexts,
-    context: &Context,
     instr: &Instr,
     operands: Operands<'_>,
 ) -> Result<Change, AllocError>
     requires there { AreThere (length operands.constants.now) instr.now.arguments (length operands.stack.now) }
     requires small { scene.io ≤ 1 }
     requires placed { IsColumn instr.now.at }
-    ensures { IfOk result (λ change. (ms : List Map) → IsReduced change (acted (seen scene.entry (lines_in contexts.now)) instr.now.action (fetched operands.entry.constants.now instr.now.arguments (reverse operands.entry.stack.now))) operands.entry.stack.now instr.now.arguments (λ fault. fault_lines fault instr.now.at (dressed ms (context.now ∷ [])))) }
+    requires stacked { AreStacked Newest contexts.now }
+    ensures { IfOk result (λ change. (ms : List Map) → IsReduced change (acted (seen scene.entry (lines_in contexts.now)) instr.now.action (fetched operands.entry.constants.now instr.now.arguments (reverse operands.entry.stack.now))) operands.entry.stack.now instr.now.arguments (λ fault. fault_lines fault instr.now.at (dressed ms contexts.now))) }
 {
     let sources = instr.arguments.as_slice();
-    match perform(alloc, scene, instr.action, sources, operands)? {
+    match perform(alloc, scene, &instr.action, sources, operands)? {
         Effect::Gives(operand) => {
             let left = left(sources, operands.stack);
             Ok(Change::Goes(Given::New(operand), left, Deed::Nothing))
@@ -253,7 +291,11 @@ fn reduce(
             let left = left(sources, operands.stack);
             Ok(Change::Asks(which, name, lines, left))
         }
-        Effect::Fails(fault) => failing(alloc, fault, context, instr.at),
+        Effect::Executes(text, tokens) => {
+            let left = left(sources, operands.stack);
+            Ok(Change::Executes(text, tokens, left))
+        }
+        Effect::Fails(fault) => failing(alloc, fault, contexts, instr.at),
     }
 }
 
@@ -270,14 +312,11 @@ pub fn change_of(
     requires runs { IsSome (line_in contexts.now) }
     ensures { IfOk result (λ change. (stops : Vectors) → IsChange change names.now (settings stops traces.now io) contexts.now) }
 {
-    let Some(context) = contexts.newest() else {
-        unreachable!()
-    };
-    let Some(line) = context.line() else {
+    let Some(line) = contexts.line() else {
         unreachable!()
     };
     if line.stage() == Stage::Emptied {
-        return Ok(Change::Ends(trace(alloc, traces, context, &[])?));
+        return finishing(alloc, traces, contexts);
     }
     let instr = line.next();
     let operands = Operands {
@@ -285,12 +324,12 @@ pub fn change_of(
         stack: line.operands(),
     };
     if let Action::End(ending) = instr.action {
-        return leaving(alloc, ending, instr, operands, traces, context);
+        return leaving(alloc, ending, instr, operands, traces, contexts);
     }
     let scene = Scene {
         names,
         io,
-        standing: names.depth() - 1,
+        standing: contexts.standing(),
     };
-    reduce(alloc, scene, contexts, context, instr, operands)
+    reduce(alloc, scene, contexts, instr, operands)
 }

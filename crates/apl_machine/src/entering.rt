@@ -13,7 +13,7 @@ use crate::reports::context_fault;
 use crate::traces::stop_report;
 use crate::workspace::Workspace;
 use apl_arrays::Array;
-use apl_contexts::{Call, Move, begin_line};
+use apl_contexts::{Call, Context, Move, begin_line};
 use apl_faults::Fault;
 use apl_names::{Binding, DefinedFunction};
 use apl_phrases::Scene;
@@ -32,7 +32,8 @@ impl Workspace {
             unreachable!()
         };
         let line = begin_line(self.alloc, &self.names, &mut self.cache, tokens)?;
-        self.contexts.enter(Call::new(function, 1, line), left)?;
+        let call = Call::new(function, 1, line);
+        self.contexts.enter(Context::Call(call), left)?;
         Ok(())
     }
 
@@ -53,7 +54,8 @@ impl Workspace {
         let report = stop_report(self.alloc, function.definition(), 1)?;
         self.output.reserve(1)?;
         self.names.enter(names)?;
-        match self.contexts.enter(Call::stopped(function, 1), left) {
+        let call = Call::stopped(function, 1);
+        match self.contexts.enter(Context::Call(call), left) {
             Ok(()) => {
                 self.output.push(report).unwrap();
                 Ok(())
@@ -76,17 +78,15 @@ impl Workspace {
         ensures ok { OnOk result (state_of self.new ≡ nothing_in self.old left) }
         ensures err { OnErr result (self.new ≡ self.old) }
     {
-        let Some(caller) = self.contexts.newest() else {
-            unreachable!()
-        };
-        let Some(line) = caller.line() else {
+        let Some(line) = self.contexts.line() else {
             unreachable!()
         };
         let frame = line.lend();
         let Some(instr) = frame.code.instr(frame.done) else {
             unreachable!()
         };
-        let mut report = context_fault(self.alloc, Fault::Value, caller, instr.at)?;
+        let stack = self.contexts.stack();
+        let mut report = context_fault(self.alloc, Fault::Value, stack, instr.at)?;
         self.output.reserve(report.len())?;
         self.contexts.change(Move::Awaits(left));
         let Some(line) = self.contexts.line() else {
@@ -153,7 +153,7 @@ impl Workspace {
         let scene = Scene {
             names: &self.names,
             io: self.io,
-            standing: self.names.depth() - 1,
+            standing: self.contexts.standing(),
         };
         let (first, second) = arguments;
         let names = names_of_call(self.alloc, scene, function.definition(), first, second)?;

@@ -1,8 +1,11 @@
-//! The machine: it does typed statements and calls of functions, a phrase a step.
+//! The machine: it does typed statements, calls of functions and texts that are executed, a phrase a
+//! step.
 #![tactic(auto)]
 
+mod branching;
 mod change;
 mod entering;
+mod executing;
 mod locals;
 mod machine;
 mod objects;

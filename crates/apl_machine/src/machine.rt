@@ -5,7 +5,7 @@ ghost use Rattle.apl_machine_state.specs.Environment.{class_of, rest_at};
 ghost use Rattle.apl_machine_state.specs.Frames.{IsFrame};
 ghost use Rattle.apl_machine_state.specs.Objects.{cleared, erased, globals, levels, vectors_of};
 ghost use Rattle.apl_machine_state.specs.State.{State, clear, definition_of, interrupt, is_global_variable, is_idle, progress, step, turn, value_of, with_function, with_lines};
-ghost use Rattle.apl_machine_state.specs.Beginning.{begun, colon_of, started};
+ghost use Rattle.apl_machine_state.specs.Beginning.{begun, started};
 ghost use Rattle.apl_tokens.specs.Tokens.{tokens_of};
 ghost use Rattle.apl_contexts.specs.Contexts.{line_in};
 ghost use Rattle.apl_machine.specs.Spaces.{IsSound, state_of};
@@ -23,9 +23,9 @@ use apl_faults::Fault;
 use apl_frames::Frame;
 use apl_machine_state::{Level, OutLine, Progress};
 use apl_names::Names;
-use apl_phrases::said;
-use apl_symbols::{Class, Name, Symbol};
-use apl_tokens::{Kind, Token, tokens};
+use apl_phrases::{colon_of, said};
+use apl_symbols::{Class, Name};
+use apl_tokens::{Token, tokens};
 use apl_translate::Cache;
 use apl_vectors::Vectors;
 use std::alloc::{AllocError, Global};
@@ -70,22 +70,6 @@ impl From<AllocError> for BeginError {
 
     fn from(_error: AllocError) -> BeginError {
         BeginError::Memory
-    }
-}
-
-/// The column of the colon of a label.
-fn colon_of(tokens: &[Token]) -> Option<usize>
-    ensures { result ≡ colon_of tokens.now }
-{
-    match tokens {
-        [first, second, ..] => match first.kind {
-            Kind::Name(_) => match second.kind {
-                Kind::Symbol(Symbol::Colon) => Some(second.at),
-                _ => None,
-            },
-            _ => None,
-        },
-        _ => None,
     }
 }
 

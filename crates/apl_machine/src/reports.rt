@@ -5,10 +5,12 @@ ghost use Rattle.apl_names.specs.Maps.{Map};
 ghost use Rattle.apl_machine_state.specs.Reports.{fault_lines, said};
 ghost use Rattle.apl_tokens.specs.Tokens.{IsPlaced};
 ghost use Rattle.apl_machine_state.specs.Beginning.{token_fault};
-ghost use Rattle.apl_contexts.specs.Contexts.{dressed};
+ghost use Rattle.apl_frames.specs.Ends.{IsColumn};
+ghost use Rattle.apl_contexts.specs.Contexts.{AreStacked, Place, dressed};
+ghost use Rattle.apl_contexts.specs.Stacks.{lent};
 
 use apl_charset::{Ch, Text};
-use apl_contexts::{Context, Contexts};
+use apl_contexts::{Context, Stack};
 use apl_faults::{Call, Fault, report};
 use apl_machine_state::OutLine;
 use apl_phrases::said;
@@ -28,20 +30,22 @@ pub fn typed_fault(
     said(alloc, report(alloc, fault, None, text, column)?)
 }
 
-/// The report of a fault in the line of a context.
-pub fn context_fault(
+/// The report of a fault in the line of a context alone.
+fn line_fault(
     alloc: Global,
     fault: Fault,
     context: &Context,
     column: usize,
 ) -> Result<Vec<OutLine>, AllocError>
-    requires { (1 ≤ column) × (column ≤ 501) }
+    requires { IsColumn column }
     ensures { IfOk result (λ lines. (ms : List Map) → lines.items ≡ said (fault_lines fault column (dressed ms (context.now ∷ [])))) }
 {
     match context {
         Context::Statement(statement) => {
             typed_fault(alloc, fault, statement.text.as_slice(), column)
         }
+        // No fault is reported in a text that is executed.
+        Context::Execute(_) => Ok(Vec::new(alloc)),
         Context::Call(call) => {
             let place = Call {
                 name: call.definition().header().name.as_slice(),
@@ -53,6 +57,24 @@ pub fn context_fault(
             )
         }
     }
+}
+
+/// The report of a fault at a column of the newest of these contexts. One in a text that is executed
+/// is reported where it is executed.
+pub fn context_fault(
+    alloc: Global,
+    fault: Fault,
+    contexts: Stack<'_>,
+    column: usize,
+) -> Result<Vec<OutLine>, AllocError>
+    requires stacked { (p : Place) × AreStacked p (lent contexts) }
+    requires column { IsColumn column }
+    ensures { IfOk result (λ lines. (ms : List Map) → lines.items ≡ said (fault_lines fault column (dressed ms (lent contexts.entry)))) }
+{
+    let Some((context, place)) = contexts.blamed(column) else {
+        return Ok(Vec::new(alloc));
+    };
+    line_fault(alloc, fault, context, place)
 }
 
 /// The report of a typed text that is no line; for want of memory there is none.

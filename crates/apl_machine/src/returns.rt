@@ -1,14 +1,16 @@
 //! Returns of calls.
-ghost use Rattle.std.specs.Prelude.{◌≡◌, IfNone, IfOk, IfSome, IsSome, None, Some};
+ghost use Rattle.std.specs.Prelude.{◌≡◌, IfNone, IfOk, IfSome, IsSome, None, Some, option_copied};
 ghost use Rattle.apl_names.specs.Maps.{first_map, said, value_in};
 ghost use Rattle.apl_machine_state.specs.Calls.{result_of};
 ghost use Rattle.apl_frames.specs.Flat.{Stands};
-ghost use Rattle.apl_contexts.specs.Contexts.{rest_in};
+ghost use Rattle.apl_contexts.specs.Contexts.{AreStacked, Place, line_in};
+ghost use Rattle.apl_contexts.specs.Stacks.{lent};
 ghost use Rattle.apl_machine.specs.Spaces.{IsPendent, IsReturn};
 
 use crate::reports::context_fault;
-use apl_contexts::{Call, Context};
+use apl_contexts::{Call, Stack};
 use apl_faults::Fault;
+use apl_frames::FrameBuf;
 use apl_machine_state::OutLine;
 use apl_names::{Binding, Names};
 use apl_symbols::Name;
@@ -37,19 +39,30 @@ fn answering(names: &Names, call: &Call) -> Option<Name>
     }
 }
 
-/// What the return of a call makes of its caller's line, and what it writes. The call's map is the
-/// newest of the names.
+/// What the newest of these contexts is doing.
+fn newest_line(contexts: Stack<'_>) -> Option<&FrameBuf>
+    ensures { option_copied result ≡ line_in (lent contexts.entry) }
+{
+    match contexts.newest() {
+        Some(context) => context.line(),
+        None => None,
+    }
+}
+
+/// What the return of a call makes of the line of its caller, the newest of these contexts, and what
+/// it writes. The call's map is the newest of the names.
 pub(crate) fn returning(
     alloc: Global,
     names: &Names,
     call: &Call,
-    caller: &Context,
+    caller: Stack<'_>,
 ) -> Result<(Return, Vec<OutLine>), AllocError>
-    requires { IsPendent caller.now }
-    ensures is { IfOk result (λ r. IsReturn r.0 r.1.items names.now call.now caller.now) }
-    ensures stands { IfOk result (λ r. IfSome (rest_in caller.now) (λ f. Stands f)) }
+    requires pendent { IsPendent (lent caller) }
+    requires stacked { (p : Place) × AreStacked p (lent caller) }
+    ensures is { IfOk result (λ r. IsReturn r.0 r.1.items names.now call.now (lent caller.entry)) }
+    ensures stands { IfOk result (λ r. IfSome (line_in (lent caller.entry)) (λ f. Stands f)) }
 {
-    let Some(line) = caller.line() else {
+    let Some(line) = newest_line(caller) else {
         unreachable!()
     };
     let _lent = line.lend();

@@ -1,15 +1,15 @@
 //! What traced lines write, and what stops report.
-ghost use Rattle.std.specs.Prelude.{◌≡◌, ◌++◌, [], map, pos, true, IfNone, IfOk, IfSome};
+ghost use Rattle.std.specs.Prelude.{◌≡◌, ◌++◌, [], map, option_copied, pos, true, IfNone, IfOk, IfSome};
 ghost use Rattle.apl_faults.specs.Report.{place};
 ghost use Rattle.apl_format.specs.Display.{display};
 ghost use Rattle.apl_machine_state.specs.Reports.{said};
 ghost use Rattle.apl_machine_state.specs.State.{stop_report};
 ghost use Rattle.apl_machine_state.specs.Watching.{behind, lines_array};
-ghost use Rattle.apl_machine.specs.Traces.{IsTraced, IsUntraced, trace_of};
+ghost use Rattle.apl_machine.specs.Traces.{IsTraced, IsUntraced, trace_by};
 
 use apl_arrays::{Array, Ravel};
 use apl_charset::{Ch, Text};
-use apl_contexts::{Call, Context};
+use apl_contexts::Call;
 use apl_defn::Definition;
 use apl_faults::{Call as Place, place};
 use apl_format::display;
@@ -43,20 +43,16 @@ pub(crate) fn stop_report(
     Ok(OutLine { text, stop: true })
 }
 
-/// The call whose line this context does, if that line is traced.
-fn traced<'a>(traces: &Vectors, context: &'a Context) -> Option<&'a Call>
-    ensures some { IfSome result (λ call. IsTraced traces.now context.now call.now) }
-    ensures none { IfNone result (IsUntraced traces.now context.now) }
+/// The call, where there is one and its line is traced.
+fn traced<'a>(traces: &Vectors, call: Option<&'a Call>) -> Option<&'a Call>
+    ensures some { IfSome result (λ c. IsTraced traces.now (option_copied call.entry) c.now) }
+    ensures none { IfNone result (IsUntraced traces.now (option_copied call.entry)) }
 {
-    match context {
-        Context::Statement(_) => None,
-        Context::Call(call) => {
-            if traces.has(&call.definition().header().name, call.at()) {
-                Some(call)
-            } else {
-                None
-            }
-        }
+    let call = call?;
+    if traces.has(&call.definition().header().name, call.at()) {
+        Some(call)
+    } else {
+        None
     }
 }
 
@@ -88,34 +84,34 @@ fn trace_call(
     said(alloc, behind(front, lines)?)
 }
 
-/// What the line of a context writes as it ends without a value, if it is traced: its place and this
-/// mark.
+/// What a line writes as it ends without a value, if it is that of a call and traced: its place and
+/// this mark.
 pub(crate) fn trace(
     alloc: Global,
     traces: &Vectors,
-    context: &Context,
+    call: Option<&Call>,
     mark: &[Ch],
 ) -> Result<Vec<OutLine>, AllocError>
-    ensures { IfOk result (λ out. out.items ≡ said (trace_of traces.now context.now mark.now [])) }
+    ensures { IfOk result (λ out. out.items ≡ said (trace_by traces.now (option_copied call.entry) mark.now [])) }
 {
-    match traced(traces, context) {
+    match traced(traces, call) {
         Some(call) => trace_call(alloc, call, mark, Vec::new(alloc)),
         None => Ok(Vec::new(alloc)),
     }
 }
 
-/// What the line of a context writes as it ends with a value, if it is traced: its place, this mark,
-/// and the lines of the value's display, the first of them behind the mark.
+/// What a line writes as it ends with a value, if it is that of a call and traced: its place, this
+/// mark, and the lines of the value's display, the first of them behind the mark.
 pub(crate) fn trace_value(
     alloc: Global,
     traces: &Vectors,
-    context: &Context,
+    call: Option<&Call>,
     mark: &[Ch],
     value: &Array,
 ) -> Result<Vec<OutLine>, AllocError>
-    ensures { IfOk result (λ out. out.items ≡ said (trace_of traces.now context.now mark.now (display value.now))) }
+    ensures { IfOk result (λ out. out.items ≡ said (trace_by traces.now (option_copied call.entry) mark.now (display value.now))) }
 {
-    match traced(traces, context) {
+    match traced(traces, call) {
         Some(call) => trace_call(alloc, call, mark, display(alloc, value)?),
         None => Ok(Vec::new(alloc)),
     }

@@ -43,8 +43,11 @@ abbrev pub call_map : Scene → Definition → Option Arr → Option Arr → Map
 call_map s d a b = map_of (names_of_call s d a b)
 
 -- a line of these tokens begins, with the classes that its names have in these contexts
+abbrev pub line_begun : World → List Context → List Token → Rest
+line_begun w contexts tokens = fresh (bound_of tokens (map (class_of w contexts) (names_of tokens)))
+
 abbrev pub begun_of : World → List Context → Result (List Token) TokenError → Option Rest
-begun_of w contexts (Ok tokens) = Some (fresh (bound_of tokens (map (class_of w contexts) (names_of tokens))))
+begun_of w contexts (Ok tokens) = Some (line_begun w contexts tokens)
 begun_of w contexts (Err error) = None
 
 -- the contexts when a call over these has begun its line n

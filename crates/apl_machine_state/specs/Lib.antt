@@ -2,6 +2,7 @@ pub mod Items
 pub mod Environment
 pub mod Frames
 pub mod Watching
+pub mod Texts
 pub mod Outcomes
 pub mod Reports
 pub mod Calls

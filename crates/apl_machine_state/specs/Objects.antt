@@ -4,13 +4,14 @@ use Rattle.apl_defn.specs.Definitions.{Text, Definition}
 use Rattle.apl_names.specs.Maps.{kinds_in, without_entry}
 use Rattle.apl_machine_state.specs.declared.level.Level.{Level}
 use Rattle.apl_vectors.specs.Vectors.{vector_of, without_vector}
-use Rattle.apl_machine_state.specs.Environment.{Context, Statement, Call, is_suspended}
+use Rattle.apl_machine_state.specs.Environment.{Context, Statement, Call, Execute, is_suspended}
 use Rattle.apl_machine_state.specs.State.{State, clear, definition_of}
 
 -- the standing calls, newest first, as a state indicator shows them
 abbrev pub levels : List Context → List Level
 levels [] = []
 levels (Statement text rest ∷ below) = levels below
+levels (Execute text rest ∷ below) = levels below
 levels (Call d n locals rest ∷ below) = record { name = d.header.name; line = n; suspended = is_suspended rest } ∷ levels below
 
 -- the global names, ascending, and whether each is that of a function

@@ -52,12 +52,12 @@ fn read_origin(alloc: Global, scene: Scene<'_>) -> Result<Effect, AllocError>
 }
 
 /// `V`
-pub fn read(alloc: Global, scene: Scene<'_>, variable: Variable) -> Result<Effect, AllocError>
+pub fn read(alloc: Global, scene: Scene<'_>, variable: &Variable) -> Result<Effect, AllocError>
     requires { scene.io ≤ 1 }
-    ensures { IfOk result (λ e. (lines : List ℤ) (operands : List (Option Operand)) → IsEffect lines e (read (seen scene.entry lines) variable) operands) }
+    ensures { IfOk result (λ e. (lines : List ℤ) (operands : List (Option Operand)) → IsEffect lines e (read (seen scene.entry lines) variable.now) operands) }
 {
     match variable {
-        Variable::Name(name) => read_name(alloc, scene, &name),
+        Variable::Name(name) => read_name(alloc, scene, name),
         Variable::System(system) => match system {
             SystemName::Origin => read_origin(alloc, scene),
             _ => Ok(Effect::Fails(Fault::Syntax)),
@@ -66,13 +66,13 @@ pub fn read(alloc: Global, scene: Scene<'_>, variable: Variable) -> Result<Effec
 }
 
 /// `V ← B` of a name.
-fn assign_name(scene: Scene<'_>, name: Name, b: &Array) -> Result<Effect, AllocError>
-    ensures { IfOk result (λ e. (lines : List ℤ) → PassesOn lines e b.now (assign_by (found scene.entry.names.now name) name b.now)) }
+fn assign_name(scene: Scene<'_>, name: &Name, b: &Array) -> Result<Effect, AllocError>
+    ensures { IfOk result (λ e. (lines : List ℤ) → PassesOn lines e b.now (assign_by (found scene.entry.names.now name.now) name.now b.now)) }
 {
-    match scene.names.binding(&name) {
+    match scene.names.binding(name) {
         Some(Binding::Label(_)) => Ok(Effect::Fails(Fault::Syntax)),
         Some(Binding::Function(_)) => Ok(Effect::Fails(Fault::Syntax)),
-        _ => Ok(Effect::Passes(Deed::Assigns(name, b.copy()?))),
+        _ => Ok(Effect::Passes(Deed::Assigns(*name, b.copy()?))),
     }
 }
 
@@ -110,10 +110,10 @@ fn set_origin(alloc: Global, scene: Scene<'_>, origin: Option<u16>) -> Result<Ef
 fn assign_one(
     alloc: Global,
     scene: Scene<'_>,
-    variable: Variable,
+    variable: &Variable,
     b: &Array,
 ) -> Result<Effect, AllocError>
-    ensures { IfOk result (λ e. (lines : List ℤ) → PassesOn lines e b.now (assign_one (seen scene.entry lines) variable b.now)) }
+    ensures { IfOk result (λ e. (lines : List ℤ) → PassesOn lines e b.now (assign_one (seen scene.entry lines) variable.now b.now)) }
 {
     match variable {
         Variable::Name(name) => assign_name(scene, name, b),
@@ -129,10 +129,10 @@ fn assign_one(
 pub fn assign(
     alloc: Global,
     scene: Scene<'_>,
-    variable: Variable,
+    variable: &Variable,
     arguments: Arguments<'_>,
 ) -> Result<Effect, AllocError>
-    ensures { IfOk result (λ e. (lines : List ℤ) (operands : List (Option Operand)) → taken arguments.entry ≡ taken_of operands → IsEffect lines e (assign (seen scene.entry lines) variable (taken arguments.entry)) operands) }
+    ensures { IfOk result (λ e. (lines : List ℤ) (operands : List (Option Operand)) → taken arguments.entry ≡ taken_of operands → IsEffect lines e (assign (seen scene.entry lines) variable.now (taken arguments.entry)) operands) }
 {
     match arguments {
         Arguments::One(b) => assign_one(alloc, scene, variable, b),
@@ -195,15 +195,15 @@ fn assign_slots_of_origin(
 fn assign_slots(
     alloc: Global,
     scene: Scene<'_>,
-    variable: Variable,
+    variable: &Variable,
     slots: &[Option<Array>],
     b: &Array,
 ) -> Result<Effect, AllocError>
     requires { scene.io ≤ 1 }
-    ensures { IfOk result (λ e. (lines : List ℤ) → PassesOn lines e b.now (assign_slots (seen scene.entry lines) variable slots.now b.now)) }
+    ensures { IfOk result (λ e. (lines : List ℤ) → PassesOn lines e b.now (assign_slots (seen scene.entry lines) variable.now slots.now b.now)) }
 {
     match variable {
-        Variable::Name(name) => assign_slots_of_name(alloc, scene, name, slots, b),
+        Variable::Name(name) => assign_slots_of_name(alloc, scene, *name, slots, b),
         Variable::System(system) => match system {
             SystemName::Origin => assign_slots_of_origin(alloc, scene, slots, b),
             _ => Ok(Effect::Fails(Fault::Syntax)),
@@ -216,11 +216,11 @@ fn assign_slots(
 pub fn assign_indexed(
     alloc: Global,
     scene: Scene<'_>,
-    variable: Variable,
+    variable: &Variable,
     arguments: Arguments<'_>,
 ) -> Result<Effect, AllocError>
     requires { scene.io ≤ 1 }
-    ensures { IfOk result (λ e. (lines : List ℤ) (operands : List (Option Operand)) → taken arguments.entry ≡ taken_of operands → IsEffect lines e (assign_indexed (seen scene.entry lines) variable (taken arguments.entry)) operands) }
+    ensures { IfOk result (λ e. (lines : List ℤ) (operands : List (Option Operand)) → taken arguments.entry ≡ taken_of operands → IsEffect lines e (assign_indexed (seen scene.entry lines) variable.now (taken arguments.entry)) operands) }
 {
     match arguments {
         Arguments::AlongOne(slots, b) => assign_slots(alloc, scene, variable, slots, b),

@@ -12,12 +12,14 @@ ghost use Rattle.apl_phrases.specs.Effects.{IsEffect, seen};
 
 use crate::scene::Scene;
 use apl_arrays::{Array, Stop};
+use apl_charset::Text;
 use apl_code::Row;
 use apl_faults::Fault;
 use apl_machine_state::{Operand, OutLine, Watch};
 use apl_names::DefinedFunction;
 use apl_primitives::{Arguments, phrase_value};
 use apl_symbols::Name;
+use apl_tokens::Token;
 use std::alloc::{AllocError, Global};
 
 /// What a phrase does.
@@ -33,6 +35,8 @@ pub enum Effect {
     Calls(DefinedFunction, Option<Array>, Option<Array>),
     /// It gives the stop or trace vector that a function has, which is replaced where there is a new one.
     Asks(Watch, Name, Option<Vec<usize>>),
+    /// It executes a text, of these tokens.
+    Executes(Text, Vec<Token>),
     /// It fails.
     Fails(Fault),
 }
@@ -64,11 +68,11 @@ fn effect_of(answer: Result<Array, Stop>) -> Result<Effect, AllocError>
 pub fn value(
     alloc: Global,
     scene: Scene<'_>,
-    row: Row,
+    row: &Row,
     arguments: Arguments<'_>,
 ) -> Result<Effect, AllocError>
     requires { scene.io ≤ 1 }
-    ensures { IfOk result (λ e. (lines : List ℤ) (operands : List (Option Operand)) → IsEffect lines e (of_result (phrase_value row (taken arguments.entry) (index_origin (seen scene.entry lines)))) operands) }
+    ensures { IfOk result (λ e. (lines : List ℤ) (operands : List (Option Operand)) → IsEffect lines e (of_result (phrase_value row.now (taken arguments.entry) (index_origin (seen scene.entry lines)))) operands) }
 {
     effect_of(phrase_value(alloc, row, arguments, scene.origin()))
 }

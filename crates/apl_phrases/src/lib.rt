@@ -4,6 +4,9 @@
 mod assign;
 mod calls;
 mod effect;
+mod execute;
+#[cfg(test)]
+mod execute_tests;
 mod lines;
 mod lines_among;
 mod name_class;
@@ -18,6 +21,7 @@ mod watch;
 mod watch_tests;
 
 pub use effect::{Deed, Effect};
+pub use execute::colon_of;
 pub use lines::said;
 pub use phrase::perform;
 pub use scene::{Scene, origin_name};

@@ -119,7 +119,7 @@ fn assign_at(
     let boxed = perform(
         alloc,
         scene,
-        Action::Box,
+        &Action::Box,
         &[Some(Source::Constant(0))],
         empty,
     )?;
@@ -133,7 +133,7 @@ fn assign_at(
     };
     let row = Row::AssignIndexed(Variable::Name(name));
     let sources = [Some(Source::Stack), Some(Source::Constant(1))];
-    perform(alloc, scene, Action::Phrase(row), &sources, operands)
+    perform(alloc, scene, &Action::Phrase(row), &sources, operands)
 }
 
 /// Whether the effect assigns the vector of these numbers to the name.

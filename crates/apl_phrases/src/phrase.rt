@@ -101,21 +101,23 @@ fn index_list(
 fn perform_row(
     alloc: Global,
     scene: Scene<'_>,
-    row: Row,
+    row: &Row,
     sources: &[Option<Source>],
     operands: Operands<'_>,
 ) -> Result<Effect, AllocError>
     requires there { AreThere (length operands.constants.now) sources.now (length operands.stack.now) }
     requires small { scene.io ≤ 1 }
-    ensures { IfOk result (λ e. (lines : List ℤ) → IsEffect lines e (outcome (seen scene.entry lines) row (fetched operands.entry.constants.now sources.now (reverse operands.entry.stack.now))) (fetched operands.entry.constants.now sources.now (reverse operands.entry.stack.now))) }
+    ensures { IfOk result (λ e. (lines : List ℤ) → IsEffect lines e (outcome (seen scene.entry lines) row.now (fetched operands.entry.constants.now sources.now (reverse operands.entry.stack.now))) (fetched operands.entry.constants.now sources.now (reverse operands.entry.stack.now))) }
 {
     match row {
         Row::Index(_) => index_list(alloc, sources, operands),
         Row::Group => Ok(group(arguments(sources, operands))),
         Row::Read(variable) => read(alloc, scene, variable),
         Row::Call(variable) => call(scene, variable),
-        Row::Monadic(function) => { monadic(alloc, scene, function, arguments(sources, operands)) }
-        Row::Dyadic(function) => dyadic(alloc, scene, function, arguments(sources, operands)),
+        Row::Monadic(function) => {
+            monadic(alloc, scene, row, function, arguments(sources, operands))
+        }
+        Row::Dyadic(function) => dyadic(alloc, scene, row, function, arguments(sources, operands)),
         Row::Assign(variable) => assign(alloc, scene, variable, arguments(sources, operands)),
         Row::AssignIndexed(variable) => {
             assign_indexed(alloc, scene, variable, arguments(sources, operands))
@@ -129,13 +131,13 @@ fn perform_row(
 pub fn perform(
     alloc: Global,
     scene: Scene<'_>,
-    action: Action,
+    action: &Action,
     sources: &[Option<Source>],
     operands: Operands<'_>,
 ) -> Result<Effect, AllocError>
     requires there { AreThere (length operands.constants.now) sources.now (length operands.stack.now) }
     requires small { scene.io ≤ 1 }
-    ensures { IfOk result (λ e. (lines : List ℤ) → IsEffect lines e (acted (seen scene.entry lines) action (fetched operands.entry.constants.now sources.now (reverse operands.entry.stack.now))) (fetched operands.entry.constants.now sources.now (reverse operands.entry.stack.now))) }
+    ensures { IfOk result (λ e. (lines : List ℤ) → IsEffect lines e (acted (seen scene.entry lines) action.now (fetched operands.entry.constants.now sources.now (reverse operands.entry.stack.now))) (fetched operands.entry.constants.now sources.now (reverse operands.entry.stack.now))) }
 {
     match action {
         Action::Box => index_list(alloc, sources, operands),

@@ -8,6 +8,9 @@ use apl_charset::Ch;
 use apl_names::{Binding, Names};
 use apl_symbols::Name;
 
+/// The most calls and executes that stand at once.
+pub(crate) const MAX_CALLS: usize = 256;
+
 /// What phrases see beside their operands. The line numbers of the standing calls are not lent.
 #[derive(Clone, Copy)]
 pub struct Scene<'a> {
@@ -15,7 +18,7 @@ pub struct Scene<'a> {
     pub names: &'a Names,
     /// The index origin of the workspace: 0 or 1.
     pub io: usize,
-    /// How many calls stand.
+    /// How many calls and executes stand.
     pub standing: usize,
 }
 

@@ -73,6 +73,7 @@ fn answer_of(effect: &Effect, name: Name) -> Answer {
             }
         }
         Effect::Asks(..) => Answer::Other,
+        Effect::Executes(..) => Answer::Other,
         Effect::Fails(fault) => Answer::Fails(*fault),
     }
 }
@@ -123,7 +124,7 @@ pub(crate) fn names_in_a_call(alloc: Global) -> Result<Names, Fail> {
     Ok(names)
 }
 
-/// What these names show, where so many calls stand.
+/// What these names show, where so many calls and executes stand.
 pub(crate) fn scene(names: &Names, standing: usize) -> Scene<'_>
     ensures { result.io ≤ 1 }
 {
@@ -147,7 +148,7 @@ pub(crate) fn alone(
         constants: &[],
         stack: &[],
     };
-    let effect = perform(alloc, scene, Action::Phrase(row), &[], operands)?;
+    let effect = perform(alloc, scene, &Action::Phrase(row), &[], operands)?;
     Ok(answer_of(&effect, name))
 }
 
@@ -166,7 +167,7 @@ pub(crate) fn of_one(
         stack: &[],
     };
     let sources = [Some(Source::Constant(0))];
-    perform(alloc, scene, Action::Phrase(row), &sources, operands)
+    perform(alloc, scene, &Action::Phrase(row), &sources, operands)
 }
 
 /// What a phrase does that takes these two values, the left one from the operand stack.
@@ -186,7 +187,7 @@ pub(crate) fn of_two(
         stack: &stack,
     };
     let sources = [Some(Source::Stack), Some(Source::Constant(0))];
-    perform(alloc, scene, Action::Phrase(row), &sources, operands)
+    perform(alloc, scene, &Action::Phrase(row), &sources, operands)
 }
 
 /// The same of a number, where the phrase has this name.

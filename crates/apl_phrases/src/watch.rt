@@ -20,7 +20,7 @@ use apl_symbols::Name;
 use std::alloc::{AllocError, Global};
 
 /// Whether an array has at most one axis.
-fn is_list(array: &Array) -> bool
+pub fn is_list(array: &Array) -> bool
     ensures { result ≡ is_list array.now }
 {
     array.rank() <= 1

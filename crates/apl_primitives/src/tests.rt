@@ -18,7 +18,7 @@ fn scalar_functions(rt: HostRuntime) -> Result<(), Fail> {
     let two = Array::scalar(alloc, Cell::Num(2))?;
     let three = Array::scalar(alloc, Cell::Num(3))?;
     let row = Row::Dyadic(Function::Primitive(Primitive::Minus));
-    let difference = phrase_value(alloc, row, Arguments::Two(&two, &three), 1)?;
+    let difference = phrase_value(alloc, &row, Arguments::Two(&two, &three), 1)?;
     assert_eq!(rt; difference.at(&[]), Some(Cell::Num(-1)));
     Ok(())
 }
@@ -28,7 +28,7 @@ fn reductions(rt: HostRuntime) -> Result<(), Fail> {
     let alloc = rt.alloc();
     let pair = pair(alloc)?;
     let row = Row::Reduce(Function::Primitive(Primitive::Minus), Operator::Slash);
-    let reduced = phrase_value(alloc, row, Arguments::One(&pair), 1)?;
+    let reduced = phrase_value(alloc, &row, Arguments::One(&pair), 1)?;
     assert_eq!(rt; reduced.at(&[]), Some(Cell::Num(3)));
     Ok(())
 }
@@ -38,7 +38,7 @@ fn outer_products(rt: HostRuntime) -> Result<(), Fail> {
     let alloc = rt.alloc();
     let pair = pair(alloc)?;
     let row = Row::Outer(Function::Primitive(Primitive::Times));
-    let crossed = phrase_value(alloc, row, Arguments::Two(&pair, &pair), 1)?;
+    let crossed = phrase_value(alloc, &row, Arguments::Two(&pair, &pair), 1)?;
     assert_eq!(rt; crossed.at(&[0, 1]), Some(Cell::Num(10)));
     Ok(())
 }
@@ -51,7 +51,7 @@ fn inner_products(rt: HostRuntime) -> Result<(), Fail> {
         Function::Primitive(Primitive::Plus),
         Function::Primitive(Primitive::Times),
     );
-    let inner = phrase_value(alloc, row, Arguments::Two(&pair, &pair), 1)?;
+    let inner = phrase_value(alloc, &row, Arguments::Two(&pair, &pair), 1)?;
     assert_eq!(rt; inner.at(&[]), Some(Cell::Num(29)));
     Ok(())
 }
@@ -61,7 +61,7 @@ fn what_has_no_meaning(rt: HostRuntime) -> Result<(), Fail> {
     let alloc = rt.alloc();
     let pair = pair(alloc)?;
     let row = Row::Reduce(Function::Primitive(Primitive::Comma), Operator::Slash);
-    let answer = phrase_value(alloc, row, Arguments::One(&pair), 1);
+    let answer = phrase_value(alloc, &row, Arguments::One(&pair), 1);
     assert!(rt; matches!(answer, Err(Stop::Fault(Fault::Syntax))));
     Ok(())
 }

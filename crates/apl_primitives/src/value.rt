@@ -63,11 +63,11 @@ fn of_one(alloc: Global, function: Primitive, b: &Array, origin: usize) -> Resul
 }
 
 /// A row that takes one value.
-fn by_one(alloc: Global, row: Row, b: &Array, origin: usize) -> Result<Array, Stop>
+fn by_one(alloc: Global, row: &Row, b: &Array, origin: usize) -> Result<Array, Stop>
     requires { origin ≤ 1 }
-    ensures { Answers (λ r. r) (by_one row b.now origin) result }
+    ensures { Answers (λ r. r) (by_one row.now b.now origin) result }
 {
-    match row {
+    match *row {
         Row::Group => Ok(b.copy()?),
         Row::Monadic(Function::Primitive(function)) => of_one(alloc, function, b, origin),
         Row::Reduce(Function::Primitive(function), operator) => {
@@ -85,11 +85,11 @@ fn by_one(alloc: Global, row: Row, b: &Array, origin: usize) -> Result<Array, St
 }
 
 /// A row that takes two values.
-fn by_two(alloc: Global, row: Row, a: &Array, b: &Array, origin: usize) -> Result<Array, Stop>
+fn by_two(alloc: Global, row: &Row, a: &Array, b: &Array, origin: usize) -> Result<Array, Stop>
     requires { origin ≤ 1 }
-    ensures { Answers (λ r. r) (by_two row a.now b.now origin) result }
+    ensures { Answers (λ r. r) (by_two row.now a.now b.now origin) result }
 {
-    match row {
+    match *row {
         Row::Dyadic(Function::Primitive(function)) => {
             scalar_or_structural2(alloc, function, a, b, origin)
         }
@@ -105,15 +105,15 @@ fn by_two(alloc: Global, row: Row, a: &Array, b: &Array, origin: usize) -> Resul
 #[tactic(auto, using(crate::proofs::Axes::derived_named))]
 fn by_axis_and_one(
     alloc: Global,
-    row: Row,
+    row: &Row,
     axis: &[Option<Array>],
     b: &Array,
     origin: usize,
 ) -> Result<Array, Stop>
     requires { origin ≤ 1 }
-    ensures { Answers (λ r. r) (by_axis_and_one row axis.now b.now origin) result }
+    ensures { Answers (λ r. r) (by_axis_and_one row.now axis.now b.now origin) result }
 {
-    match row {
+    match *row {
         Row::MonadicAxis(Function::Primitive(function)) => {
             structural1(alloc, function, Some(axis), b, origin)
         }
@@ -134,16 +134,16 @@ fn by_axis_and_one(
 /// A row that takes a value, an axis and a value.
 fn by_axis_and_two(
     alloc: Global,
-    row: Row,
+    row: &Row,
     axis: &[Option<Array>],
     a: &Array,
     b: &Array,
     origin: usize,
 ) -> Result<Array, Stop>
     requires { origin ≤ 1 }
-    ensures { Answers (λ r. r) (by_axis_and_two row axis.now a.now b.now origin) result }
+    ensures { Answers (λ r. r) (by_axis_and_two row.now axis.now a.now b.now origin) result }
 {
-    match row {
+    match *row {
         Row::DyadicAxis(Function::Primitive(function)) => {
             structural2(alloc, function, Some(axis), a, b, origin)
         }
@@ -154,15 +154,15 @@ fn by_axis_and_two(
 /// A row that takes a value and an index list.
 fn by_index_list(
     alloc: Global,
-    row: Row,
+    row: &Row,
     b: &Array,
     slots: &[Option<Array>],
     origin: usize,
 ) -> Result<Array, Stop>
     requires { origin ≤ 1 }
-    ensures { Answers (λ r. r) (by_index_list row b.now slots.now origin) result }
+    ensures { Answers (λ r. r) (by_index_list row.now b.now slots.now origin) result }
 {
-    match row {
+    match *row {
         Row::Select => index(alloc, b, slots, origin),
         _ => Err(Stop::Fault(Fault::Syntax)),
     }
@@ -174,12 +174,12 @@ fn by_index_list(
 /// operator beside anything but a scalar function of two arrays. Every other fault is the function's own.
 pub fn phrase_value(
     alloc: Global,
-    row: Row,
+    row: &Row,
     arguments: Arguments<'_>,
     origin: usize,
 ) -> Result<Array, Stop>
     requires { origin ≤ 1 }
-    ensures { Answers (λ r. r) (phrase_value row (taken arguments.entry) origin) result }
+    ensures { Answers (λ r. r) (phrase_value row.now (taken arguments.entry) origin) result }
 {
     match arguments {
         Arguments::One(b) => by_one(alloc, row, b, origin),

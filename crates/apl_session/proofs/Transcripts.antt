@@ -22,7 +22,8 @@ use Rattle.apl_machine_state.specs.State.{State, is_idle, step, steps, applied, 
 use Rattle.apl_machine_state.specs.Objects.{erased, without_global}
 use Rattle.apl_machine_state.specs.Watching.{lines_array}
 use Rattle.apl_vectors.specs.Vectors.{after_asking, has_line, vector_of}
-use Rattle.apl_machine_state.specs.Beginning.{begun, begun_by, started, colon_of}
+use Rattle.apl_machine_state.specs.Beginning.{begun, begun_by, started}
+use Rattle.apl_machine_state.specs.Texts.{colon_of}
 use Rattle.apl_session.specs.Events.{Event, Line, Steps, Interrupt, after, after_event, typed_as, typed_in, typed_behind, first_mark}
 use Rattle.apl_session.specs.declared.commands.Command.{Command}
 use Rattle.apl_session.specs.declared.commands.Command.TheVariants.{StateIndicator, Functions, Variables, Erase, Clear}

@@ -8,5 +8,5 @@ use Rattle.apl_phrases.proofs.phrase.perform_row.Goals as goal
 pub returns-in_default : goal.returns-in_default
 returns-in_default c =
     let os = fetched c.args.operands.constants.now c.args.sources.now (reverse c.args.operands.stack.now) in
-    plain_effect c.value.result (seen c.args.scene) c.args.row os (taken c.arguments-in_default.result) c.arguments-in_default.ensures c.value.ensures
-    (λ ns. plain_row (seen c.args.scene ns) c.args.row os c.in_default.not-Index c.in_default.not-Read c.in_default.not-Call c.in_default.not-Monadic c.in_default.not-Dyadic c.in_default.not-Assign c.in_default.not-AssignIndexed c.in_default.not-Show)
+    plain_effect c.value.result (seen c.args.scene) c.args.row.now os (taken c.arguments-in_default.result) c.arguments-in_default.ensures c.value.ensures
+    (λ ns. plain_row (seen c.args.scene ns) c.args.row.now os c.in_default.not-Index c.in_default.not-Read c.in_default.not-Call c.in_default.not-Monadic c.in_default.not-Dyadic c.in_default.not-Assign c.in_default.not-AssignIndexed c.in_default.not-Show)

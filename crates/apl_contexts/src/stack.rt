@@ -1,0 +1,102 @@
+//! Looks down the contexts.
+ghost use Rattle.std.specs.Prelude.{◌≡◌, [], IfNone, IfSome, drop, option_copied, option_map};
+ghost use Rattle.apl_frames.specs.Ends.{IsColumn};
+ghost use Rattle.apl_contexts.specs.Contexts.{AreStacked, Place, beneath, blamed, call_in, nearest, newest_of};
+ghost use Rattle.apl_contexts.specs.Stacks.{lent};
+
+use crate::context::{Call, Context};
+
+/// The contexts from one of them on, newest first.
+#[derive(Clone, Copy)]
+pub struct Stack<'a> {
+    pub(crate) newest: Option<&'a Context>,
+    /// The others, the oldest first.
+    pub(crate) below: &'a [Context],
+}
+
+impl<'a> Stack<'a> {
+    /// The newest of them.
+    pub fn newest(self) -> Option<&'a Context>
+        ensures { option_copied result ≡ newest_of (lent self.entry) }
+    {
+        self.newest
+    }
+
+    /// Without the newest of them.
+    fn older(self) -> Stack<'a>
+        ensures { lent result ≡ drop 1 (lent self.entry) }
+    {
+        if self.newest.is_none() {
+            return self;
+        }
+        match self.below.split_last() {
+            Some((newest, below)) => Stack {
+                newest: Some(newest),
+                below,
+            },
+            None => Stack {
+                newest: None,
+                below: self.below,
+            },
+        }
+    }
+
+    /// From the nearest statement or call on, without the texts that it executes.
+    pub fn nearest(self) -> Stack<'a>
+        ensures { lent result ≡ nearest (lent self.entry) }
+    {
+        let mut rest = self;
+        while let Some(Context::Execute(_)) = rest.newest() {
+            rest = rest.older();
+        }
+        rest
+    }
+
+    /// Those beneath the nearest statement or call.
+    #[tactic(auto, using(crate::proofs::Nearest::beneath_nearest))]
+    pub fn beneath(self) -> Stack<'a>
+        ensures { lent result ≡ beneath (lent self.entry) }
+    {
+        self.nearest().older()
+    }
+
+    /// The nearest statement or call, where it is a call.
+    #[tactic(auto, using(crate::proofs::Nearest::call_nearest, crate::proofs::Nearest::never_execute))]
+    pub fn call(self) -> Option<&'a Call>
+        ensures { option_copied result ≡ call_in (lent self.entry) }
+    {
+        match self.nearest().newest() {
+            Some(Context::Call(call)) => Some(call),
+            _ => None,
+        }
+    }
+
+    /// Where a fault at a column of the newest of them is reported: in the nearest statement or
+    /// call, at this column, and where that executes a text, at the column of its `⍎`. Without
+    /// contexts, nowhere.
+    #[tactic(auto, using(crate::proofs::Blamed::blames_one))]
+    pub fn blamed(self, column: usize) -> Option<(&'a Context, usize)>
+        requires stacked { (p : Place) × AreStacked p (lent self) }
+        requires column { IsColumn column }
+        ensures value { option_map (λ r. (r.0.now, r.1)) result ≡ blamed column (lent self.entry) }
+        ensures column { IfSome result (λ r. IsColumn r.1) }
+        ensures none { IfNone result (lent self.entry ≡ []) }
+    {
+        let mut stack = self;
+        let mut place = column;
+        while let Some(Context::Execute(_)) = stack.newest() {
+            stack = stack.older();
+            let Some(context) = stack.newest() else {
+                unreachable!()
+            };
+            let Some(line) = context.line() else {
+                unreachable!()
+            };
+            place = line.awaited_at();
+        }
+        let Some(context) = stack.newest() else {
+            return None;
+        };
+        Some((context, place))
+    }
+}

@@ -1,0 +1,102 @@
+//! `⍎`, a text that is executed.
+ghost use Rattle.std.specs.Prelude.{◌≡◌, ◌≢◌, ℤ, IfErr, IfOk, List, Ok, Option, option_copied};
+ghost use Rattle.apl_machine_state.specs.declared.operand.Operand.{Operand};
+ghost use Rattle.apl_machine_state.specs.Outcomes.{execute, executed_as, executed_by, text_in};
+ghost use Rattle.apl_machine_state.specs.Texts.{colon_of, fault_of};
+ghost use Rattle.apl_tokens.specs.Tokens.{tokens_of};
+ghost use Rattle.apl_phrases.specs.Effects.{IsEffect, seen};
+
+use crate::effect::Effect;
+use crate::scene::{MAX_CALLS, Scene};
+use crate::watch::is_list;
+use apl_arrays::{Array, Ravel};
+use apl_charset::{Ch, Text};
+use apl_faults::Fault;
+use apl_symbols::Symbol;
+use apl_tokens::{Kind, Token, TokenError, tokens};
+use std::alloc::{AllocError, Global};
+
+/// The text that an array is; one without elements is the empty text.
+fn text_in(array: &Array) -> Option<&[Ch]>
+    ensures { option_copied result ≡ text_in array.now.items }
+{
+    match array.ravel() {
+        Ravel::Chars(text) => Some(text.as_slice()),
+        Ravel::Nums(numbers) => { if numbers.is_empty() { Some(&[]) } else { None } }
+    }
+}
+
+/// The column of the colon of a label, where these tokens begin with one.
+pub fn colon_of(tokens: &[Token]) -> Option<usize>
+    ensures { result ≡ colon_of tokens.now }
+{
+    match tokens {
+        [first, second, ..] => match first.kind {
+            Kind::Name(_) => match second.kind {
+                Kind::Symbol(Symbol::Colon) => Some(second.at),
+                _ => None,
+            },
+            _ => None,
+        },
+        _ => None,
+    }
+}
+
+/// The fault of a text that is no line; for want of memory there is none.
+fn fault_of(error: TokenError) -> Result<Fault, AllocError>
+    ensures fault { IfOk result (λ fault. fault ≡ fault_of error) }
+    ensures line { IfOk result (λ fault. error ≢ TokenError.Memory) }
+    ensures memory { IfErr result (λ e. error ≡ TokenError.Memory) }
+{
+    match error {
+        TokenError::Quote { .. } => Ok(Fault::Syntax),
+        TokenError::Unbalanced { .. } => Ok(Fault::Syntax),
+        TokenError::Stray { .. } => Ok(Fault::Syntax),
+        TokenError::Limit { .. } => Ok(Fault::Limit),
+        TokenError::TooLong { .. } => Ok(Fault::Limit),
+        TokenError::Memory => Err(AllocError),
+    }
+}
+
+/// What is done where a text of these tokens is executed.
+fn executed_as(
+    alloc: Global,
+    scene: Scene<'_>,
+    text: &[Ch],
+    tokens: Vec<Token>,
+) -> Result<Effect, AllocError>
+    requires { tokens_of text.now ≡ Ok tokens.items }
+    ensures { IfOk result (λ e. (lines : List ℤ) (operands : List (Option Operand)) → IsEffect lines e (executed_as (seen scene.entry lines) text.now tokens.items (colon_of tokens.items)) operands) }
+{
+    if colon_of(tokens.as_slice()).is_some() {
+        return Ok(Effect::Fails(Fault::Syntax));
+    }
+    if scene.standing >= MAX_CALLS {
+        return Ok(Effect::Fails(Fault::Limit));
+    }
+    let text = Text::new(Vec::from_slice(alloc, text)?);
+    Ok(Effect::Executes(text, tokens))
+}
+
+/// What is done where a text is executed.
+fn executed(alloc: Global, scene: Scene<'_>, text: &[Ch]) -> Result<Effect, AllocError>
+    ensures { IfOk result (λ e. (lines : List ℤ) (operands : List (Option Operand)) → IsEffect lines e (executed_by (seen scene.entry lines) text.now (tokens_of text.now)) operands) }
+{
+    match tokens(alloc, text) {
+        Ok(tokens) => executed_as(alloc, scene, text, tokens),
+        Err(error) => Ok(Effect::Fails(fault_of(error)?)),
+    }
+}
+
+/// `⍎ B`
+pub fn execute(alloc: Global, scene: Scene<'_>, b: &Array) -> Result<Effect, AllocError>
+    ensures { IfOk result (λ e. (lines : List ℤ) (operands : List (Option Operand)) → IsEffect lines e (execute (seen scene.entry lines) b.now) operands) }
+{
+    if !is_list(b) {
+        return Ok(Effect::Fails(Fault::Rank));
+    }
+    match text_in(b) {
+        Some(text) => executed(alloc, scene, text),
+        None => Ok(Effect::Fails(Fault::Domain)),
+    }
+}
