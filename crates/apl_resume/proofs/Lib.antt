@@ -1,0 +1,15 @@
+pub mod Output
+pub mod Typing
+pub mod Resuming
+pub mod Stops
+pub mod Single
+pub mod Uncut
+pub mod Told
+pub mod Rest
+pub mod CleanItems
+pub mod CleanRows
+pub mod CleanMaps
+pub mod CleanOutcomes
+pub mod CleanChanges
+pub mod Clean
+pub mod Standing

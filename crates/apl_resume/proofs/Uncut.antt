@@ -1,0 +1,106 @@
+-- The law of cut runs.
+use Rattle.std.proofs.Common.{◌≡◌, ℕ, zero, suc, ◌+◌, ◌*◌, ◌≤◌, [], Bool, true, false, arith, ap, ◌∙◌, sym, refl, subst, ◌⊎◌, inl, inr, zero-add}
+use Rattle.std.specs.Prelude.{if◌then◌else◌, not, ◌&&◌}
+use Rattle.apl_defn.specs.Definitions.{is_line}
+use Rattle.apl_vectors.specs.Vectors.{Vectors}
+use Rattle.apl_machine_state.specs.Changes.{Change, Rests, Moves, AsksStops, Arrives, change}
+use Rattle.apl_machine_state.specs.State.{State, turn, step, steps, is_idle, interrupt}
+use Rattle.apl_session.specs.Events.{typed}
+use Rattle.apl_resume.specs.Cut.{free, unstopped, resumed, after_stop, cut_steps, stops_in, IsQuietRun, is_named_by, named_in, moves, cut_moves, count}
+use Rattle.apl_resume.specs.Law.{CutIsUncut}
+use Rattle.apl_resume.proofs.Typing.{IsLine, IsSettled, settled_line, typed_line}
+use Rattle.apl_resume.proofs.Stops.{IsReady, StepMatches, matches, cut-free, stops-named, moves-cut, stops-most, interrupt-free, applied-stops, idle-rests, step-idle}
+use Rattle.apl_resume.proofs.Single.{single-steps, single-stops}
+
+-- in a run without stop vectors nothing stops
+never : (b : Bool) → (b && false) ≡ false
+never true = refl
+never false = refl
+
+named-nothing : (c : Change) → is_named_by [] c ≡ false
+named-nothing Rests = refl
+named-nothing (Moves w contexts lines ended) = refl
+named-nothing (AsksStops w name lines given) = refl
+named-nothing (Arrives w d n locals below lines ended) = never (is_line d n)
+
+unstopped-step : (u : State) → u.stops ≡ [] → after_stop (turn u) ≡ step u
+unstopped-step u e =
+    let c : Change = change u.world u.contexts in
+    let no : (turn u).stopped ≡ false = applied-stops u c ∙ ap (λ (v : Vectors). is_named_by v c) e ∙ named-nothing c in
+    ap (λ (b : Bool). if b then resumed (turn u).state else (turn u).state) no
+
+-- what a run without stop vectors is to the same run on the state freed
+record IsFreed (n : ℕ) (u : State) : Type 0 where
+  states : free (steps n u) ≡ steps n (free u)
+  quiet : IsQuietRun n (free u)
+  lines : (v : Vectors) → named_in v n u ≡ named_in v n (free u)
+  taken : moves n u ≡ moves n (free u)
+
+freed_run : (n : ℕ) (u : State) → u.stops ≡ [] → IsReady u → IsQuietRun n u → IsFreed n u
+freed_run zero u e ready q = record { states = refl; quiet = tt; lines = λ v. refl; taken = refl }
+freed_run (suc n) u e ready q =
+    let m : StepMatches u = matches u ready q.0 in
+    let one : after_stop (turn u) ≡ step u = unstopped-step u e in
+    let same : free (step u) ≡ step (free u) = sym (ap free one) ∙ m.same in
+    let rest : IsFreed n (step u) = freed_run n (step u) (sym (ap (λ (t : State). t.stops) one) ∙ m.stops ∙ e) (subst IsReady one m.ready) q.1 in
+    record {
+      states = rest.states ∙ ap (steps n) same;
+      quiet = (q.0, subst (IsQuietRun n) same rest.quiet);
+      lines = λ v. ap (λ (k : ℕ). count (is_named_by v (change u.world u.contexts)) + k) (rest.lines v ∙ ap (named_in v n) same);
+      taken = ap (λ (k : ℕ). count (not (is_idle u)) + k) (rest.taken ∙ ap (moves n) same);
+    }
+
+quiet-front : (k n : ℕ) (u : State) → k ≤ n → IsQuietRun n u → IsQuietRun k u
+quiet-front zero n u le q = tt
+quiet-front (suc k) zero u le q = absurd (omega arith)
+quiet-front (suc k) (suc n) u le q = (q.0, quiet-front k n (step u) (omega arith) q.1)
+
+-- after a line
+ready-line : (x t : State) → IsSettled x t → IsReady t
+ready-line x t (inl p) = inl p.0
+ready-line x t (inr idle) = inr idle
+
+stops-line : (x t : State) → IsSettled x t → (is_idle t ≡ true) ⊎ (t.stops ≡ x.stops)
+stops-line x t (inl p) = inr p.1
+stops-line x t (inr idle) = inl idle
+
+-- an idle state comes to no line
+idle-names : (v : Vectors) (n : ℕ) (s : State) → is_idle s ≡ true → named_in v n s ≡ 0
+idle-names v zero s idle = refl
+idle-names v (suc n) s idle =
+    ap (λ (c : Change). count (is_named_by v c) + named_in v n (step s)) (idle-rests s.world s.contexts idle)
+    ∙ zero-add (named_in v n (step s)) ∙ ap (named_in v n) (step-idle s idle) ∙ idle-names v n s idle
+
+named-vectors : (v w : Vectors) (n : ℕ) (s u : State) → (is_idle s ≡ true) ⊎ (w ≡ v) → is_idle u ≡ is_idle s → named_in w n u ≡ named_in v n u
+named-vectors v w n s u (inl idle) e = idle-names w n u (e ∙ idle) ∙ sym (idle-names v n u (e ∙ idle))
+named-vectors v w n s u (inr same) e = ap (λ (a : Vectors). named_in a n u) same
+
+-- THE LAW
+pub cut_is_uncut : CutIsUncut
+cut_is_uncut x line n idle quiet =
+    let s : State = typed x line in
+    let u : State = typed (unstopped x) line in
+    let known : IsLine x s (typed (free x) line) = settled_line x line idle (typed_line x line idle) in
+    let other : IsLine (unstopped x) u (typed (free x) line) = settled_line (unstopped x) line idle (typed_line (unstopped x) line idle) in
+    let ready : IsReady s = ready-line x s known.settled in
+    let both : free s ≡ free u = known.freed ∙ sym other.freed in
+    let freed : (k : ℕ) → k ≤ n → IsFreed k u = λ (k : ℕ) (le : k ≤ n). freed_run k u (other.emptied refl) (ready-line (unstopped x) u other.settled) (quiet-front k n u le quiet) in
+    let quiet_s : (k : ℕ) → k ≤ n → IsQuietRun k (free s) = λ (k : ℕ) (le : k ≤ n). subst (IsQuietRun k) (sym both) (freed k le).quiet in
+    let way : (k : ℕ) → k ≤ n → free (cut_steps k s) ≡ free (steps k u) = λ (k : ℕ) (le : k ≤ n). cut-free k s ready (quiet_s k le) ∙ ap (steps k) both ∙ sym (freed k le).states in
+    let all : n ≤ n = omega arith in
+    record {
+      at_the_end = interrupt-free (cut_steps n s) ∙ ap interrupt (way n all) ∙ sym (interrupt-free (steps n u));
+      on_the_way = way;
+      in_single_steps = λ k le. single-steps k s ready (quiet_s k le);
+      stops_in_single_steps = λ k le. single-stops k s ready (quiet_s k le);
+      stops = λ k le. stops-named k s ready (quiet_s k le) ∙ ap (named_in s.stops k) both ∙ sym ((freed k le).lines s.stops) ∙ named-vectors x.stops s.stops k s u (stops-line x s known.settled) (sym (ap is_idle both));
+      steps_taken = λ k le.
+          let a : cut_moves k s ≡ moves k (free s) + 2 * stops_in k s = moves-cut k s ready (quiet_s k le) in
+          let b : moves k (free s) ≡ moves k u = ap (moves k) both ∙ sym (freed k le).taken in
+          a ∙ ap (λ (j : ℕ). j + 2 * stops_in k s) b;
+      at_most =
+          let a : stops_in n s ≤ moves n (free s) = stops-most n s ready (quiet_s n all) in
+          let b : moves n (free s) ≡ moves n u = ap (moves n) both ∙ sym (freed n all).taken in
+          omega arith;
+      both_idle = λ k le. ap is_idle (way k le);
+    }

@@ -1,0 +1,27 @@
+-- However a run is cut, it is the same run.
+use Rattle.std.specs.Prelude.{◌≡◌, ℕ, ◌+◌, ◌*◌, ◌≤◌, List, true}
+use Rattle.apl_machine_state.specs.State.{State, steps, is_idle}
+use Rattle.apl_session.specs.Events.{typed}
+use Rattle.apl_resume.specs.Cut.{free, unstopped, cut, uncut, cut_steps, cut_by, stops_in, stops_by, named_in, moves, cut_moves, IsQuietRun}
+
+-- What is promised of a line that is given n steps, where the run without stops reduces no phrase of ⎕STOP. Two states are the same when they are freed:
+-- the functions, names and contexts are, the trace vectors, the open definition, and the output without stop reports.
+pub record IsSameRun (x : State) (line : List ℕ) (n : ℕ) : Type 0 where
+  -- at the end both are the same
+  pub at_the_end : free (cut x line n) ≡ free (uncut x line n)
+  -- for each k after k steps of the one, and those and two more for each stop of the other
+  pub on_the_way : (k : ℕ) → k ≤ n → free (cut_steps k (typed x line)) ≡ free (steps k (typed (unstopped x) line))
+  pub in_single_steps : (k : ℕ) → k ≤ n → cut_by (k + 2 * stops_in k (typed x line)) (typed x line) ≡ cut_steps k (typed x line)
+  pub stops_in_single_steps : (k : ℕ) → k ≤ n → stops_by (k + 2 * stops_in k (typed x line)) (typed x line) ≡ stops_in k (typed x line)
+  -- the stops are the lines that the vectors name among those that the other comes to, other than by a typed branch
+  pub stops : (k : ℕ) → k ≤ n → stops_in k (typed x line) ≡ named_in x.stops k (typed (unstopped x) line)
+  -- as many steps are made, and two for each stop
+  pub steps_taken : (k : ℕ) → k ≤ n → cut_moves k (typed x line) ≡ moves k (typed (unstopped x) line) + 2 * stops_in k (typed x line)
+  -- there are no more stops than steps
+  pub at_most : stops_in n (typed x line) ≤ moves n (typed (unstopped x) line)
+  -- they come to idle together, or both run at the end
+  pub both_idle : (k : ℕ) → k ≤ n → is_idle (cut_steps k (typed x line)) ≡ is_idle (steps k (typed (unstopped x) line))
+
+-- the law
+abbrev pub CutIsUncut : Type 0
+CutIsUncut = (x : State) (line : List ℕ) (n : ℕ) → is_idle x ≡ true → IsQuietRun n (typed (unstopped x) line) → IsSameRun x line n

@@ -1,0 +1,5 @@
+pub mod Cut
+pub mod Law
+pub mod UnderWay
+pub mod Quiet
+pub mod Standing
