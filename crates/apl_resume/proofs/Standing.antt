@@ -13,9 +13,9 @@ use Rattle.apl_machine_state.specs.Objects.{erased, without_global}
 use Rattle.apl_order.specs.Order.{AreInOrder, StepsKeepOrder, InterruptsKeepOrder, StatementsKeepOrder}
 use Rattle.apl_session.specs.declared.commands.Command.{Command}
 use Rattle.apl_session.specs.declared.commands.Command.TheVariants.{StateIndicator, Functions, Variables, Erase, Clear}
-use Rattle.apl_session.specs.Commands.{before_blank, command_of, commanded, erasing, from_blank, names_in, obeyed, ordered, words_of}
-use Rattle.apl_session.specs.Defining.{added, behind_mark, closed, defined_by, del, opened_by, shown, shown_name, shown_or_opened, typed_behind_del}
-use Rattle.apl_session.specs.Events.{Event, Line, Steps, Interrupt, after, after_event, first_mark, typed, typed_as, typed_behind, typed_in}
+use Rattle.apl_session.specs.Commands.{before_blank, command_of, erasing, from_blank, names_in, obeyed, ordered, words_of}
+use Rattle.apl_session.specs.Defining.{added, behind_mark, closed, defined_by, del, opened_by, shown, shown_name, shown_or_opened}
+use Rattle.apl_session.specs.Events.{Event, Line, Steps, Interrupt, after_event, first_mark, typed_as, typed_behind, typed_in}
 use Rattle.apl_resume.specs.Standing.{AlwaysInOrder}
 
 abbrev Stands : State → Type 0

@@ -1,5 +1,5 @@
 // Lines whose stops are answered.
-use crate::law::{cut_is_uncut, quiet_where_clean};
+use crate::law::{always_in_order, cut_is_uncut, quiet_where_clean};
 use crate::resume::resume_all;
 use apl_charset::encode;
 use apl_machine::{Machine, OutLine};
@@ -94,6 +94,7 @@ fn stops_are_answered(rt: HostRuntime) -> Result<(), Fail> {
 fn a_fault_on_the_way(rt: HostRuntime) -> Result<(), Fail> {
     cut_is_uncut();
     quiet_where_clean();
+    always_in_order();
     let alloc = rt.alloc();
     let mut session = with_factorial(alloc, "2 ⎕STOP 'FACT'")?;
     assert_eq!(rt; resume_all(&mut session, b"FACT 21", 1000), Ok(22));
