@@ -1,5 +1,5 @@
 -- Where a cut run stands that want of memory left.
-use Rattle.std.specs.Prelude.{◌≡◌, ℕ, ◌<◌, ◌⊎◌, List}
+use Rattle.std.specs.Prelude.{◌≡◌, ℕ, ◌<◌, ◌⊎◌, List, true}
 use Rattle.apl_machine_state.specs.State.{State, turn, step}
 use Rattle.apl_session.specs.Events.{typed}
 use Rattle.apl_resume.specs.Cut.{cut_steps, resume_line}
@@ -8,9 +8,9 @@ use Rattle.apl_resume.specs.Cut.{cut_steps, resume_line}
 abbrev pub IsAnswering : State → State → Type 0
 IsAnswering s t = (t ≡ s) ⊎ ((t ≡ typed s resume_line) ⊎ (t ≡ step (typed s resume_line)))
 
--- between a state and the next: before its step, at its stop, or in the answer to it
+-- between a state and the next: before its step, or where that stops, at the stop or in the answer to it
 abbrev pub IsWithin : State → State → Type 0
-IsWithin s t = (t ≡ s) ⊎ IsAnswering (turn s).state t
+IsWithin s t = (t ≡ s) ⊎ (((turn s).stopped ≡ true) × IsAnswering (turn s).state t)
 
 -- within one of the steps of a cut run
 abbrev pub IsPartOfRun : State → ℕ → State → Type 0
