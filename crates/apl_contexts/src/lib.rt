@@ -7,6 +7,8 @@ mod context;
 mod contexts;
 mod moves;
 mod stack;
+#[cfg(test)]
+mod tests;
 
 pub use beginning::begin_line;
 pub use context::{Call, Context, Statement};
