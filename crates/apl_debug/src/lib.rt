@@ -5,8 +5,6 @@
 mod indicator;
 mod laws;
 mod stepper;
-#[cfg(test)]
-mod tests;
 mod watched;
 
 pub use apl_machine::Level;
