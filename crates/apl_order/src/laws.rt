@@ -4,7 +4,9 @@ ghost use Rattle.apl_order.specs.Order.{InterruptsKeepOrder, StatementsKeepOrder
 /// The law that a step keeps the contexts in order.
 pub fn steps_keep_order()
     ensures { StepsKeepOrder }
-{}
+{
+    // Nothing is done: the law is of the definitions.
+}
 
 /// The law that an interrupt keeps the contexts in order.
 pub fn interrupts_keep_order()
