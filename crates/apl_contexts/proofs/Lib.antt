@@ -1,5 +1,6 @@
 pub mod Bindable
-pub mod Lines
+pub mod LineNumbers
+pub mod Kept
 pub mod Nearest
 pub mod Standing
 pub mod Blamed

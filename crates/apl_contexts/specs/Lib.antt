@@ -2,3 +2,4 @@ pub mod Callers
 pub mod Moves
 pub mod Contexts
 pub mod Stacks
+pub mod Kept

@@ -5,6 +5,7 @@
 mod beginning;
 mod context;
 mod contexts;
+mod lines;
 mod moves;
 mod stack;
 #[cfg(test)]
@@ -13,5 +14,6 @@ mod tests;
 pub use beginning::begin_line;
 pub use context::{Call, Context, Statement};
 pub use contexts::Contexts;
+pub use lines::Lines;
 pub use moves::Move;
 pub use stack::Stack;

@@ -5,6 +5,7 @@ ghost use Rattle.apl_frames.specs.declared.frame.Stage.TheVariants.{Pendent};
 ghost use Rattle.apl_defn.specs.Definitions.{is_line};
 ghost use Rattle.apl_contexts.specs.Contexts.{AreStacked, Newest, call_in, line_in};
 
+mod lines;
 mod scene;
 
 use crate::{Call, Context, Contexts, Move, Stack};

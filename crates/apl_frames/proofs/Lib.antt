@@ -4,4 +4,5 @@ pub mod Known
 pub mod Standing
 pub mod Going
 pub mod Pendent
+pub mod Depth
 pub mod Missing

@@ -98,11 +98,38 @@ fn stay(line: &mut FrameBuf) -> bool
     true
 }
 
+/// The same values again.
+fn copied(alloc: Global, operands: &[Operand]) -> Result<Vec<Operand>, Fail>
+    ensures { IfOk result (λ copied. copied.items ≡ operands.now) }
+{
+    let mut copied = Vec::new(alloc);
+    for operand in operands {
+        let Operand::Value(value) = operand else {
+            return Err(Fail::new("no value"));
+        };
+        copied.push(Operand::Value(value.copy()?))?;
+    }
+    Ok(copied)
+}
+
+/// The same pendent line, made of copies of what is public of it.
+fn made_again(alloc: Global, line: &FrameBuf) -> Result<FrameBuf, Fail>
+    requires { line.now.stage ≡ Pendent }
+    ensures { IfOk result (λ again. again ≡ line.now) }
+{
+    let bound = line.bound().copy(alloc)?;
+    let frame = line.lend();
+    let code = Rc::new(alloc, frame.code.copy(alloc)?)?;
+    let operands = copied(alloc, frame.operands)?;
+    Ok(FrameBuf::pendent(alloc, bound, code, frame.done, operands)?)
+}
+
 #[test]
 fn a_line_is_done(rt: HostRuntime) -> Result<(), Fail> {
     let alloc = rt.alloc();
     let mut line = begun(alloc, "(2+3)×4", &[])?;
     assert_eq!(rt; line.stage(), Stage::Ready);
+    assert_eq!(rt; line.bound().items().len(), 7);
     assert_eq!(rt; line.constants().len(), 3);
     assert_eq!(rt; line.constants()[2].at(&[]), Some(Cell::Num(4)));
     assert!(rt; line.operands().is_empty());
@@ -141,6 +168,28 @@ fn a_call_is_answered(rt: HostRuntime) -> Result<(), Fail> {
     assert_eq!(rt; top(&line), Some(Cell::Num(7)));
     assert!(rt; stay(&mut line));
     assert_eq!(rt; line.next().action, dyadic(Primitive::Times));
+    Ok(())
+}
+
+#[test]
+fn a_pendent_line_is_made(rt: HostRuntime) -> Result<(), Fail> {
+    let alloc = rt.alloc();
+    let mut line = begun(alloc, "(F 1)×2+3", &[Class::Function])?;
+    assert!(rt; give(&mut line, number(alloc, 5)?));
+    assert!(rt; call(&mut line));
+    let mut again = made_again(alloc, &line)?;
+    drop(line);
+    assert_eq!(rt; again.stage(), Stage::Pendent);
+    assert_eq!(rt; again.bound().items().len(), 8);
+    assert_eq!(rt; again.lend().done, 2);
+    assert_eq!(rt; again.operands().len(), 1);
+    assert_eq!(rt; top(&again), Some(Cell::Num(5)));
+    assert_eq!(rt; again.awaited_at(), 2);
+    again.answer(number(alloc, 7)?);
+    assert!(rt; stay(&mut again));
+    assert_eq!(rt; again.next().action, dyadic(Primitive::Times));
+    assert!(rt; give(&mut again, number(alloc, 35)?));
+    assert_eq!(rt; again.next().action, Action::End(Ending::Shown));
     Ok(())
 }
 

@@ -17,7 +17,7 @@ use Rattle.apl_vectors.specs.Vectors.{Vectors, without_vector}
 use Rattle.apl_machine.proofs.Readers.{last_under, then_ok}
 use Rattle.apl_machine_state.specs.State.{State}
 use Rattle.apl_contexts.specs.Callers.{Caller}
-use Rattle.apl_machine.proofs.Parts.{parts, same_parts, without_vectors}
+use Rattle.apl_machine.proofs.Changed.{parts, same_parts, without_vectors}
 use Rattle.apl_machine.specs.Worlds.{Settings, settings, state_at}
 
 length_erased : (n : Text) (ms : List Map) → length (without_global n ms) ≡ length ms

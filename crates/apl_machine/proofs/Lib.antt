@@ -13,5 +13,7 @@ pub mod Entered
 pub mod Ends
 pub mod Executed
 pub mod Readers
-pub mod Parts
+pub mod Changed
+pub mod Typed
 pub mod Erased
+pub mod Restored

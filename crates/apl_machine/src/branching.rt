@@ -6,7 +6,6 @@ ghost use Rattle.apl_machine.specs.Spaces.{IsSound, IsStatement, branched_in, es
 
 use crate::returns::returning;
 use crate::workspace::Workspace;
-use apl_contexts::begin_line;
 use apl_machine_state::OutLine;
 use std::alloc::AllocError;
 
@@ -30,7 +29,9 @@ impl Workspace {
             return Ok(());
         };
         if let Some(tokens) = call.definition().tokens(at) {
-            let line = begin_line(self.alloc, &self.names, &mut self.cache, tokens)?;
+            let line = self
+                .lines
+                .begin(&self.names, &mut self.cache, call.function(), at, tokens)?;
             self.contexts.leave();
             self.contexts.begin_line(at, line);
             return Ok(());

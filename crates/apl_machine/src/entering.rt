@@ -13,7 +13,7 @@ use crate::reports::context_fault;
 use crate::traces::stop_report;
 use crate::workspace::Workspace;
 use apl_arrays::Array;
-use apl_contexts::{Call, Context, Move, begin_line};
+use apl_contexts::{Call, Context, Move};
 use apl_faults::Fault;
 use apl_names::{Binding, DefinedFunction};
 use apl_phrases::Scene;
@@ -31,7 +31,9 @@ impl Workspace {
         let Some(tokens) = function.definition().tokens(1) else {
             unreachable!()
         };
-        let line = begin_line(self.alloc, &self.names, &mut self.cache, tokens)?;
+        let line = self
+            .lines
+            .begin(&self.names, &mut self.cache, &function, 1, tokens)?;
         let call = Call::new(function, 1, line);
         self.contexts.enter(Context::Call(call), left)?;
         Ok(())

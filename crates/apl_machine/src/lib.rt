@@ -9,6 +9,7 @@ mod executing;
 mod locals;
 mod machine;
 mod objects;
+mod pieces;
 mod reports;
 mod returns;
 mod stepping;
@@ -17,4 +18,5 @@ mod workspace;
 
 pub use apl_frames::Frame;
 pub use apl_machine_state::{Level, Operand, OutLine, Progress, Slots};
+pub use apl_parts::{CallPart, ContextPart, FunctionPart, Parts, RestPart, StatementPart};
 pub use machine::{BeginError, Machine};

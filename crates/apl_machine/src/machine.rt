@@ -17,7 +17,7 @@ use crate::stepping::{abandon, apply, progress_of};
 use crate::workspace::Workspace;
 use apl_arrays::Array;
 use apl_charset::{Ch, Text};
-use apl_contexts::{Context, Contexts, Statement, begin_line};
+use apl_contexts::{Context, Contexts, Lines, Statement, begin_line};
 use apl_defn::Definition;
 use apl_faults::Fault;
 use apl_frames::Frame;
@@ -36,7 +36,7 @@ use thiserror::Error;
 /// A workspace with what runs in it.
 #[derive(Drop)]
 pub struct Machine {
-    workspace: Workspace,
+    pub(crate) workspace: Workspace,
 }
 
 impl Model for Machine {
@@ -133,6 +133,7 @@ impl Machine {
                 traces: Vectors::new(alloc),
                 io: 1,
                 cache: Cache::new(alloc),
+                lines: Lines::new(alloc),
                 contexts: Contexts::new(alloc),
                 output: Vec::new(alloc),
             },

@@ -11,11 +11,11 @@ use Rattle.std.specs.Str.{bytes_eq}
 use Rattle.std.specs.Map.{keys_of}
 use Rattle.apl_names.specs.declared.binding.Binding.{Binding}
 use Rattle.apl_names.specs.declared.slots.SlotContent.{SlotContent}
-use Rattle.apl_names.specs.Maps.{Text, Map, name_cmp, said, with_entry, last_map, is_function, kinds_in}
+use Rattle.apl_names.specs.Maps.{IsMap, Text, Map, name_cmp, said, with_entry, last_map, is_function, kinds_in}
 use Rattle.apl_names.specs.Slots.{Content, Contents, Scope, scope_of, name_at, named, has, hidden_of, AreWithin, held_of, maps_of, with_held, listed}
-use Rattle.apl_names.proofs.Maps.{IsMap, AreMaps, Holds, same_map, listed_map, said_listed, whole, neither}
+use Rattle.apl_names.proofs.Maps.{AreMaps, Holds, same_map, listed_map, said_listed, whole, neither}
 use Rattle.apl_names.proofs.GlobalSlots.{none_hidden}
-use Rattle.apl_names.proofs.GlobalAnswers.{global_says, global_seen}
+use Rattle.apl_names.proofs.Beneath.{global_says, seen_beneath}
 use Rattle.apl_names.proofs.Symbols.{length-keys_of}
 use Rattle.apl_names.proofs.Whole.{holds_here, its_scopes}
 
@@ -32,16 +32,12 @@ kinds_with n b (e ∷ es) = by (name_cmp n e.0) (kinds_with n b es)
     by Greater h = ap (λ (l : List (Text × Bool)). (e.0, is_function e.1) ∷ l) h
 
 -- what is lent of an entry
-pub lent_some : (n x : Text) (b : Binding) (o : Content) → Some (x, b) ≡ option_map {U = Text × Binding} (λ b. (n, b)) o → (x ≡ n) × (o ≡ Some b)
+lent_some : (n x : Text) (b : Binding) (o : Content) → Some (x, b) ≡ option_map {U = Text × Binding} (λ b. (n, b)) o → (x ≡ n) × (o ≡ Some b)
 lent_some n x b None h = absurd cc
 lent_some n x b (Some c) h =
     let name : x ≡ n = ap (λ o. (unwrap_or {T = Text × Binding} o (x, b)).0) h in
     let binding : c ≡ b = sym (ap (λ o. (unwrap_or {T = Text × Binding} o (x, b)).1) h) in
     (name, ap (λ (y : Binding). Some y) binding)
-
-pub lent_none : (n : Text) (o : Content) → None ≡ option_map {U = Text × Binding} (λ b. (n, b)) o → o ≡ None
-lent_none n None h = refl
-lent_none n (Some c) h = absurd cc
 
 -- one slot more
 one_more : (ks : List Text) (s : Scope) (i : ℕ) → 0 < i → i ≤ length ks → listed (drop (i - 1) ks) s ≡ with_held (name_at ks (i - 1)) (s (name_at ks (i - 1))) (listed (drop i ks) s)
@@ -92,7 +88,7 @@ module _ (es : Contents) (fs : List (Vec SlotContent)) (within : AreWithin (leng
   none_else : Holds ks (said global)
   none_else q h =
       global_says (hidden_of ks fs) (scope_of es) ks q (holds_here es)
-      ∙ global_seen q (hidden_of ks fs) (scope_of es) (none_hidden ks q fs (λ i d lt. not_named ks q (get_or fs i d).items h (within_ks i d lt)))
+      ∙ seen_beneath q (hidden_of ks fs) (scope_of es) (none_hidden ks q fs (λ i d lt. not_named ks q (get_or fs i d).items h (within_ks i d lt)))
       ∙ holds_here es q h
 
   -- the global map is what its slots list

@@ -4,10 +4,10 @@ use Rattle.std.specs.Prelude.{is_some}
 use Rattle.std.specs.Str.{bytes_eq}
 use Rattle.std.specs.Map.{keys_of}
 use Rattle.apl_names.specs.declared.binding.Binding.{Binding}
-use Rattle.apl_names.specs.Maps.{Text, Map, said, without_entry, with_global, without_global}
+use Rattle.apl_names.specs.Maps.{IsMap, IsAbove, Text, Map, said, without_entry, with_global, without_global}
 use Rattle.apl_names.specs.Slots.{Content, Contents, Scope, updated, has, within, laid, last_updated, scopes, AreHeld}
 use Rattle.apl_names.proofs.Texts.{same, flip, chain}
-use Rattle.apl_names.proofs.Maps.{same_scopes, said_with, with_map, none_above, IsMap, IsAbove, AreMaps}
+use Rattle.apl_names.proofs.Maps.{same_scopes, said_with, with_map, none_above, AreMaps}
 use Rattle.apl_names.proofs.Stacks.{past_frame, within_elsewhere}
 
 -- no scope hides n

@@ -7,7 +7,7 @@ pub mod Whole
 pub mod Outcomes
 pub mod Globals
 pub mod GlobalSlots
-pub mod GlobalAnswers
+pub mod Beneath
 pub mod Taking
-pub mod LocalAnswers
+pub mod ScopeAnswers
 pub mod GlobalKinds

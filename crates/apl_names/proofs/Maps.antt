@@ -7,18 +7,9 @@ use Rattle.std.specs.Ordering.{match_ordering}
 use Rattle.std.specs.Str.{bytes_eq}
 use Rattle.std.specs.Map.{keys_of}
 use Rattle.apl_names.specs.declared.binding.Binding.{Binding}
-use Rattle.apl_names.specs.Maps.{Text, Map, name_cmp, said, with_entry}
+use Rattle.apl_names.specs.Maps.{IsAbove, IsMap, Text, Map, name_cmp, said, with_entry}
 use Rattle.apl_names.specs.Slots.{Content, Contents, Scope, updated, has, within, laid, scopes, with_held, listed, maps_from}
 use Rattle.apl_names.proofs.Texts.{same, itself, flip, equal, not_below, apart, chain, turned}
-
--- the names ascend from above n
-abbrev pub IsAbove : Text → Map → Type 0
-IsAbove n [] = Unit {0}
-IsAbove n (e ∷ es) = (name_cmp n e.0 ≡ Less) × IsAbove e.0 es
-
-abbrev pub IsMap : Map → Type 0
-IsMap [] = Unit {0}
-IsMap (e ∷ es) = IsAbove e.0 es
 
 abbrev pub AreMaps : List Map → Type 0
 AreMaps [] = Unit {0}

@@ -1,7 +1,8 @@
 -- The names in force: maps from names to what they stand for, the newest first and the global one last.
-use Rattle.std.specs.Prelude.{ℕ, List, [], ◌∷◌, map, Bool, true, false, Option, Some, None, is_some, if◌then◌else◌}
+use Rattle.std.specs.Prelude.{◌≡◌, ℕ, List, [], ◌∷◌, map, Bool, true, false, Option, Some, None, is_some, if◌then◌else◌}
 use Rattle.std.specs.Option.{option_or}
 use Rattle.std.specs.declared.cmp.Ordering.{Ordering}
+use Rattle.std.specs.declared.cmp.Ordering.TheVariants.{Less}
 use Rattle.std.specs.Ordering.{nat_cmp}
 use Rattle.std.specs.Cmp.Lexicographic.{slice_cmp}
 use Rattle.std.specs.Str.{bytes_eq}
@@ -25,6 +26,16 @@ Map = List (Text × Binding)
 -- the order of names: by code points from the first on, a front before the whole
 abbrev pub name_cmp : Text → Text → Ordering
 name_cmp = slice_cmp nat_cmp
+
+-- the names ascend from above n
+abbrev pub IsAbove : Text → Map → Type 0
+IsAbove n [] = Unit {0}
+IsAbove n (e ∷ es) = (name_cmp n e.0 ≡ Less) × IsAbove e.0 es
+
+-- the names ascend, and so each stands there once
+abbrev pub IsMap : Map → Type 0
+IsMap [] = Unit {0}
+IsMap (e ∷ es) = IsAbove e.0 es
 
 -- what a map says of a name, if it has the name
 abbrev pub said : Map → Text → Option Binding

@@ -7,14 +7,13 @@ ghost use Rattle.apl_names.specs.Maps.{kinds_in, last_map, said};
 ghost use Rattle.apl_names.specs.Slots.{IsSound, held_of, maps_of, name_at};
 
 use crate::binding::Binding;
-use crate::slots::{SlotContent, Symbols, first_of, oldest};
+use crate::slots::{SlotContent, Symbols, content_beneath};
 use apl_symbols::Name;
 use std::alloc::{AllocError, Global};
 use std::collections::BTreeMap;
 
-/// The name of a slot with what it stands for in the global scope, if that has it. Where scopes hide the slot, the oldest
-/// of them keeps what the global scope has.
-pub(crate) fn global_at<'a>(
+/// The name of a slot with what it stands for in the global scope, which lies beneath all others, if that has it.
+fn global_at<'a>(
     symbols: &'a Symbols,
     scopes: &'a [Vec<SlotContent>],
     slot: usize,
@@ -25,11 +24,8 @@ pub(crate) fn global_at<'a>(
     ensures { option_map deref_pair result
         ≡ option_map (λ b. (name_at (keys symbols.now) slot, b)) (said (last_map (maps_of (held_of symbols.now.entries scopes.now))) (name_at (keys symbols.now) slot)) }
 {
-    let (name, content) = symbols.get_index(slot)?;
-    match oldest(scopes, slot) {
-        Some(scope) => Some((name, first_of(scopes[scope].as_slice(), slot)?)),
-        None => Some((name, content.as_ref()?)),
-    }
+    let (name, _) = symbols.get_index(slot)?;
+    Some((name, content_beneath(symbols, scopes, slot)?))
 }
 
 /// The names of the global scope, ascending, and whether each is that of a function.

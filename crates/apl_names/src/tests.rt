@@ -28,6 +28,14 @@ fn global_number(names: &Names, name: &Name) -> Option<i64> {
     }
 }
 
+/// The number of a name that stands for a scalar in the k-th newest scope.
+fn number_in(names: &Names, k: usize, name: &Name) -> Option<i64> {
+    match names.in_scope(k, name)? {
+        Binding::Value(value) => scalar(value),
+        _ => None,
+    }
+}
+
 fn assign(names: &mut Names, alloc: Global, name: &Name, number: i64) -> Result<(), AllocError> {
     names.assign(name, Array::scalar(alloc, Cell::Num(number))?)
 }
@@ -92,6 +100,34 @@ fn global_beneath_locals(rt: HostRuntime) -> Result<(), Fail> {
     assert!(rt; names.global(&y).is_none());
     assign(&mut names, alloc, &z, 5)?;
     assert_eq!(rt; global_number(&names, &z), Some(5));
+    Ok(())
+}
+
+#[test]
+fn scope_by_scope(rt: HostRuntime) -> Result<(), Fail> {
+    let alloc = rt.alloc();
+    let [x, y, z] = three_names().ok_or("no name")?;
+    let mut names = Names::new(alloc);
+    assign(&mut names, alloc, &x, 1)?;
+    assign(&mut names, alloc, &z, 3)?;
+    for local in 2..4 {
+        let mut locals = Vec::new(alloc);
+        locals.push((x, Binding::Unset))?;
+        if local == 3 {
+            locals.push((y, Binding::Label(7)))?;
+        }
+        names.enter(locals)?;
+        assign(&mut names, alloc, &x, local)?;
+    }
+    assert_eq!(rt; number_in(&names, 0, &x), Some(3));
+    assert_eq!(rt; number_in(&names, 1, &x), Some(2));
+    assert_eq!(rt; number_in(&names, 2, &x), Some(1));
+    assert!(rt; names.in_scope(3, &x).is_none());
+    assert!(rt; matches!(names.in_scope(0, &y), Some(Binding::Label(7))));
+    assert!(rt; names.in_scope(1, &y).is_none());
+    assert!(rt; names.in_scope(2, &y).is_none());
+    assert!(rt; names.in_scope(1, &z).is_none());
+    assert_eq!(rt; number_in(&names, 2, &z), Some(3));
     Ok(())
 }
 

@@ -1,24 +1,26 @@
 //! What phrases do.
-ghost use Rattle.std.specs.Prelude.{◌≤◌, IfOk, ℤ, List, Option, Result};
+ghost use Rattle.std.specs.Prelude.{◌≡◌, ◌≤◌, false, is_some, IfOk, ℤ, List, Option, Result};
 ghost use Rattle.apl_arrays.specs.Answers.{Answers};
 ghost use Rattle.apl_arrays.specs.Cells.{Arr};
 ghost use Rattle.apl_faults.specs.declared.fault.Fault.{Fault};
 ghost use Rattle.apl_machine_state.specs.declared.operand.Operand.{Operand};
 ghost use Rattle.apl_machine_state.specs.Environment.{index_origin};
 ghost use Rattle.apl_machine_state.specs.Outcomes.{of_result};
+ghost use Rattle.apl_primitives.specs.Tables.{monadic_of};
 ghost use Rattle.apl_primitives.specs.Taken.{taken};
 ghost use Rattle.apl_primitives.specs.Values.{phrase_value};
 ghost use Rattle.apl_phrases.specs.Effects.{IsEffect, seen};
+ghost use Rattle.apl_phrases.specs.Origins.{IsOfNoOrigin};
 
 use crate::scene::Scene;
 use apl_arrays::{Array, Stop};
 use apl_charset::Text;
-use apl_code::Row;
+use apl_code::{Function, Row};
 use apl_faults::Fault;
 use apl_machine_state::{Operand, OutLine, Watch};
 use apl_names::DefinedFunction;
 use apl_primitives::{Arguments, phrase_value};
-use apl_symbols::Name;
+use apl_symbols::{Name, Primitive};
 use apl_tokens::Token;
 use std::alloc::{AllocError, Global};
 
@@ -64,6 +66,36 @@ fn effect_of(answer: Result<Array, Stop>) -> Result<Effect, AllocError>
     }
 }
 
+/// Whether the function of one array goes item by item.
+fn goes_by_items(function: Primitive) -> bool
+    ensures { result ≡ is_some (monadic_of function) }
+{
+    matches!(
+        function,
+        Primitive::Plus
+            | Primitive::Minus
+            | Primitive::Times
+            | Primitive::Divide
+            | Primitive::Upstile
+            | Primitive::Downstile
+            | Primitive::Stile
+            | Primitive::Tilde
+            | Primitive::Bang
+    )
+}
+
+/// Whether what a phrase of this row gives may hang on the index origin.
+fn asks_origin(row: &Row) -> bool
+    ensures { result ≡ false → IsOfNoOrigin row.now }
+{
+    match *row {
+        Row::Monadic(Function::Primitive(function)) => !goes_by_items(function),
+        Row::Dyadic(Function::Primitive(function)) => !function.is_scalar(),
+        Row::Reduce(_, _) | Row::Inner(_, _) | Row::Outer(_) => false,
+        _ => true,
+    }
+}
+
 /// What a phrase of a row gives that the primitives give.
 pub fn value(
     alloc: Global,
@@ -74,5 +106,8 @@ pub fn value(
     requires { scene.io ≤ 1 }
     ensures { IfOk result (λ e. (lines : List ℤ) (operands : List (Option Operand)) → IsEffect lines e (of_result (phrase_value row.now (taken arguments.entry) (index_origin (seen scene.entry lines)))) operands) }
 {
-    effect_of(phrase_value(alloc, row, arguments, scene.origin()))
+    if asks_origin(row) {
+        return effect_of(phrase_value(alloc, row, arguments, scene.origin()));
+    }
+    effect_of(phrase_value(alloc, row, arguments, 1))
 }

@@ -5,3 +5,4 @@ pub mod Translation
 pub mod Scan
 pub mod Binding
 pub mod Kept
+pub mod Ready

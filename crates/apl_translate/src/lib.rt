@@ -9,6 +9,7 @@ mod cache_tests;
 mod equality;
 mod form;
 mod phrase;
+mod ready;
 #[cfg(test)]
 mod tests;
 mod translation;
@@ -16,4 +17,5 @@ mod translation;
 pub use binding::bind;
 pub use cache::{Cache, KEPT};
 pub use form::{Bound, Form, Placed, Word};
+pub use ready::Translated;
 pub use translation::translate;

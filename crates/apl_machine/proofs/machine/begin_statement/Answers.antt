@@ -2,7 +2,9 @@ use Rattle.std.proofs.Common.{List, None, sym, ap, ◌∙◌, subst}
 use Rattle.apl_machine_state.specs.Beginning.{started}
 use Rattle.apl_contexts.specs.declared.context.Context.{Context}
 use Rattle.apl_machine.specs.Spaces.{Space, IsSound, state_of}
-use Rattle.apl_machine.proofs.Parts.{started_is}
+use Rattle.apl_contexts.specs.Contexts.{line_in}
+use Rattle.apl_machine.proofs.Changed.{started_is}
+use Rattle.apl_machine.proofs.Typed.{typed_sound}
 use Rattle.apl_machine.specs.Worlds.{settings, state_at}
 use Rattle.apl_machine.proofs.machine.begin_statement.Goals as goal
 
@@ -13,3 +15,11 @@ returns-clause-ok c =
     ap (λ (l : List Context). state_at s.maps s.kept l s.output) c.in_ok-push.ensures.ok
     ∙ started_is s.maps s.kept s.output s.contexts (record { text = c.new-text.result; line = c.in_ok-line.line }) c.args.text.now c.args.tokens.now sound.contexts.as_many (c.new-text.ensures ∙ c.in_ok-from_slice.ensures.items) c.in_ok-line.ensures.rest
     ∙ ap (λ (x : Space). started (state_of x) c.args.text.now c.args.tokens.now None) c.workspace.view_is
+
+pub returns-clause-sound : goal.returns-clause-sound
+returns-clause-sound c =
+    let s : Space = record { maps = c.workspace.inside.names; kept = settings c.workspace.inside.stops c.workspace.inside.traces c.workspace.inside.io; contexts = c.workspace.inside.contexts; output = c.workspace.inside.output.items } in
+    let sound : IsSound s = subst IsSound (sym c.workspace.view_is) c.requires.sound in
+    let idle = ap (λ (x : Space). line_in x.contexts) c.workspace.view_is ∙ c.requires.idle in
+    subst (λ (l : List Context). IsSound (record s { contexts = l })) (sym c.in_ok-push.ensures.ok)
+    (typed_sound s (record { text = c.new-text.result; line = c.in_ok-line.line }) sound idle c.in_ok-line.ensures.ready)

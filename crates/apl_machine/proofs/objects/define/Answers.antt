@@ -2,7 +2,7 @@ use Rattle.std.proofs.Common.{sym, ap, ◌∙◌, subst}
 use Rattle.apl_defn.specs.Definitions.{Header}
 use Rattle.apl_machine_state.specs.State.{with_function}
 use Rattle.apl_machine.specs.Spaces.{Space, IsSound, state_of}
-use Rattle.apl_machine.proofs.Parts.{define_sound, define_is}
+use Rattle.apl_machine.proofs.Changed.{define_sound, define_is}
 use Rattle.apl_machine.specs.Worlds.{settings}
 use Rattle.apl_machine.proofs.objects.define.Goals as goal
 

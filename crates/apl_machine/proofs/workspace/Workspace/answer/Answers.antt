@@ -12,7 +12,7 @@ use Rattle.apl_machine.specs.Spaces.{Space, answered_in, state_of}
 use Rattle.apl_machine.specs.Worlds.{settings, state_at}
 use Rattle.apl_machine.proofs.Ends.{a_place}
 use Rattle.apl_machine.proofs.Executed.{below_waits, has_below, missing_is, value_is}
-use Rattle.apl_machine.proofs.Parts.{suspended_sound}
+use Rattle.apl_machine.proofs.Changed.{suspended_sound}
 use Rattle.apl_machine.proofs.workspace.Workspace.answer.Goals as goal
 
 pub unreachable-requires : goal.unreachable-requires

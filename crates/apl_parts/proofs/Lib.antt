@@ -1,0 +1,7 @@
+pub mod Objects
+pub mod Added
+pub mod Labels
+pub mod Globals
+pub mod Told
+pub mod Clear
+pub mod Lines

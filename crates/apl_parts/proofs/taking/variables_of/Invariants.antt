@@ -1,0 +1,8 @@
+use Rattle.std.proofs.Common.{◌≡◌, take}
+use Rattle.std.specs.List.{flat_map}
+use Rattle.apl_names.specs.Maps.{last_map, said}
+use Rattle.apl_parts.specs.Making.{variable_at}
+use Rattle.apl_parts.proofs.taking.variables_of.Given as goal
+
+abbrev pub invariant-loop-name : goal.invariant-loop-name
+invariant-loop-name l = l.variables.items ≡ flat_map (λ k. variable_at k.0 (said (last_map l.names) k.0)) (take l.name-index l.globals)

@@ -1,0 +1,5 @@
+pub mod Pieces
+pub mod Workspaces
+pub mod Taken
+pub mod Restored
+pub mod Making

@@ -1,0 +1,13 @@
+-- A workspace in parts.
+use Rattle.std.specs.Prelude.{ℕ, List}
+use Rattle.apl_arrays.specs.Cells.{Arr}
+use Rattle.apl_defn.specs.Definitions.{Text}
+use Rattle.apl_parts.specs.declared.parts.ContextPart.{ContextPart}
+use Rattle.apl_parts.specs.Pieces.{Watched}
+
+-- the global functions and the global variables, each ascending by name, the index origin, and the contexts, the oldest first
+pub record Pieces : Type 0 where
+  pub functions : List Watched
+  pub variables : List (Text × Arr)
+  pub origin : ℕ
+  pub contexts : List ContextPart

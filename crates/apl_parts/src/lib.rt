@@ -1,0 +1,12 @@
+//! A workspace in parts: taken apart, and put together again.
+#![tactic(auto)]
+
+mod parts;
+mod restoring;
+mod resuming;
+mod standing;
+mod taking;
+
+pub use parts::{CallPart, ContextPart, FunctionPart, Parts, RestPart, Restored, StatementPart};
+pub use restoring::restored;
+pub use taking::taken;

@@ -1,0 +1,187 @@
+//! Plays a session, as want of memory is tried in it. It reads the session from standard input, lines as they are typed to
+//! the interpreter, and writes what the interpreter writes that gives a line 1,000 steps. Where a call of the session is
+//! refused its memory, the session must stand as before that call, and the call that is made again goes on. The program
+//! takes no memory of its own before the first refusal, so `bin/refuse` can refuse each allocation of a session in turn.
+#![tactic(auto)]
+
+ghost use Rattle.std.specs.Prelude.{IfOk, ◌≤◌, length};
+
+mod comparing;
+mod names;
+mod player;
+mod shown;
+#[cfg(test)]
+mod tests;
+
+use crate::comparing::{Difference, compare};
+use crate::names::names_in;
+use crate::player::Player;
+use crate::shown::Shown;
+use apl_machine::OutLine;
+use std::alloc::{AllocError, Global};
+use std::io::{self, Read};
+use std::process::ExitCode;
+
+/// What is wrong after a call was refused its memory.
+#[derive(Clone, Copy, Debug, PartialEq, Eq)]
+enum Wrong {
+    /// Memory is wanting again, to make the call again or to compare.
+    Refused,
+    /// The session isn't as before the call.
+    Changed(Difference),
+    /// The session isn't as it would be had the call not been refused.
+    Strayed(Difference),
+}
+
+impl From<AllocError> for Wrong {
+    fn from(_error: AllocError) -> Wrong {
+        Wrong::Refused
+    }
+}
+
+impl Wrong {
+    /// Tells it on standard error.
+    fn report<R: Eprint>(self, rt: &R) -> io::Result<()> {
+        match self {
+            Wrong::Refused => eprintln!(rt; "memory is wanting a second time"),
+            Wrong::Changed(what) => eprintln!(rt; "the refused call has changed {what}"),
+            Wrong::Strayed(what) => eprintln!(rt; "made again, the call gives another {what}"),
+        }
+    }
+}
+
+/// Why the program ends before the session does.
+enum Ended {
+    /// The session can't be read, or its output not be written.
+    Device,
+    /// The session has more bytes than there is room for.
+    TooLong,
+    /// A refused call was wrong; it has been told.
+    Wrong,
+}
+
+impl From<io::Error> for Ended {
+    fn from(_error: io::Error) -> Ended {
+        Ended::Device
+    }
+}
+
+/// The most bytes of a session.
+const ROOM: usize = 16_384;
+
+/// Reads to the end into the buffer, or as far as it has room, and counts the bytes.
+fn read_all<S: Read>(input: &mut S, buffer: &mut [u8]) -> io::Result<usize>
+    ensures { IfOk result (λ n. n ≤ length buffer.new) }
+{
+    let mut filled = 0;
+    for _ in 0..u64::MAX {
+        match input.read(&mut buffer[filled..])? {
+            0 => break,
+            count => filled += count,
+        }
+    }
+    Ok(filled)
+}
+
+/// Writes lines of output. It takes no memory.
+fn write_lines<R: Print>(rt: &R, lines: &[OutLine]) -> io::Result<()> {
+    for line in lines {
+        println!(rt; "{}", Shown(line.text.as_slice()))?;
+    }
+    Ok(())
+}
+
+/// Looks at a session whose next call was refused its memory, and makes that call again. Beside it stands a session to
+/// which the same calls are made, and nothing is refused.
+fn go_on(alloc: Global, input: &[u8], player: &mut Player<'_>) -> Result<(), Wrong> {
+    let names = names_in(alloc, input)?;
+    let mut other = Player::after(alloc, input, player.calls())?;
+    if !player.take_output().is_empty() {
+        return Err(Wrong::Changed(Difference::Output));
+    }
+    if let Some(what) = compare(player.machine(), other.machine(), &names)? {
+        return Err(Wrong::Changed(what));
+    }
+    player.play()?;
+    other.play()?;
+    match compare(player.machine(), other.machine(), &names)? {
+        Some(what) => Err(Wrong::Strayed(what)),
+        None => Ok(()),
+    }
+}
+
+/// Looks at a session at its end, some call of which was refused its memory, as `go_on` does.
+fn compare_end(alloc: Global, input: &[u8], player: &Player<'_>) -> Result<(), Wrong> {
+    let names = names_in(alloc, input)?;
+    let other = Player::after(alloc, input, player.calls())?;
+    match compare(player.machine(), other.machine(), &names)? {
+        Some(what) => Err(Wrong::Strayed(what)),
+        None => Ok(()),
+    }
+}
+
+/// Tells what is wrong, and where in the session.
+fn blame<R: Eprint>(rt: &R, player: &Player<'_>, wrong: Wrong) -> Ended {
+    let _ = eprint!(rt;
+        "apl_refusals: behind line {}, step {}: ",
+        player.line(),
+        player.steps()
+    );
+    let _ = wrong.report(rt);
+    Ended::Wrong
+}
+
+/// Plays a session to its end, and tells whether a call was refused its memory.
+fn play<R: Print + Eprint + AllocGlobal>(rt: &R, input: &[u8]) -> Result<bool, Ended> {
+    let alloc = rt.alloc();
+    let mut player = Player::new(alloc, input);
+    let mut refused = false;
+    for _ in 0..u64::MAX {
+        match player.play() {
+            Ok(true) => {}
+            Ok(false) => break,
+            Err(AllocError) => {
+                refused = true;
+                if let Err(wrong) = go_on(alloc, input, &mut player) {
+                    return Err(blame(rt, &player, wrong));
+                }
+            }
+        }
+        write_lines(rt, &player.take_output())?;
+    }
+    if refused {
+        if let Err(wrong) = compare_end(alloc, input, &player) {
+            return Err(blame(rt, &player, wrong));
+        }
+    }
+    Ok(refused)
+}
+
+/// Reads a session and plays it, and tells whether a call was refused its memory.
+fn run<R: Print + Eprint + AllocGlobal, S: Read>(rt: &R, input: &mut S) -> Result<bool, Ended> {
+    let mut buffer = [0u8; ROOM];
+    let count = read_all(input, &mut buffer)?;
+    if count == ROOM {
+        return Err(Ended::TooLong);
+    }
+    play(rt, &buffer[..count])
+}
+
+fn main(rt: HostRuntime) -> ExitCode {
+    match run(&rt, &mut rt.stdin()) {
+        Ok(false) => ExitCode::SUCCESS,
+        Ok(true) => {
+            let _ = eprintln!(rt; "refused");
+            ExitCode::SUCCESS
+        }
+        Err(Ended::Wrong) => ExitCode::from(1),
+        Err(Ended::TooLong) => {
+            let _ = eprintln!(rt; "apl_refusals: a session has at most {} bytes", ROOM - 1);
+            ExitCode::from(2)
+        }
+        Err(Ended::Device) => {
+            let _ = eprintln!(rt; "apl_refusals: reading or writing failed");
+            ExitCode::from(2)
+        }
+    }
+}
