@@ -18,6 +18,7 @@ use crate::names::names_in;
 use crate::player::Player;
 use crate::shown::Shown;
 use apl_machine::OutLine;
+use apl_symbols::Name;
 use std::alloc::{AllocError, Global};
 use std::io::{self, Read};
 use std::process::ExitCode;
@@ -91,30 +92,59 @@ fn write_lines<R: Print>(rt: &R, lines: &[OutLine]) -> io::Result<()> {
     Ok(())
 }
 
-/// Looks at a session whose next call was refused its memory, and makes that call again. Beside it stands a session to
-/// which the same calls are made, and nothing is refused.
-fn go_on(alloc: Global, input: &[u8], player: &mut Player<'_>) -> Result<(), Wrong> {
-    let names = names_in(alloc, input)?;
-    let mut other = Player::after(alloc, input, player.calls())?;
-    if !player.take_output().is_empty() {
+/// Writes the lines that were written since the last call. It takes no memory.
+fn write_output<R: Print>(rt: &R, player: &mut Player<'_>) -> io::Result<()> {
+    write_lines(rt, &player.take_output())
+}
+
+/// Whether there is output that wasn't taken.
+fn has_output(player: &mut Player<'_>) -> bool {
+    !player.take_output().is_empty()
+}
+
+/// Looks at a session whose next call was refused its memory, and makes that call again. Beside it stands another to
+/// which the same calls were made, and nothing was refused.
+fn go_on_beside(
+    player: &mut Player<'_>,
+    other: &mut Player<'_>,
+    names: &[Name],
+) -> Result<(), Wrong> {
+    if has_output(player) {
         return Err(Wrong::Changed(Difference::Output));
     }
-    if let Some(what) = compare(player.machine(), other.machine(), &names)? {
+    if let Some(what) = compare(player.machine(), other.machine(), names)? {
         return Err(Wrong::Changed(what));
     }
     player.play()?;
     other.play()?;
-    match compare(player.machine(), other.machine(), &names)? {
+    match compare(player.machine(), other.machine(), names)? {
         Some(what) => Err(Wrong::Strayed(what)),
         None => Ok(()),
     }
 }
 
+/// Looks at a session whose next call was refused its memory, and makes that call again.
+fn go_on(alloc: Global, input: &[u8], player: &mut Player<'_>) -> Result<(), Wrong> {
+    let names = names_in(alloc, input)?;
+    let mut other = Player::after(alloc, input, player.calls())?;
+    go_on_beside(player, &mut other, &names)
+}
+
+/// What tells a session from one to which the same calls were made, and nothing was refused.
+fn told(
+    alloc: Global,
+    input: &[u8],
+    player: &Player<'_>,
+    names: &[Name],
+) -> Result<Option<Difference>, AllocError> {
+    let other = Player::after(alloc, input, player.calls())?;
+    compare(player.machine(), other.machine(), names)
+}
+
 /// Looks at a session at its end, some call of which was refused its memory, as `go_on` does.
 fn compare_end(alloc: Global, input: &[u8], player: &Player<'_>) -> Result<(), Wrong> {
     let names = names_in(alloc, input)?;
-    let other = Player::after(alloc, input, player.calls())?;
-    match compare(player.machine(), other.machine(), &names)? {
+    match told(alloc, input, player, &names)? {
         Some(what) => Err(Wrong::Strayed(what)),
         None => Ok(()),
     }
@@ -131,26 +161,56 @@ fn blame<R: Eprint>(rt: &R, player: &Player<'_>, wrong: Wrong) -> Ended {
     Ended::Wrong
 }
 
-/// Plays a session to its end, and tells whether a call was refused its memory.
-fn play<R: Print + Eprint + AllocGlobal>(rt: &R, input: &[u8]) -> Result<bool, Ended> {
-    let alloc = rt.alloc();
-    let mut player = Player::new(alloc, input);
+/// What became of the call that was due.
+enum Played {
+    /// It was made.
+    Made,
+    /// It was refused its memory, and made again.
+    Again,
+    /// There was none.
+    Nothing,
+}
+
+/// Makes the call that is due, and once again where it is refused its memory.
+fn play_once<R: Eprint + AllocGlobal>(
+    rt: &R,
+    input: &[u8],
+    player: &mut Player<'_>,
+) -> Result<Played, Ended> {
+    match player.play() {
+        Ok(true) => Ok(Played::Made),
+        Ok(false) => Ok(Played::Nothing),
+        Err(AllocError) => match go_on(rt.alloc(), input, player) {
+            Ok(()) => Ok(Played::Again),
+            Err(wrong) => Err(blame(rt, player, wrong)),
+        },
+    }
+}
+
+/// Plays a session on to its end, and tells whether a call was refused its memory.
+fn play_on<R: Print + Eprint + AllocGlobal>(
+    rt: &R,
+    input: &[u8],
+    player: &mut Player<'_>,
+) -> Result<bool, Ended> {
     let mut refused = false;
     for _ in 0..u64::MAX {
-        match player.play() {
-            Ok(true) => {}
-            Ok(false) => break,
-            Err(AllocError) => {
-                refused = true;
-                if let Err(wrong) = go_on(alloc, input, &mut player) {
-                    return Err(blame(rt, &player, wrong));
-                }
-            }
+        match play_once(rt, input, player)? {
+            Played::Made => {}
+            Played::Again => refused = true,
+            Played::Nothing => break,
         }
-        write_lines(rt, &player.take_output())?;
+        write_output(rt, player)?;
     }
+    Ok(refused)
+}
+
+/// Plays a session to its end, and tells whether a call was refused its memory.
+fn play<R: Print + Eprint + AllocGlobal>(rt: &R, input: &[u8]) -> Result<bool, Ended> {
+    let mut player = Player::new(rt.alloc(), input);
+    let refused = play_on(rt, input, &mut player)?;
     if refused {
-        if let Err(wrong) = compare_end(alloc, input, &player) {
+        if let Err(wrong) = compare_end(rt.alloc(), input, &player) {
             return Err(blame(rt, &player, wrong));
         }
     }

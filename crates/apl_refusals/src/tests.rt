@@ -4,6 +4,7 @@ use crate::comparing::{Difference, compare};
 use crate::names::names_in;
 use crate::player::{Player, STEPS};
 use apl_machine::OutLine;
+use apl_symbols::Name;
 use std::alloc::{AllocError, Global};
 use std::test::Fail;
 
@@ -60,6 +61,17 @@ fn an_endless_line_is_interrupted(rt: HostRuntime) -> Result<(), Fail> {
     Ok(())
 }
 
+/// What tells a session from the one with this input after so many calls.
+fn told_from(
+    alloc: Global,
+    one: &Player<'_>,
+    other: (&str, u64),
+    names: &[Name],
+) -> Result<Option<Difference>, AllocError> {
+    let other = Player::after(alloc, other.0.as_bytes(), other.1)?;
+    compare(one.machine(), other.machine(), names)
+}
+
 /// What tells two sessions apart after so many calls.
 fn told(
     alloc: Global,
@@ -68,15 +80,21 @@ fn told(
 ) -> Result<Option<Difference>, AllocError> {
     let names = names_in(alloc, one.0.as_bytes())?;
     let one = Player::after(alloc, one.0.as_bytes(), one.1)?;
-    let other = Player::after(alloc, other.0.as_bytes(), other.1)?;
-    compare(one.machine(), other.machine(), &names)
+    told_from(alloc, &one, other, &names)
+}
+
+/// The second of the four names of a text.
+fn second_of_four(alloc: Global, text: &str) -> Result<Option<Name>, AllocError> {
+    match names_in(alloc, text.as_bytes())?.as_slice() {
+        [_, name, _, _] => Ok(Some(*name)),
+        _ => Ok(None),
+    }
 }
 
 #[test]
 fn differences_are_seen(rt: HostRuntime) -> Result<(), Fail> {
-    let names = names_in(rt.alloc(), "∇Z←F A1;_B\nZ\n".as_bytes())?;
-    assert_eq!(rt; names.len(), 4);
-    let of_f = Difference::Name(names[1]);
+    let name = second_of_four(rt.alloc(), "∇Z←F A1;_B\nZ\n")?;
+    let of_f = Difference::Name(name.ok_or("no four names")?);
     let rows = [
         (("2+3×4\n", 9), ("2+3×5\n", 9), None),
         (("Z←1\nF←2\n", 9), ("F←1\nZ←1\nF←2\n", 12), None),
