@@ -211,14 +211,188 @@ fn is_blamed(contexts: &Contexts, column: usize) -> bool
     }
 }
 
+/// The statement stands alone, and then a call above it.
+fn is_called_once(scene: &mut Scene, alloc: Global) -> Result<bool, AllocError> {
+    Ok(
+        is_statement(scene.contexts.newest())
+            && scene.contexts.call().is_none()
+            && calls(scene, alloc, 1)?
+            && is_called(&scene.contexts)
+            && scene.contexts.standing() == 1,
+    )
+}
+
+/// The newest context goes on with its answer, and with what its phrase gives, which is shown.
+fn shows_eight(contexts: &mut Contexts, alloc: Global) -> Result<bool, AllocError> {
+    Ok(
+        is_answered(contexts, alloc, 4)?
+            && goes_on_with(contexts, 4)
+            && gives(contexts, alloc, 8)?
+            && goes_on_with(contexts, 8)
+            && is_next(contexts, Action::End(Ending::Shown)),
+    )
+}
+
+/// A call is done, and the statement goes on with its answer.
+fn returns_four(scene: &mut Scene, alloc: Global) -> Result<bool, AllocError> {
+    if !calls(scene, alloc, 1)? {
+        return Ok(false);
+    }
+    scene.contexts.pop();
+    shows_eight(&mut scene.contexts, alloc)
+}
+
+/// A call is done without an answer, which only then can be.
+fn returns_nothing(scene: &mut Scene, alloc: Global) -> Result<bool, AllocError> {
+    if is_emptied(&mut scene.contexts) || !calls(scene, alloc, 1)? {
+        return Ok(false);
+    }
+    scene.contexts.pop();
+    Ok(is_emptied(&mut scene.contexts) && is_at(scene.contexts.newest(), Stage::Emptied))
+}
+
+/// Whether a call at the second line, which is suspended, stands above one at the first.
+fn are_two(scene: &Scene, alloc: Global) -> Result<bool, AllocError> {
+    let want = [
+        level(&scene.function, 2, true),
+        level(&scene.function, 1, false),
+    ];
+    Ok(stand(&scene.contexts, alloc, &want)? && stand_at(&scene.contexts, alloc, &[2, 1])?)
+}
+
+/// A call in a call is suspended.
+fn suspends_two(scene: &mut Scene, alloc: Global) -> Result<bool, AllocError> {
+    if !calls(scene, alloc, 1)? || !calls(scene, alloc, 2)? {
+        return Ok(false);
+    }
+    scene.contexts.suspend();
+    Ok(scene.contexts.line().is_none() && are_two(scene, alloc)?)
+}
+
+/// No context is left once all are cleared.
+fn is_cleared(contexts: &mut Contexts) -> bool {
+    contexts.clear();
+    contexts.newest().is_none()
+}
+
+/// A statement over a suspended call goes without it, and the call goes when all are cleared.
+fn goes_before_its_call(scene: &mut Scene, alloc: Global) -> Result<bool, Fail> {
+    if !stands_before(scene, 1)? {
+        return Ok(false);
+    }
+    types(scene, alloc, "4")?;
+    if !is_statement(scene.contexts.newest()) {
+        return Ok(false);
+    }
+    scene.contexts.suspend();
+    Ok(is_call(scene.contexts.newest()) && is_cleared(&mut scene.contexts))
+}
+
+/// The call stops before its last line, and before no other after it.
+fn stops_at_its_last(contexts: &mut Contexts, alloc: Global) -> Result<bool, AllocError> {
+    Ok(
+        stops(contexts, 3)
+            && contexts.line().is_none()
+            && stand_at(contexts, alloc, &[3])?
+            && !stops(contexts, 4),
+    )
+}
+
+/// A call goes on at its second line, whose value is shown, and stops before its last.
+fn resumes_and_stops(scene: &mut Scene, alloc: Global) -> Result<bool, AllocError> {
+    Ok(
+        stands_before(scene, 1)?
+            && resumes(scene, alloc, 2)?
+            && gives(&mut scene.contexts, alloc, 5)?
+            && is_next(&scene.contexts, Action::End(Ending::Shown))
+            && stops_at_its_last(&mut scene.contexts, alloc)?,
+    )
+}
+
+/// A text is done, and the statement that executes it goes on with its value.
+fn executes_to_five(scene: &mut Scene, alloc: Global) -> Result<bool, Fail> {
+    if !executes(scene, alloc, "2+3")? || !is_executed(scene.contexts.stack()) {
+        return Ok(false);
+    }
+    if !gives(&mut scene.contexts, alloc, 5)? {
+        return Ok(false);
+    }
+    scene.contexts.pop();
+    Ok(is_answered(&mut scene.contexts, alloc, 5)? && goes_on_with(&scene.contexts, 5))
+}
+
+/// A call executes its text.
+fn calls_and_executes(scene: &mut Scene, alloc: Global) -> Result<bool, Fail> {
+    Ok(calls(scene, alloc, 1)? && executes(scene, alloc, "2+3")?)
+}
+
+/// A call that executes its text is left, and the text with it.
+fn leaves_both(scene: &mut Scene, alloc: Global) -> Result<bool, Fail> {
+    if !calls_and_executes(scene, alloc)?
+        || scene.contexts.standing() != 2
+        || !is_executed_in_a_call(scene.contexts.stack())
+    {
+        return Ok(false);
+    }
+    scene.contexts.leave();
+    Ok(is_statement(scene.contexts.newest()) && scene.contexts.standing() == 0)
+}
+
+/// A call that executes its text is stopped before its line, and the text is gone.
+fn stops_without_its_text(scene: &mut Scene, alloc: Global) -> Result<bool, Fail> {
+    Ok(
+        calls_and_executes(scene, alloc)?
+            && stops(&mut scene.contexts, 1)
+            && is_call(scene.contexts.newest())
+            && scene.contexts.line().is_none(),
+    )
+}
+
+/// What is asked of a scene.
+#[derive(Clone, Copy)]
+enum Row {
+    CalledOnce,
+    ReturnsFour,
+    ReturnsNothing,
+    SuspendsTwo,
+    ExecutesToFive,
+    LeavesBoth,
+    StopsWithoutItsText,
+    GoesBeforeItsCall,
+    ResumesAndStops,
+}
+
+/// Whether a scene answers so.
+fn answers(scene: &mut Scene, alloc: Global, row: Row) -> Result<bool, Fail> {
+    match row {
+        Row::CalledOnce => Ok(is_called_once(scene, alloc)?),
+        Row::ReturnsFour => Ok(returns_four(scene, alloc)?),
+        Row::ReturnsNothing => Ok(returns_nothing(scene, alloc)?),
+        Row::SuspendsTwo => Ok(suspends_two(scene, alloc)?),
+        Row::ExecutesToFive => executes_to_five(scene, alloc),
+        Row::LeavesBoth => leaves_both(scene, alloc),
+        Row::StopsWithoutItsText => stops_without_its_text(scene, alloc),
+        Row::GoesBeforeItsCall => goes_before_its_call(scene, alloc),
+        Row::ResumesAndStops => Ok(resumes_and_stops(scene, alloc)?),
+    }
+}
+
+/// Whether a scene before anything is typed answers so.
+fn holds_in(alloc: Global, lines: &[&str], row: Row) -> Result<bool, Fail> {
+    let mut scene = scene_of(alloc, lines)?;
+    answers(&mut scene, alloc, row)
+}
+
+/// Whether a scene where this statement is typed answers so.
+fn holds_with(alloc: Global, lines: &[&str], line: &str, row: Row) -> Result<bool, Fail> {
+    let mut scene = scene_with(alloc, lines, line)?;
+    answers(&mut scene, alloc, row)
+}
+
 #[test]
 fn a_call_stands(rt: HostRuntime) -> Result<(), Fail> {
     let alloc = rt.alloc();
-    let mut scene = scene_with(alloc, &["Z←F B", "Z←B+1"], "2×F 3")?;
-    assert!(rt; is_statement(scene.contexts.newest()) && scene.contexts.call().is_none());
-    assert!(rt; calls(&mut scene, alloc, 1)?);
-    assert!(rt; is_called(&scene.contexts));
-    assert!(rt; scene.contexts.standing() == 1);
+    assert!(rt; holds_with(alloc, &["Z←F B", "Z←B+1"], "2×F 3", Row::CalledOnce)?);
     Ok(())
 }
 
@@ -234,111 +408,56 @@ fn what_a_call_tells(rt: HostRuntime) -> Result<(), Fail> {
 #[test]
 fn a_call_is_answered(rt: HostRuntime) -> Result<(), Fail> {
     let alloc = rt.alloc();
-    let mut scene = scene_with(alloc, &["Z←F B", "Z←B+1"], "2×F 3")?;
-    assert!(rt; calls(&mut scene, alloc, 1)?);
-    scene.contexts.pop();
-    assert!(rt; is_answered(&mut scene.contexts, alloc, 4)?);
-    assert!(rt; goes_on_with(&scene.contexts, 4));
-    assert!(rt; gives(&mut scene.contexts, alloc, 8)?);
-    assert!(rt; goes_on_with(&scene.contexts, 8));
-    assert!(rt; is_next(&scene.contexts, Action::End(Ending::Shown)));
+    assert!(rt; holds_with(alloc, &["Z←F B", "Z←B+1"], "2×F 3", Row::ReturnsFour)?);
     Ok(())
 }
 
 #[test]
 fn a_call_gives_no_value(rt: HostRuntime) -> Result<(), Fail> {
     let alloc = rt.alloc();
-    let mut scene = scene_with(alloc, &["F", "2+3"], "F")?;
-    assert!(rt; !is_emptied(&mut scene.contexts));
-    assert!(rt; calls(&mut scene, alloc, 1)?);
-    scene.contexts.pop();
-    assert!(rt; is_emptied(&mut scene.contexts));
-    assert!(rt; is_at(scene.contexts.newest(), Stage::Emptied));
+    assert!(rt; holds_with(alloc, &["F", "2+3"], "F", Row::ReturnsNothing)?);
     Ok(())
 }
 
 #[test]
 fn calls_are_suspended(rt: HostRuntime) -> Result<(), Fail> {
     let alloc = rt.alloc();
-    let mut scene = scene_with(alloc, &["F", "F", "2+3"], "F")?;
-    assert!(rt; calls(&mut scene, alloc, 1)?);
-    assert!(rt; calls(&mut scene, alloc, 2)?);
-    scene.contexts.suspend();
-    assert!(rt; scene.contexts.line().is_none());
-    let want = [
-        level(&scene.function, 2, true),
-        level(&scene.function, 1, false),
-    ];
-    assert!(rt; stand(&scene.contexts, alloc, &want)?);
-    assert!(rt; stand_at(&scene.contexts, alloc, &[2, 1])?);
+    assert!(rt; holds_with(alloc, &["F", "F", "2+3"], "F", Row::SuspendsTwo)?);
     Ok(())
 }
 
 #[test]
 fn a_statement_over_a_call(rt: HostRuntime) -> Result<(), Fail> {
     let alloc = rt.alloc();
-    let mut scene = scene_of(alloc, &["F", "2+3"])?;
-    assert!(rt; stands_before(&mut scene, 1)?);
-    types(&mut scene, alloc, "4")?;
-    assert!(rt; is_statement(scene.contexts.newest()));
-    scene.contexts.suspend();
-    assert!(rt; is_call(scene.contexts.newest()));
-    scene.contexts.clear();
-    assert!(rt; scene.contexts.newest().is_none());
+    assert!(rt; holds_in(alloc, &["F", "2+3"], Row::GoesBeforeItsCall)?);
     Ok(())
 }
 
 #[test]
 fn a_call_at_a_line(rt: HostRuntime) -> Result<(), Fail> {
     let alloc = rt.alloc();
-    let mut scene = scene_of(alloc, &["F", "1", "L:2+3", "4"])?;
-    assert!(rt; stands_before(&mut scene, 1)?);
-    assert!(rt; resumes(&mut scene, alloc, 2)?);
-    assert!(rt; gives(&mut scene.contexts, alloc, 5)?);
-    assert!(rt; is_next(&scene.contexts, Action::End(Ending::Shown)));
-    assert!(rt; stops(&mut scene.contexts, 3));
-    assert!(rt; scene.contexts.line().is_none());
-    assert!(rt; stand_at(&scene.contexts, alloc, &[3])?);
-    assert!(rt; !stops(&mut scene.contexts, 4));
+    assert!(rt; holds_in(alloc, &["F", "1", "L:2+3", "4"], Row::ResumesAndStops)?);
     Ok(())
 }
 
 #[test]
 fn a_text_is_executed(rt: HostRuntime) -> Result<(), Fail> {
     let alloc = rt.alloc();
-    let mut scene = scene_with(alloc, &["F", "1"], "⍎'2+3'")?;
-    assert!(rt; executes(&mut scene, alloc, "2+3")?);
-    assert!(rt; is_executed(scene.contexts.stack()));
-    assert!(rt; gives(&mut scene.contexts, alloc, 5)?);
-    scene.contexts.pop();
-    assert!(rt; is_answered(&mut scene.contexts, alloc, 5)?);
-    assert!(rt; goes_on_with(&scene.contexts, 5));
+    assert!(rt; holds_with(alloc, &["F", "1"], "⍎'2+3'", Row::ExecutesToFive)?);
     Ok(())
 }
 
 #[test]
 fn a_call_goes_with_its_text(rt: HostRuntime) -> Result<(), Fail> {
     let alloc = rt.alloc();
-    let mut scene = scene_with(alloc, &["F", "⍎'2+3'"], "F")?;
-    assert!(rt; calls(&mut scene, alloc, 1)?);
-    assert!(rt; executes(&mut scene, alloc, "2+3")?);
-    assert!(rt; scene.contexts.standing() == 2);
-    assert!(rt; is_executed_in_a_call(scene.contexts.stack()));
-    scene.contexts.leave();
-    assert!(rt; is_statement(scene.contexts.newest()));
-    assert!(rt; scene.contexts.standing() == 0);
+    assert!(rt; holds_with(alloc, &["F", "⍎'2+3'"], "F", Row::LeavesBoth)?);
     Ok(())
 }
 
 #[test]
 fn a_call_stops_in_its_text(rt: HostRuntime) -> Result<(), Fail> {
     let alloc = rt.alloc();
-    let mut scene = scene_with(alloc, &["F", "⍎'2+3'"], "F")?;
-    assert!(rt; calls(&mut scene, alloc, 1)?);
-    assert!(rt; executes(&mut scene, alloc, "2+3")?);
-    assert!(rt; stops(&mut scene.contexts, 1));
-    assert!(rt; is_call(scene.contexts.newest()));
-    assert!(rt; scene.contexts.line().is_none());
+    assert!(rt; holds_with(alloc, &["F", "⍎'2+3'"], "F", Row::StopsWithoutItsText)?);
     Ok(())
 }
 

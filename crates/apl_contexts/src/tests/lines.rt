@@ -65,19 +65,43 @@ fn defines(keeper: &mut Keeper, alloc: Global, header: &str) -> Result<(), Fail>
     Ok(())
 }
 
+/// Whether the first line is another than this, which it was before, and reads no variable.
+fn is_anew(keeper: &mut Keeper, first: &Rc<Translated>) -> Result<bool, AllocError> {
+    Ok(
+        kept(keeper).is_none()
+            && !reads_first(keeper)?
+            && kept(keeper).is_some()
+            && !is_kept(keeper, first),
+    )
+}
+
+/// The first line, which is this, is taken again until the class of its name is another.
+fn is_taken(keeper: &mut Keeper, alloc: Global, first: &Rc<Translated>) -> Result<bool, Fail> {
+    if !reads_first(keeper)? || !is_kept(keeper, first) {
+        return Ok(false);
+    }
+    defines(keeper, alloc, "A X")?;
+    Ok(is_anew(keeper, first)?)
+}
+
+/// The first line is kept once it began, and taken again.
+fn keeps(keeper: &mut Keeper, alloc: Global) -> Result<bool, Fail> {
+    if kept(keeper).is_some() || !reads_first(keeper)? {
+        return Ok(false);
+    }
+    let first = kept(keeper).ok_or("not kept")?.clone()?;
+    is_taken(keeper, alloc, &first)
+}
+
+/// The first line of the function of these lines is kept so.
+fn keeps_in(alloc: Global, lines: &[&str]) -> Result<bool, Fail> {
+    let mut keeper = keeper_of(alloc, lines)?;
+    keeps(&mut keeper, alloc)
+}
+
 #[test]
 fn a_line_is_taken_again(rt: HostRuntime) -> Result<(), Fail> {
     let alloc = rt.alloc();
-    let mut keeper = keeper_of(alloc, &["F", "A 2"])?;
-    assert!(rt; kept(&keeper).is_none());
-    assert!(rt; reads_first(&mut keeper)?);
-    let first = kept(&keeper).ok_or("not kept")?.clone()?;
-    assert!(rt; reads_first(&mut keeper)?);
-    assert!(rt; is_kept(&keeper, &first));
-    defines(&mut keeper, alloc, "A X")?;
-    assert!(rt; kept(&keeper).is_none());
-    assert!(rt; !reads_first(&mut keeper)?);
-    assert!(rt; kept(&keeper).is_some());
-    assert!(rt; !is_kept(&keeper, &first));
+    assert!(rt; keeps_in(alloc, &["F", "A 2"])?);
     Ok(())
 }
