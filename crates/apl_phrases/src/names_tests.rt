@@ -1,7 +1,7 @@
 // Names read and assigned to.
 ghost use Rattle.std.specs.Prelude.{◌≤◌};
 
-use crate::tests::{Answer, alone, name, names_in_a_call, number, of_number, scene};
+use crate::tests::{Answer, alone, fault_of, name, names_in_a_call, number, of_number, scene};
 use crate::{Deed, Effect, Scene, perform};
 use apl_arrays::{Array, Ravel};
 use apl_code::{Action, Row, Source, Variable};
@@ -13,17 +13,16 @@ use apl_symbols::{Name, SystemName};
 use std::alloc::{AllocError, Global};
 use std::test::Fail;
 
-/// `V`
-fn read(alloc: Global, scene: Scene<'_>, word: &str) -> Result<Answer, Fail>
-    requires { scene.io ≤ 1 }
-{
+/// `V` in a call.
+fn read(alloc: Global, word: &str) -> Result<Answer, Fail> {
     let name = name(alloc, word)?;
-    Ok(alone(alloc, scene, Row::Read(Variable::Name(name)), name)?)
+    let row = Row::Read(Variable::Name(name));
+    let names = names_in_a_call(alloc)?;
+    Ok(alone(alloc, scene(&names, 1), row, name)?)
 }
 
 #[test]
 fn names_are_read(rt: HostRuntime) -> Result<(), Fail> {
-    let names = names_in_a_call(rt.alloc())?;
     let rows = [
         ("V", Answer::Gives(Some(7))),
         ("L", Answer::Gives(Some(4))),
@@ -32,39 +31,47 @@ fn names_are_read(rt: HostRuntime) -> Result<(), Fail> {
         ("N", Answer::Fails(Fault::Syntax)),
     ];
     for (word, want) in rows {
-        let answer = read(rt.alloc(), scene(&names, 1), word)?;
+        let answer = read(rt.alloc(), word)?;
         assert!(rt; answer == want, "{word}");
     }
     Ok(())
 }
 
+/// The index origin where there are no names.
+fn origin_nowhere(alloc: Global) -> usize {
+    let names = Names::new(alloc);
+    scene(&names, 0).origin()
+}
+
+/// What a phrase of this row does where there are no names.
+fn nowhere(alloc: Global, row: Row) -> Result<Answer, Fail> {
+    let x = name(alloc, "X")?;
+    let names = Names::new(alloc);
+    Ok(alone(alloc, scene(&names, 0), row, x)?)
+}
+
 #[test]
 fn system_names_are_read(rt: HostRuntime) -> Result<(), Fail> {
-    let x = name(rt.alloc(), "X")?;
-    let names = Names::new(rt.alloc());
-    let scene = scene(&names, 0);
-    assert_eq!(rt; scene.origin(), 1);
+    assert_eq!(rt; origin_nowhere(rt.alloc()), 1);
     let row = Row::Read(Variable::System(SystemName::Origin));
-    let answer = alone(rt.alloc(), scene, row, x)?;
+    let answer = nowhere(rt.alloc(), row)?;
     assert!(rt; answer == Answer::Gives(Some(1)));
     let row = Row::Call(Variable::System(SystemName::LineCounter));
-    let answer = alone(rt.alloc(), scene, row, x)?;
+    let answer = nowhere(rt.alloc(), row)?;
     assert!(rt; answer == Answer::LineNumbers);
     Ok(())
 }
 
-/// `V←0`
-fn assign(alloc: Global, scene: Scene<'_>, word: &str) -> Result<Answer, Fail>
-    requires { scene.io ≤ 1 }
-{
+/// `V←0` in a call.
+fn assign(alloc: Global, word: &str) -> Result<Answer, Fail> {
     let name = name(alloc, word)?;
     let row = Row::Assign(Variable::Name(name));
-    Ok(of_number(alloc, scene, row, name, 0)?)
+    let names = names_in_a_call(alloc)?;
+    Ok(of_number(alloc, scene(&names, 1), row, name, 0)?)
 }
 
 #[test]
 fn names_are_assigned(rt: HostRuntime) -> Result<(), Fail> {
-    let names = names_in_a_call(rt.alloc())?;
     let rows = [
         ("V", Answer::Assigns(Some(0))),
         ("U", Answer::Assigns(Some(0))),
@@ -73,30 +80,29 @@ fn names_are_assigned(rt: HostRuntime) -> Result<(), Fail> {
         ("N", Answer::Fails(Fault::Syntax)),
     ];
     for (word, want) in rows {
-        let answer = assign(rt.alloc(), scene(&names, 1), word)?;
+        let answer = assign(rt.alloc(), word)?;
         assert!(rt; answer == want, "{word}");
     }
     Ok(())
 }
 
-/// `⎕IO←B`
-fn assign_origin(alloc: Global, scene: Scene<'_>, b: i64) -> Result<Answer, Fail>
-    requires { scene.io ≤ 1 }
-{
+/// `⎕IO←B` where there are no names.
+fn assign_origin(alloc: Global, b: i64) -> Result<Answer, Fail> {
+    let x = name(alloc, "X")?;
     let row = Row::Assign(Variable::System(SystemName::Origin));
-    Ok(of_number(alloc, scene, row, name(alloc, "X")?, b)?)
+    let names = Names::new(alloc);
+    Ok(of_number(alloc, scene(&names, 0), row, x, b)?)
 }
 
 #[test]
 fn the_index_origin_is_assigned(rt: HostRuntime) -> Result<(), Fail> {
-    let names = Names::new(rt.alloc());
     let rows = [
         (0, Answer::SetsOrigin(0)),
         (1, Answer::SetsOrigin(1)),
         (2, Answer::Fails(Fault::Domain)),
     ];
     for (number, want) in rows {
-        let answer = assign_origin(rt.alloc(), scene(&names, 0), number)?;
+        let answer = assign_origin(rt.alloc(), number)?;
         assert!(rt; answer == want, "{number}");
     }
     Ok(())
@@ -155,24 +161,41 @@ fn names_with_a_vector(alloc: Global, name: Name) -> Result<Names, Fail> {
     Ok(names)
 }
 
+/// These two numbers as arrays.
+fn pair(alloc: Global, left: i64, right: i64) -> Result<[Array; 2], AllocError> {
+    let left = number(alloc, left)?;
+    Ok([left, number(alloc, right)?])
+}
+
+/// What `V[K]←B` does to that vector.
+fn assign_element(alloc: Global, v: Name, index: i64, b: i64) -> Result<Effect, Fail> {
+    let constants = pair(alloc, index, b)?;
+    let names = names_with_a_vector(alloc, v)?;
+    Ok(assign_at(alloc, scene(&names, 0), v, &constants)?)
+}
+
+/// Whether `V[K]←B` assigns the vector of these numbers.
+fn gives_vector(alloc: Global, index: i64, b: i64, want: [i64; 3]) -> Result<bool, Fail> {
+    let v = name(alloc, "V")?;
+    let effect = assign_element(alloc, v, index, b)?;
+    Ok(assigns_vector(&effect, v, want))
+}
+
 #[test]
 fn elements_are_assigned(rt: HostRuntime) -> Result<(), Fail> {
-    let alloc = rt.alloc();
-    let v = name(alloc, "V")?;
-    let names = names_with_a_vector(alloc, v)?;
-    let constants = [number(alloc, 2)?, number(alloc, 4)?];
-    let effect = assign_at(alloc, scene(&names, 0), v, &constants)?;
-    assert!(rt; assigns_vector(&effect, v, [5, 4, 7]));
+    assert!(rt; gives_vector(rt.alloc(), 2, 4, [5, 4, 7])?);
     Ok(())
+}
+
+/// The fault of `V[K]←B`.
+fn fault_at(alloc: Global, index: i64, b: i64) -> Result<Option<Fault>, Fail> {
+    let v = name(alloc, "V")?;
+    let effect = assign_element(alloc, v, index, b)?;
+    Ok(fault_of(&effect))
 }
 
 #[test]
 fn elements_beyond_the_array(rt: HostRuntime) -> Result<(), Fail> {
-    let alloc = rt.alloc();
-    let v = name(alloc, "V")?;
-    let names = names_with_a_vector(alloc, v)?;
-    let constants = [number(alloc, 4)?, number(alloc, 2)?];
-    let effect = assign_at(alloc, scene(&names, 0), v, &constants)?;
-    assert!(rt; matches!(effect, Effect::Fails(Fault::Index)));
+    assert!(rt; fault_at(rt.alloc(), 4, 2)? == Some(Fault::Index));
     Ok(())
 }

@@ -12,6 +12,7 @@ use apl_names::{Binding, DefinedFunction, Names};
 use apl_operands::Operands;
 use apl_symbols::{Name, SystemName};
 use std::alloc::{AllocError, Global};
+use std::slice::from_ref;
 use std::test::Fail;
 
 /// An effect with its scalars as numbers; an array of another shape is no number.
@@ -78,6 +79,14 @@ fn answer_of(effect: &Effect, name: Name) -> Answer {
     }
 }
 
+/// The fault of an effect that fails.
+pub(crate) fn fault_of(effect: &Effect) -> Option<Fault> {
+    match effect {
+        Effect::Fails(fault) => Some(*fault),
+        _ => None,
+    }
+}
+
 pub(crate) fn text(alloc: Global, line: &str) -> Result<Text, Fail> {
     Ok(Text::new(decode_line(alloc, line.as_bytes())?))
 }
@@ -104,23 +113,33 @@ fn define_function(alloc: Global, names: &mut Names, word: &str, header: &str) -
     Ok(())
 }
 
+/// Defines the functions N, M and D of no, one and two arguments, and the variable V.
+fn define_globals(alloc: Global, names: &mut Names) -> Result<(), Fail> {
+    define_function(alloc, names, "N", "Z←N")?;
+    define_function(alloc, names, "M", "Z←M B")?;
+    define_function(alloc, names, "D", "Z←A D B")?;
+    names.assign(&name(alloc, "V")?, number(alloc, 7)?)?;
+    Ok(())
+}
+
 /// The functions N, M and D of no, one and two arguments, and the variable V.
 fn globals(alloc: Global) -> Result<Names, Fail> {
     let mut names = Names::new(alloc);
-    define_function(alloc, &mut names, "N", "Z←N")?;
-    define_function(alloc, &mut names, "M", "Z←M B")?;
-    define_function(alloc, &mut names, "D", "Z←A D B")?;
-    names.assign(&name(alloc, "V")?, number(alloc, 7)?)?;
+    define_globals(alloc, &mut names)?;
     Ok(names)
 }
 
-/// These names, and in a call the label L and the unset local U.
+/// The label L and the unset local U.
+fn locals(alloc: Global) -> Result<Vec<(Name, Binding)>, Fail> {
+    let label = name(alloc, "L")?;
+    let unset = name(alloc, "U")?;
+    Ok(vec![in alloc; (label, Binding::Label(4)), (unset, Binding::Unset)]?)
+}
+
+/// The global names, and in a call the label L and the unset local U.
 pub(crate) fn names_in_a_call(alloc: Global) -> Result<Names, Fail> {
     let mut names = globals(alloc)?;
-    let mut locals = Vec::new(alloc);
-    locals.push((name(alloc, "L")?, Binding::Label(4)))?;
-    locals.push((name(alloc, "U")?, Binding::Unset))?;
-    names.enter(locals)?;
+    names.enter(locals(alloc)?)?;
     Ok(names)
 }
 
@@ -161,9 +180,8 @@ pub(crate) fn of_one(
 ) -> Result<Effect, AllocError>
     requires { scene.io ≤ 1 }
 {
-    let constants = [b];
     let operands = Operands {
-        constants: &constants,
+        constants: from_ref(&b),
         stack: &[],
     };
     let sources = [Some(Source::Constant(0))];
@@ -180,11 +198,10 @@ pub(crate) fn of_two(
 ) -> Result<Effect, AllocError>
     requires { scene.io ≤ 1 }
 {
-    let constants = [b];
-    let stack = [Operand::Value(a)];
+    let top = Operand::Value(a);
     let operands = Operands {
-        constants: &constants,
-        stack: &stack,
+        constants: from_ref(&b),
+        stack: from_ref(&top),
     };
     let sources = [Some(Source::Stack), Some(Source::Constant(0))];
     perform(alloc, scene, &Action::Phrase(row), &sources, operands)
@@ -204,37 +221,41 @@ pub(crate) fn of_number(
     Ok(answer_of(&effect, name))
 }
 
-/// `N`
-fn niladic(alloc: Global, scene: Scene<'_>, word: &str) -> Result<Answer, Fail>
+/// `2 F 3` of this row, where the phrase has this name.
+fn of_numbers(alloc: Global, scene: Scene<'_>, row: Row, name: Name) -> Result<Answer, AllocError>
     requires { scene.io ≤ 1 }
 {
-    let name = name(alloc, word)?;
-    Ok(alone(alloc, scene, Row::Call(Variable::Name(name)), name)?)
-}
-
-/// `F 3`
-fn monadic(alloc: Global, scene: Scene<'_>, word: &str) -> Result<Answer, Fail>
-    requires { scene.io ≤ 1 }
-{
-    let name = name(alloc, word)?;
-    let row = Row::Monadic(Function::Name(name));
-    Ok(of_number(alloc, scene, row, name, 3)?)
-}
-
-/// `2 F 3`
-fn dyadic(alloc: Global, scene: Scene<'_>, word: &str) -> Result<Answer, Fail>
-    requires { scene.io ≤ 1 }
-{
-    let name = name(alloc, word)?;
-    let row = Row::Dyadic(Function::Name(name));
     let left = number(alloc, 2)?;
     let effect = of_two(alloc, scene, row, left, number(alloc, 3)?)?;
     Ok(answer_of(&effect, name))
 }
 
+/// `N`, where so many calls stand.
+fn niladic(alloc: Global, word: &str, standing: usize) -> Result<Answer, Fail> {
+    let name = name(alloc, word)?;
+    let row = Row::Call(Variable::Name(name));
+    let names = globals(alloc)?;
+    Ok(alone(alloc, scene(&names, standing), row, name)?)
+}
+
+/// `F 3`, where so many calls stand.
+fn monadic(alloc: Global, word: &str, standing: usize) -> Result<Answer, Fail> {
+    let name = name(alloc, word)?;
+    let row = Row::Monadic(Function::Name(name));
+    let names = globals(alloc)?;
+    Ok(of_number(alloc, scene(&names, standing), row, name, 3)?)
+}
+
+/// `2 F 3`, where so many calls stand.
+fn dyadic(alloc: Global, word: &str, standing: usize) -> Result<Answer, Fail> {
+    let name = name(alloc, word)?;
+    let row = Row::Dyadic(Function::Name(name));
+    let names = globals(alloc)?;
+    Ok(of_numbers(alloc, scene(&names, standing), row, name)?)
+}
+
 #[test]
 fn niladic_calls(rt: HostRuntime) -> Result<(), Fail> {
-    let names = globals(rt.alloc())?;
     let rows = [
         ("N", 255, Answer::Calls(None, None)),
         ("N", 256, Answer::Fails(Fault::Limit)),
@@ -243,7 +264,7 @@ fn niladic_calls(rt: HostRuntime) -> Result<(), Fail> {
         ("W", 0, Answer::Fails(Fault::Syntax)),
     ];
     for (word, standing, want) in rows {
-        let answer = niladic(rt.alloc(), scene(&names, standing), word)?;
+        let answer = niladic(rt.alloc(), word, standing)?;
         assert!(rt; answer == want, "{word}");
     }
     Ok(())
@@ -251,7 +272,6 @@ fn niladic_calls(rt: HostRuntime) -> Result<(), Fail> {
 
 #[test]
 fn monadic_calls(rt: HostRuntime) -> Result<(), Fail> {
-    let names = globals(rt.alloc())?;
     let rows = [
         ("M", 255, Answer::Calls(None, Some(3))),
         ("D", 255, Answer::Calls(None, Some(3))),
@@ -261,7 +281,7 @@ fn monadic_calls(rt: HostRuntime) -> Result<(), Fail> {
         ("W", 0, Answer::Fails(Fault::Syntax)),
     ];
     for (word, standing, want) in rows {
-        let answer = monadic(rt.alloc(), scene(&names, standing), word)?;
+        let answer = monadic(rt.alloc(), word, standing)?;
         assert!(rt; answer == want, "{word}");
     }
     Ok(())
@@ -269,7 +289,6 @@ fn monadic_calls(rt: HostRuntime) -> Result<(), Fail> {
 
 #[test]
 fn dyadic_calls(rt: HostRuntime) -> Result<(), Fail> {
-    let names = globals(rt.alloc())?;
     let rows = [
         ("D", 255, Answer::Calls(Some(2), Some(3))),
         ("D", 256, Answer::Fails(Fault::Limit)),
@@ -279,7 +298,7 @@ fn dyadic_calls(rt: HostRuntime) -> Result<(), Fail> {
         ("W", 0, Answer::Fails(Fault::Syntax)),
     ];
     for (word, standing, want) in rows {
-        let answer = dyadic(rt.alloc(), scene(&names, standing), word)?;
+        let answer = dyadic(rt.alloc(), word, standing)?;
         assert!(rt; answer == want, "{word}");
     }
     Ok(())
@@ -303,9 +322,14 @@ fn class_of(alloc: Global, scene: Scene<'_>, b: Array) -> Result<Answer, Fail>
     Ok(answer_of(&effect, name(alloc, "X")?))
 }
 
+/// The class of this line as a name in a call.
+fn class_in_a_call(alloc: Global, line: &str) -> Result<Answer, Fail> {
+    let names = names_in_a_call(alloc)?;
+    class_of(alloc, scene(&names, 1), characters(alloc, line)?)
+}
+
 #[test]
 fn classes_of_names(rt: HostRuntime) -> Result<(), Fail> {
-    let names = names_in_a_call(rt.alloc())?;
     let rows = [
         ("L", 1),
         ("V", 2),
@@ -324,8 +348,7 @@ fn classes_of_names(rt: HostRuntime) -> Result<(), Fail> {
         ("'V", 4),
     ];
     for (line, want) in rows {
-        let line_of = characters(rt.alloc(), line)?;
-        let class = class_of(rt.alloc(), scene(&names, 1), line_of)?;
+        let class = class_in_a_call(rt.alloc(), line)?;
         assert!(rt; class == Answer::Gives(Some(want)), "{line}");
     }
     Ok(())
@@ -337,13 +360,23 @@ pub(crate) fn matrix(alloc: Global) -> Result<Array, Fail> {
     Ok(Array::from_shape(&[1, 1], ravel)?)
 }
 
+/// The number 1 as a matrix of one element.
+pub(crate) fn matrix_of_numbers(alloc: Global) -> Result<Array, Fail> {
+    let ravel = Ravel::Nums(vec![in alloc; 1]?);
+    Ok(Array::from_shape(&[1, 1], ravel)?)
+}
+
+/// `⎕NC B` where there are no names.
+fn class_nowhere(alloc: Global, b: Array) -> Result<Answer, Fail> {
+    let names = Names::new(alloc);
+    class_of(alloc, scene(&names, 0), b)
+}
+
 #[test]
 fn classes_of_no_names(rt: HostRuntime) -> Result<(), Fail> {
-    let names = Names::new(rt.alloc());
-    let scene = scene(&names, 0);
-    let class = class_of(rt.alloc(), scene, number(rt.alloc(), 1)?)?;
+    let class = class_nowhere(rt.alloc(), number(rt.alloc(), 1)?)?;
     assert!(rt; class == Answer::Fails(Fault::Domain));
-    let class = class_of(rt.alloc(), scene, matrix(rt.alloc())?)?;
+    let class = class_nowhere(rt.alloc(), matrix(rt.alloc())?)?;
     assert!(rt; class == Answer::Fails(Fault::Rank));
     Ok(())
 }
@@ -360,28 +393,45 @@ fn writes(alloc: Global, effect: &Effect, want: &str) -> Result<bool, Fail> {
     Ok(!line.stop && written.as_slice() == want.as_bytes())
 }
 
+/// What a phrase of this row does that takes 2, where there are no names.
+fn of_the_number(alloc: Global, row: Row) -> Result<Effect, AllocError> {
+    let b = number(alloc, 2)?;
+    let names = Names::new(alloc);
+    of_one(alloc, scene(&names, 0), row, b)
+}
+
+/// Whether showing 2 writes this line.
+fn shows(alloc: Global, want: &str) -> Result<bool, Fail> {
+    let effect = of_the_number(alloc, Row::Show)?;
+    writes(alloc, &effect, want)
+}
+
 #[test]
 fn values_are_shown(rt: HostRuntime) -> Result<(), Fail> {
-    let alloc = rt.alloc();
-    let names = Names::new(alloc);
-    let effect = of_one(alloc, scene(&names, 0), Row::Show, number(alloc, 2)?)?;
-    assert!(rt; writes(alloc, &effect, "2")?);
+    assert!(rt; shows(rt.alloc(), "2")?);
     Ok(())
+}
+
+/// Whether grouping 2 does nothing beside.
+fn groups(alloc: Global) -> Result<bool, AllocError> {
+    let effect = of_the_number(alloc, Row::Group)?;
+    Ok(matches!(effect, Effect::Passes(Deed::Nothing)))
 }
 
 #[test]
 fn values_are_grouped(rt: HostRuntime) -> Result<(), Fail> {
-    let alloc = rt.alloc();
-    let names = Names::new(alloc);
-    let effect = of_one(alloc, scene(&names, 0), Row::Group, number(alloc, 2)?)?;
-    assert!(rt; matches!(effect, Effect::Passes(Deed::Nothing)));
+    assert!(rt; groups(rt.alloc())?);
     Ok(())
+}
+
+/// How many lines say this text.
+fn lines_saying(alloc: Global, line: &str) -> Result<usize, Fail> {
+    let texts = vec![in alloc; text(alloc, line)?]?;
+    Ok(said(alloc, texts)?.len())
 }
 
 #[test]
 fn texts_are_said(rt: HostRuntime) -> Result<(), Fail> {
-    let mut texts = Vec::new(rt.alloc());
-    texts.push(text(rt.alloc(), "A")?)?;
-    assert_eq!(rt; said(rt.alloc(), texts)?.len(), 1);
+    assert_eq!(rt; lines_saying(rt.alloc(), "A")?, 1);
     Ok(())
 }

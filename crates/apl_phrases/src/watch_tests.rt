@@ -1,9 +1,9 @@
 // The stop and trace vectors of functions.
-ghost use Rattle.std.specs.Prelude.{◌≤◌};
-
-use crate::tests::{characters, matrix, name, number, of_one, of_two, scene, text};
-use crate::{Effect, Scene};
-use apl_arrays::{Array, Ravel};
+use crate::Effect;
+use crate::tests::{
+    characters, fault_of, matrix, matrix_of_numbers, name, number, of_one, of_two, scene, text,
+};
+use apl_arrays::Array;
 use apl_code::{Function, Row};
 use apl_defn::define;
 use apl_faults::Fault;
@@ -22,17 +22,27 @@ fn defined(alloc: Global, lines: &[&str]) -> Result<DefinedFunction, Fail> {
     Ok(DefinedFunction::new(alloc, define(alloc, texts.as_slice())?)?)
 }
 
-/// The function F of four lines and the variable V, and in a call the unset local F and the local function G.
-fn names_in_a_call(alloc: Global) -> Result<Names, Fail> {
-    let mut names = Names::new(alloc);
+/// Defines the function F of four lines and the variable V.
+fn define_globals(alloc: Global, names: &mut Names) -> Result<(), Fail> {
     let f = name(alloc, "F")?;
     names.function(&f, defined(alloc, &["F", "1", "2", "3", "4"])?)?;
     names.assign(&name(alloc, "V")?, number(alloc, 7)?)?;
-    let mut locals = Vec::new(alloc);
-    locals.push((f, Binding::Unset))?;
-    let g = defined(alloc, &["G", "1"])?;
-    locals.push((name(alloc, "G")?, Binding::Function(g)))?;
-    names.enter(locals)?;
+    Ok(())
+}
+
+/// The unset local F and the local function G.
+fn locals(alloc: Global) -> Result<Vec<(Name, Binding)>, Fail> {
+    let f = name(alloc, "F")?;
+    let g = name(alloc, "G")?;
+    let function = Binding::Function(defined(alloc, &["G", "1"])?);
+    Ok(vec![in alloc; (f, Binding::Unset), (g, function)]?)
+}
+
+/// The function F of four lines and the variable V, and in a call the unset local F and the local function G.
+fn names_in_a_call(alloc: Global) -> Result<Names, Fail> {
+    let mut names = Names::new(alloc);
+    define_globals(alloc, &mut names)?;
+    names.enter(locals(alloc)?)?;
     Ok(names)
 }
 
@@ -43,19 +53,30 @@ fn function_of(which: Watch) -> Function {
     }
 }
 
-/// `⎕STOP B` or `⎕TRACE B`
-fn asked(alloc: Global, scene: Scene<'_>, which: Watch, b: Array) -> Result<Effect, Fail>
-    requires { scene.io ≤ 1 }
-{
-    Ok(of_one(alloc, scene, Row::Monadic(function_of(which)), b)?)
+/// `⎕STOP B` or `⎕TRACE B` in a call.
+fn asked(alloc: Global, which: Watch, b: Array) -> Result<Effect, Fail> {
+    let row = Row::Monadic(function_of(which));
+    let names = names_in_a_call(alloc)?;
+    Ok(of_one(alloc, scene(&names, 1), row, b)?)
 }
 
-/// `A ⎕STOP B` or `A ⎕TRACE B`
-fn set(alloc: Global, scene: Scene<'_>, which: Watch, a: Array, b: Array) -> Result<Effect, Fail>
-    requires { scene.io ≤ 1 }
-{
+/// `A ⎕STOP B` or `A ⎕TRACE B` in a call.
+fn set(alloc: Global, which: Watch, a: Array, b: Array) -> Result<Effect, Fail> {
     let row = Row::Dyadic(function_of(which));
-    Ok(of_two(alloc, scene, row, a, b)?)
+    let names = names_in_a_call(alloc)?;
+    Ok(of_two(alloc, scene(&names, 1), row, a, b)?)
+}
+
+/// The fault of asking.
+fn asked_fault(alloc: Global, which: Watch, b: Array) -> Result<Option<Fault>, Fail> {
+    let effect = asked(alloc, which, b)?;
+    Ok(fault_of(&effect))
+}
+
+/// The fault of setting.
+fn set_fault(alloc: Global, which: Watch, a: Array, b: Array) -> Result<Option<Fault>, Fail> {
+    let effect = set(alloc, which, a, b)?;
+    Ok(fault_of(&effect))
 }
 
 /// Whether the effect asks this vector of F, which is not replaced.
@@ -74,14 +95,22 @@ fn sets(effect: &Effect, which: Watch, f: Name, want: &[usize]) -> bool {
     *asked == which && *name == f && lines.as_slice() == want
 }
 
+/// `⎕STOP 'F'` or `⎕TRACE 'F'` in a call.
+fn asked_f(alloc: Global, which: Watch) -> Result<Effect, Fail> {
+    asked(alloc, which, characters(alloc, "F")?)
+}
+
+/// Whether asking for F asks this vector of F.
+fn asks_f(alloc: Global, which: Watch) -> Result<bool, Fail> {
+    let f = name(alloc, "F")?;
+    let effect = asked_f(alloc, which)?;
+    Ok(asks(&effect, which, f))
+}
+
 #[test]
 fn vectors_are_asked(rt: HostRuntime) -> Result<(), Fail> {
-    let alloc = rt.alloc();
-    let names = names_in_a_call(alloc)?;
-    let f = name(alloc, "F")?;
     for which in [Watch::Stop, Watch::Trace] {
-        let effect = asked(alloc, scene(&names, 1), which, characters(alloc, "F")?)?;
-        assert!(rt; asks(&effect, which, f));
+        assert!(rt; asks_f(rt.alloc(), which)?);
     }
     Ok(())
 }
@@ -91,11 +120,21 @@ fn numbers(alloc: Global, numbers: [i64; 4]) -> Result<Array, Fail> {
     Ok(Array::from_nums(vec![in alloc; numbers[0], numbers[1], numbers[2], numbers[3]]?))
 }
 
+/// `A ⎕STOP 'F'` or `A ⎕TRACE 'F'` in a call.
+fn set_f(alloc: Global, which: Watch, a: Array) -> Result<Effect, Fail> {
+    set(alloc, which, a, characters(alloc, "F")?)
+}
+
+/// Whether setting F by this array replaces this vector of F by these lines.
+fn sets_f(alloc: Global, which: Watch, a: Array, want: &[usize]) -> Result<bool, Fail> {
+    let f = name(alloc, "F")?;
+    let effect = set_f(alloc, which, a)?;
+    Ok(sets(&effect, which, f, want))
+}
+
 #[test]
 fn vectors_are_set(rt: HostRuntime) -> Result<(), Fail> {
     let alloc = rt.alloc();
-    let names = names_in_a_call(alloc)?;
-    let f = name(alloc, "F")?;
     let rows: [([i64; 4], &[usize]); 5] = [
         ([1, 2, 3, 4], &[1, 2, 3, 4]),
         ([4, 2, 3, 2], &[2, 3, 4]),
@@ -105,15 +144,7 @@ fn vectors_are_set(rt: HostRuntime) -> Result<(), Fail> {
     ];
     for which in [Watch::Stop, Watch::Trace] {
         for (left, want) in rows {
-            let left = numbers(alloc, left)?;
-            let effect = set(
-                alloc,
-                scene(&names, 1),
-                which,
-                left,
-                characters(alloc, "F")?,
-            )?;
-            assert!(rt; sets(&effect, which, f, want));
+            assert!(rt; sets_f(alloc, which, numbers(alloc, left)?, want)?);
         }
     }
     Ok(())
@@ -122,23 +153,10 @@ fn vectors_are_set(rt: HostRuntime) -> Result<(), Fail> {
 #[test]
 fn vectors_are_set_by_one_number_or_none(rt: HostRuntime) -> Result<(), Fail> {
     let alloc = rt.alloc();
-    let names = names_in_a_call(alloc)?;
-    let f = name(alloc, "F")?;
-    let scene = scene(&names, 1);
-    let effect = set(
-        alloc,
-        scene,
-        Watch::Stop,
-        number(alloc, 2)?,
-        characters(alloc, "F")?,
-    )?;
-    assert!(rt; sets(&effect, Watch::Stop, f, &[2]));
-    let none = Array::from_nums(Vec::new(alloc));
-    let effect = set(alloc, scene, Watch::Stop, none, characters(alloc, "F")?)?;
-    assert!(rt; sets(&effect, Watch::Stop, f, &[]));
-    let blank = characters(alloc, "")?;
-    let effect = set(alloc, scene, Watch::Trace, blank, characters(alloc, "F")?)?;
-    assert!(rt; sets(&effect, Watch::Trace, f, &[]));
+    assert!(rt; sets_f(alloc, Watch::Stop, number(alloc, 2)?, &[2])?);
+    let none = sets_f(alloc, Watch::Stop, Array::from_nums(Vec::new(alloc)), &[])?;
+    assert!(rt; none);
+    assert!(rt; sets_f(alloc, Watch::Trace, characters(alloc, "")?, &[])?);
     Ok(())
 }
 
@@ -154,67 +172,66 @@ const NO_FUNCTIONS: [&str; 8] = [
     "FFFFFFFFFFFFFFFFFFFFFFFFFFFFFFFFFFFFFFFFFFFFFFFFFFF",
 ];
 
+/// The fault of setting the function of this text by 1.
+fn set_line_fault(alloc: Global, line: &str) -> Result<Option<Fault>, Fail> {
+    let left = number(alloc, 1)?;
+    set_fault(alloc, Watch::Trace, left, characters(alloc, line)?)
+}
+
 #[test]
 fn texts_that_name_no_function(rt: HostRuntime) -> Result<(), Fail> {
     let alloc = rt.alloc();
-    let names = names_in_a_call(alloc)?;
     for line in NO_FUNCTIONS {
-        let effect = asked(
-            alloc,
-            scene(&names, 1),
-            Watch::Stop,
-            characters(alloc, line)?,
-        )?;
-        assert!(rt; matches!(effect, Effect::Fails(Fault::Domain)), "{line}");
-        let left = number(alloc, 1)?;
-        let b = characters(alloc, line)?;
-        let effect = set(alloc, scene(&names, 1), Watch::Trace, left, b)?;
-        assert!(rt; matches!(effect, Effect::Fails(Fault::Domain)), "{line}");
+        let fault = asked_fault(alloc, Watch::Stop, characters(alloc, line)?)?;
+        assert!(rt; fault == Some(Fault::Domain), "{line}");
+        let fault = set_line_fault(alloc, line)?;
+        assert!(rt; fault == Some(Fault::Domain), "{line}");
     }
     Ok(())
+}
+
+/// The fault of setting a number by a number.
+fn set_number_fault(alloc: Global) -> Result<Option<Fault>, Fail> {
+    let left = number(alloc, 1)?;
+    set_fault(alloc, Watch::Stop, left, number(alloc, 1)?)
+}
+
+/// The fault of setting F by characters.
+fn set_by_characters_fault(alloc: Global) -> Result<Option<Fault>, Fail> {
+    let left = characters(alloc, "AB")?;
+    set_fault(alloc, Watch::Stop, left, characters(alloc, "F")?)
 }
 
 #[test]
 fn numbers_and_characters_elsewhere(rt: HostRuntime) -> Result<(), Fail> {
     let alloc = rt.alloc();
-    let names = names_in_a_call(alloc)?;
-    let scene = scene(&names, 1);
-    let effect = asked(alloc, scene, Watch::Trace, number(alloc, 1)?)?;
-    assert!(rt; matches!(effect, Effect::Fails(Fault::Domain)));
-    let effect = set(
-        alloc,
-        scene,
-        Watch::Stop,
-        number(alloc, 1)?,
-        number(alloc, 1)?,
-    )?;
-    assert!(rt; matches!(effect, Effect::Fails(Fault::Domain)));
-    let left = characters(alloc, "AB")?;
-    let effect = set(alloc, scene, Watch::Stop, left, characters(alloc, "F")?)?;
-    assert!(rt; matches!(effect, Effect::Fails(Fault::Domain)));
+    let fault = asked_fault(alloc, Watch::Trace, number(alloc, 1)?)?;
+    assert!(rt; fault == Some(Fault::Domain));
+    assert!(rt; set_number_fault(alloc)? == Some(Fault::Domain));
+    assert!(rt; set_by_characters_fault(alloc)? == Some(Fault::Domain));
     Ok(())
 }
 
-/// The number as a matrix of one element.
-fn matrix_of_numbers(alloc: Global) -> Result<Array, Fail> {
-    let ravel = Ravel::Nums(vec![in alloc; 1]?);
-    Ok(Array::from_shape(&[1, 1], ravel)?)
+/// The fault of setting a matrix by characters.
+fn set_matrix_fault(alloc: Global) -> Result<Option<Fault>, Fail> {
+    let left = characters(alloc, "AB")?;
+    set_fault(alloc, Watch::Stop, left, matrix(alloc)?)
+}
+
+/// The fault of setting a variable by a matrix.
+fn set_by_a_matrix_fault(alloc: Global) -> Result<Option<Fault>, Fail> {
+    let left = matrix_of_numbers(alloc)?;
+    set_fault(alloc, Watch::Trace, left, characters(alloc, "V")?)
 }
 
 #[test]
 fn ranks_come_first(rt: HostRuntime) -> Result<(), Fail> {
     let alloc = rt.alloc();
-    let names = names_in_a_call(alloc)?;
-    let scene = scene(&names, 1);
-    let effect = asked(alloc, scene, Watch::Stop, matrix(alloc)?)?;
-    assert!(rt; matches!(effect, Effect::Fails(Fault::Rank)));
-    let effect = asked(alloc, scene, Watch::Trace, matrix_of_numbers(alloc)?)?;
-    assert!(rt; matches!(effect, Effect::Fails(Fault::Rank)));
-    let left = characters(alloc, "AB")?;
-    let effect = set(alloc, scene, Watch::Stop, left, matrix(alloc)?)?;
-    assert!(rt; matches!(effect, Effect::Fails(Fault::Rank)));
-    let left = matrix_of_numbers(alloc)?;
-    let effect = set(alloc, scene, Watch::Trace, left, characters(alloc, "V")?)?;
-    assert!(rt; matches!(effect, Effect::Fails(Fault::Rank)));
+    let fault = asked_fault(alloc, Watch::Stop, matrix(alloc)?)?;
+    assert!(rt; fault == Some(Fault::Rank));
+    let fault = asked_fault(alloc, Watch::Trace, matrix_of_numbers(alloc)?)?;
+    assert!(rt; fault == Some(Fault::Rank));
+    assert!(rt; set_matrix_fault(alloc)? == Some(Fault::Rank));
+    assert!(rt; set_by_a_matrix_fault(alloc)? == Some(Fault::Rank));
     Ok(())
 }
