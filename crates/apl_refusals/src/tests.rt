@@ -30,34 +30,81 @@ fn is_line(lines: &[OutLine], text: &str) -> bool {
     }
 }
 
+/// Plays so many calls, and tells whether there were as many.
+fn plays(player: &mut Player<'_>, count: u64) -> Result<bool, AllocError> {
+    for _ in 0..count {
+        if !player.play()? {
+            return Ok(false);
+        }
+    }
+    Ok(true)
+}
+
+/// Whether this one line waits as output.
+fn writes(player: &mut Player<'_>, text: &str) -> bool {
+    is_line(&player.take_output(), text)
+}
+
+/// How many lines wait as output.
+fn lines_written(player: &mut Player<'_>) -> usize {
+    player.take_output().len()
+}
+
+/// Whether a session stands so, with no call left after so many.
+fn ends_so(
+    player: &mut Player<'_>,
+    now: (bool, usize, usize),
+    calls: u64,
+) -> Result<bool, AllocError> {
+    Ok(standing(player) == now && !player.play()? && player.calls() == calls)
+}
+
+/// Whether a session of the typed sum stands as it should after each call.
+fn sums(player: &mut Player<'_>) -> Result<bool, AllocError> {
+    for now in [(true, 0, 0), (false, 0, 0), (false, 1, 1), (false, 2, 1)] {
+        if standing(player) != now || !plays(player, 1)? {
+            return Ok(false);
+        }
+    }
+    Ok(ends_so(player, (true, 0, 0), 4)? && writes(player, "14"))
+}
+
+fn typed_sum(alloc: Global) -> Result<bool, AllocError> {
+    let mut player = Player::new(alloc, "2+3×4\n".as_bytes());
+    sums(&mut player)
+}
+
 #[test]
 fn the_typed_sum_is_played(rt: HostRuntime) -> Result<(), Fail> {
-    let mut player = Player::new(rt.alloc(), "2+3×4\n".as_bytes());
-    for now in [(true, 0, 0), (false, 0, 0), (false, 1, 1), (false, 2, 1)] {
-        assert_eq!(rt; standing(&player), now);
-        assert!(rt; player.play()?);
-    }
-    assert_eq!(rt; standing(&player), (true, 0, 0));
-    assert!(rt; !player.play()?);
-    assert_eq!(rt; player.calls(), 4);
-    assert!(rt; is_line(&player.take_output(), "14"));
+    assert!(rt; typed_sum(rt.alloc())?);
     Ok(())
+}
+
+/// Whether what runs is abandoned by the next call, behind all steps of the fourth line.
+fn is_interrupted(player: &mut Player<'_>) -> Result<bool, AllocError> {
+    let ran = !player.machine().is_idle();
+    let played = plays(player, 1)?;
+    let stands = player.machine().is_idle() && lines_written(player) == 3;
+    Ok(ran && played && stands && (player.line(), player.steps()) == (4, STEPS))
+}
+
+/// Whether what runs is abandoned, and the last line then played.
+fn goes_on_behind(player: &mut Player<'_>) -> Result<bool, AllocError> {
+    if !is_interrupted(player)? || !plays(player, 2)? {
+        return Ok(false);
+    }
+    Ok(writes(player, "5") && !player.play()?)
+}
+
+fn endless_line(alloc: Global) -> Result<bool, AllocError> {
+    let input = "∇L\r\n→1\n∇\nL\n5".as_bytes();
+    let mut player = Player::after(alloc, input, STEPS + 4)?;
+    goes_on_behind(&mut player)
 }
 
 #[test]
 fn an_endless_line_is_interrupted(rt: HostRuntime) -> Result<(), Fail> {
-    let input = "∇L\r\n→1\n∇\nL\n5".as_bytes();
-    let mut player = Player::after(rt.alloc(), input, STEPS + 4)?;
-    assert!(rt; !player.machine().is_idle());
-    assert!(rt; player.play()?);
-    assert!(rt; player.machine().is_idle());
-    assert_eq!(rt; player.take_output().len(), 3);
-    assert_eq!(rt; (player.line(), player.steps()), (4, STEPS));
-    for _ in 0..2 {
-        assert!(rt; player.play()?);
-    }
-    assert!(rt; is_line(&player.take_output(), "5"));
-    assert!(rt; !player.play()?);
+    assert!(rt; endless_line(rt.alloc())?);
     Ok(())
 }
 
@@ -128,20 +175,25 @@ fn wrong(alloc: Global, one: &str, calls: u64, other: &str) -> Result<Option<Wro
     Ok(go_on(alloc, other.as_bytes(), &mut player).err())
 }
 
+/// What is wrong with a session whose output was not taken.
+fn wrong_by_output(alloc: Global) -> Result<Option<Wrong>, AllocError> {
+    let mut player = Player::new(alloc, b"5\n");
+    if !plays(&mut player, 2)? {
+        return Ok(None);
+    }
+    Ok(go_on(alloc, b"5\n", &mut player).err())
+}
+
 #[test]
 fn what_is_wrong_is_seen(rt: HostRuntime) -> Result<(), Fail> {
     let alloc = rt.alloc();
     let changed = Wrong::Changed(Difference::Frame(0));
     let strayed = Wrong::Strayed(Difference::Frame(0));
+    let unwritten = Wrong::Changed(Difference::Output);
     assert_eq!(rt; wrong(alloc, "2+3×4\n", 2, "2+3×4\n")?, None);
     assert_eq!(rt; wrong(alloc, "2+3×4\n", 2, "2+3×5\n")?, Some(changed));
     assert_eq!(rt; wrong(alloc, "2+3×4\n", 0, "2+3\n")?, Some(strayed));
-    let mut player = Player::new(alloc, b"5\n");
-    for _ in 0..2 {
-        assert!(rt; player.play()?);
-    }
-    let unwritten = go_on(alloc, b"5\n", &mut player).err();
-    assert_eq!(rt; unwritten, Some(Wrong::Changed(Difference::Output)));
+    assert_eq!(rt; wrong_by_output(alloc)?, Some(unwritten));
     Ok(())
 }
 
