@@ -2,49 +2,76 @@
 mod inner;
 mod outer;
 
-ghost use Rattle.std.specs.Prelude.{◌≡◌, ◌≤◌, length};
-ghost use Rattle.apl_arrays.specs.Index.{size_of};
-
 use super::*;
-use apl_arrays::{Array, Ravel, Stop};
-use apl_charset::Ch;
+use apl_arrays::{Array, MAX_ELEMENTS, Ravel, Stop, is_in_bounds, size};
+use apl_charset::decode_line;
 use apl_faults::Fault;
 use std::alloc::Global;
+use std::test::Fail;
 
-/// Whether these are the numbers of an array of this shape.
-fn is_array(outcome: &Result<Array, Stop>, shape: &[usize], numbers: &[i64]) -> bool {
-    match outcome {
-        Ok(array) => match array.ravel() {
-            Ravel::Nums(found) => array.shape() == shape && found.as_slice() == numbers,
-            Ravel::Chars(_) => false,
-        },
-        Err(_) => false,
-    }
+/// An argument as a row writes it.
+#[derive(Clone, Copy)]
+enum Plain<'a> {
+    /// The numbers of an array of this shape.
+    Numbers(&'a [usize], &'a [i64]),
+    /// An array of this shape whose elements are all 1.
+    Ones(&'a [usize]),
+    /// The characters of a vector, or of a scalar where there is one.
+    Text(&'a str),
 }
 
-fn is_fault(outcome: &Result<Array, Stop>, fault: Fault) -> bool {
-    match outcome {
-        Err(Stop::Fault(found)) => *found == fault,
-        _ => false,
-    }
-}
+/// The shape and the numbers of an array, or a fault.
+type Want<'a> = Result<(&'a [usize], &'a [i64]), Fault>;
 
-fn array(alloc: Global, shape: &[usize], numbers: &[i64]) -> Result<Array, Stop>
-    requires { length numbers.now ≡ size_of shape.now }
-{
+fn numbers(alloc: Global, shape: &[usize], numbers: &[i64]) -> Result<Array, Fail> {
+    if !is_in_bounds(shape) || size(shape) != numbers.len() {
+        return Err(Fail::new("a row with another shape"));
+    }
     Ok(Array::from_shape(shape, Ravel::Nums(Vec::from_slice(alloc, numbers)?))?)
 }
 
-/// One number is a scalar.
-fn vector(alloc: Global, numbers: &[i64]) -> Result<Array, Stop>
-    requires { length numbers.now ≤ 8 }
-{
-    Ok(Array::from_nums(Vec::from_slice(alloc, numbers)?))
+fn ones(alloc: Global, shape: &[usize]) -> Result<Array, Fail> {
+    if !is_in_bounds(shape) {
+        return Err(Fail::new("a row with a large shape"));
+    }
+    Ok(Array::from_shape(shape, Ravel::Nums(vec![in alloc; 1; size(shape)]?))?)
 }
 
-/// One character is a scalar.
-fn text(alloc: Global, letters: &[Ch]) -> Result<Array, Stop>
-    requires { length letters.now ≤ 8 }
-{
-    Ok(Array::from_chars(Vec::from_slice(alloc, letters)?))
+fn text(alloc: Global, line: &str) -> Result<Array, Fail> {
+    let characters = decode_line(alloc, line.as_bytes())?;
+    if characters.len() > MAX_ELEMENTS {
+        return Err(Fail::new("a row with a long text"));
+    }
+    Ok(Array::from_chars(characters))
+}
+
+fn array(alloc: Global, plain: Plain<'_>) -> Result<Array, Fail> {
+    match plain {
+        Plain::Numbers(shape, items) => numbers(alloc, shape, items),
+        Plain::Ones(shape) => ones(alloc, shape),
+        Plain::Text(line) => text(alloc, line),
+    }
+}
+
+/// Whether these are the numbers of an array of this shape.
+fn is_array(array: &Array, shape: &[usize], numbers: &[i64]) -> bool {
+    match array.ravel() {
+        Ravel::Nums(found) => array.shape() == shape && found.as_slice() == numbers,
+        Ravel::Chars(_) => false,
+    }
+}
+
+/// Whether an array or a fault comes out, and the one that is wanted.
+fn is_so(outcome: &Result<Array, Stop>, want: Want<'_>) -> bool {
+    match outcome {
+        Ok(array) => match want {
+            Ok((shape, numbers)) => is_array(array, shape, numbers),
+            Err(_) => false,
+        },
+        Err(Stop::Fault(fault)) => match want {
+            Ok(_) => false,
+            Err(wanted) => *fault == wanted,
+        },
+        Err(Stop::Memory) => false,
+    }
 }

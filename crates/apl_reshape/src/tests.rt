@@ -1,43 +1,89 @@
 // Values from outside: rows of the language's tables.
 use super::*;
-use apl_arrays::{Along, Array, Cell, Ravel, Stop};
-use apl_charset::Ch;
+use Dyadic::{DropItems, Join, JoinAlong, Reshape, TakeItems};
+use Plain::{Letters, Scalar, Shaped, Vector, Zeros};
+use apl_arrays::{Along, Array, Cell, Ravel, Stop, is_in_bounds, size};
+use apl_charset::{Ch, decode_line};
 use apl_faults::Fault;
 use std::alloc::Global;
 use std::test::Fail;
 
-/// The vector of these numbers.
-fn numbers(alloc: Global, items: &[i64]) -> Result<Array, Stop> {
-    Ok(Array::from_shape(&[items.len()], Ravel::Nums(Vec::from_slice(alloc, items)?))?)
+/// An array as a row writes it.
+#[derive(Clone, Copy)]
+enum Plain<'a> {
+    Scalar(i64),
+    Vector(&'a [i64]),
+    /// The numbers of an array of this shape.
+    Shaped(&'a [usize], &'a [i64]),
+    /// An array of this shape whose elements are all 0.
+    Zeros(&'a [usize]),
+    /// The vector of these letters and blanks.
+    Letters(&'a str),
 }
 
-/// The vector of the first so many letters.
-fn letters(alloc: Global, count: usize) -> Result<Array, Stop> {
-    let alphabet = [
-        Ch::ascii(b'a'),
-        Ch::ascii(b'b'),
-        Ch::ascii(b'c'),
-        Ch::ascii(b'd'),
-    ];
-    let mut items = Vec::new(alloc);
-    for letter in alphabet.iter().take(count) {
-        items.push(*letter)?;
+/// The array or the fault that comes out.
+type Want<'a> = Result<Plain<'a>, Fault>;
+
+/// A function of one argument.
+#[derive(Clone, Copy)]
+enum Monadic {
+    Shape,
+    Ravel,
+}
+
+/// A function of two arguments.
+#[derive(Clone, Copy)]
+enum Dyadic {
+    Reshape,
+    TakeItems,
+    DropItems,
+    /// Along the last axis.
+    Join,
+    /// Along an axis, counted from 1.
+    JoinAlong(i64),
+}
+
+/// The rows 1 2 3 and 4 5 6.
+const MATRIX: Plain<'static> = Shaped(&[2, 3], &[1, 2, 3, 4, 5, 6]);
+
+/// The rows 1 2 and 3 4.
+const SQUARE: Plain<'static> = Shaped(&[2, 2], &[1, 2, 3, 4]);
+
+fn shaped(alloc: Global, shape: &[usize], numbers: &[i64]) -> Result<Array, Fail> {
+    if !is_in_bounds(shape) || size(shape) != numbers.len() {
+        return Err(Fail::new("a row with another shape"));
     }
-    Ok(Array::from_shape(&[items.len()], Ravel::Chars(items))?)
+    Ok(Array::from_shape(shape, Ravel::Nums(Vec::from_slice(alloc, numbers)?))?)
+}
+
+fn zeros(alloc: Global, shape: &[usize]) -> Result<Array, Fail> {
+    if !is_in_bounds(shape) {
+        return Err(Fail::new("a row with a large shape"));
+    }
+    Ok(Array::from_shape(shape, Ravel::Nums(vec![in alloc; 0; size(shape)]?))?)
+}
+
+fn letters(alloc: Global, line: &str) -> Result<Array, Fail> {
+    let characters = decode_line(alloc, line.as_bytes())?;
+    Ok(Array::from_shape(&[characters.len()], Ravel::Chars(characters))?)
+}
+
+fn array(alloc: Global, plain: Plain<'_>) -> Result<Array, Fail> {
+    match plain {
+        Scalar(number) => shaped(alloc, &[], &[number]),
+        Vector(numbers) => shaped(alloc, &[numbers.len()], numbers),
+        Shaped(shape, numbers) => shaped(alloc, shape, numbers),
+        Zeros(shape) => zeros(alloc, shape),
+        Letters(line) => letters(alloc, line),
+    }
 }
 
 /// Whether an array has this shape and these numbers.
 fn shows(array: &Array, shape: &[usize], items: &[i64]) -> bool {
-    let ravel = array.ravel();
-    if array.shape() != shape || ravel.len() != items.len() || !ravel.is_numeric() {
-        return false;
+    match array.ravel() {
+        Ravel::Nums(found) => array.shape() == shape && found.as_slice() == items,
+        Ravel::Chars(_) => false,
     }
-    for (place, item) in items.iter().enumerate() {
-        if ravel.cell(place) != Some(Cell::Num(*item)) {
-            return false;
-        }
-    }
-    true
 }
 
 /// Whether characters are those of this text.
@@ -50,289 +96,312 @@ fn are(found: &[Ch], text: &[u8]) -> bool {
     found.len() == text.len()
 }
 
-/// Whether an array has this shape and this text.
-fn spells(array: &Array, shape: &[usize], text: &[u8]) -> bool {
+/// Whether an array is the vector of these letters and blanks.
+fn spells(array: &Array, line: &str) -> bool {
     match array.ravel() {
-        Ravel::Chars(found) => array.shape() == shape && are(found.as_slice(), text),
+        Ravel::Chars(found) => array.rank() == 1 && are(found.as_slice(), line.as_bytes()),
         Ravel::Nums(_) => false,
     }
 }
 
-/// Whether an answer is this fault.
-fn fails(answer: &Result<Array, Stop>, fault: Fault) -> bool {
-    match answer {
-        Err(Stop::Fault(found)) => *found == fault,
-        _ => false,
+/// Whether an array is the one that a row writes.
+fn is_array(array: &Array, plain: Plain<'_>) -> bool {
+    match plain {
+        Scalar(number) => shows(array, &[], &[number]),
+        Vector(numbers) => shows(array, &[numbers.len()], numbers),
+        Shaped(shape, numbers) => shows(array, shape, numbers),
+        Zeros(_) => false,
+        Letters(line) => spells(array, line),
     }
 }
 
-/// The matrix with the rows 1 2 3 and 4 5 6.
-fn matrix(alloc: Global) -> Result<Array, Stop> {
-    reshaped(alloc, &[2, 3], &[1, 2, 3, 4, 5, 6])
+/// Whether what comes out is what is wanted.
+fn is_so(outcome: &Result<Array, Stop>, want: Want<'_>) -> bool {
+    match outcome {
+        Ok(array) => match want {
+            Ok(plain) => is_array(array, plain),
+            Err(_) => false,
+        },
+        Err(Stop::Fault(fault)) => match want {
+            Ok(_) => false,
+            Err(wanted) => *fault == wanted,
+        },
+        Err(Stop::Memory) => false,
+    }
 }
 
-/// The scalar of a number.
-fn scalar(alloc: Global, number: i64) -> Result<Array, Stop> {
-    Ok(Array::scalar(alloc, Cell::Num(number))?)
+fn apply_to_one(alloc: Global, function: Monadic, b: &Array) -> Result<Array, Stop> {
+    match function {
+        Monadic::Shape => shape(alloc, b),
+        Monadic::Ravel => ravel(alloc, b),
+    }
 }
 
-/// These numbers taken round in a shape.
-fn reshaped(alloc: Global, lengths: &[i64], items: &[i64]) -> Result<Array, Stop> {
-    let lengths = numbers(alloc, lengths)?;
-    let items = numbers(alloc, items)?;
-    reshape(alloc, &lengths, &items)
-}
-
-/// So many elements of an array taken.
-fn taken(alloc: Global, counts: &[i64], b: &Array) -> Result<Array, Stop> {
-    let counts = numbers(alloc, counts)?;
-    take_items(alloc, &counts, b)
-}
-
-/// What is left of an array.
-fn dropped(alloc: Global, counts: &[i64], b: &Array) -> Result<Array, Stop> {
-    let counts = numbers(alloc, counts)?;
-    drop_items(alloc, &counts, b)
-}
-
-/// Two arrays joined along the last axis.
-fn joined(alloc: Global, a: &Array, b: &Array) -> Result<Array, Stop> {
-    catenate(alloc, Along::Last, a, b, 1)
-}
-
-/// Two arrays joined along an axis, counted from 1.
-fn joined_along(alloc: Global, axis: i64, a: &Array, b: &Array) -> Result<Array, Stop> {
-    let slots = [Some(scalar(alloc, axis)?)];
+fn join_along(alloc: Global, axis: i64, a: &Array, b: &Array) -> Result<Array, Stop> {
+    let slots = [Some(Array::scalar(alloc, Cell::Num(axis))?)];
     catenate(alloc, Along::Named(&slots), a, b, 1)
+}
+
+fn apply_to_two(alloc: Global, function: Dyadic, a: &Array, b: &Array) -> Result<Array, Stop> {
+    match function {
+        Reshape => reshape(alloc, a, b),
+        TakeItems => take_items(alloc, a, b),
+        DropItems => drop_items(alloc, a, b),
+        Join => catenate(alloc, Along::Last, a, b, 1),
+        JoinAlong(axis) => join_along(alloc, axis, a, b),
+    }
+}
+
+/// Whether a row of a function of one argument holds.
+fn holds_of_one(
+    alloc: Global,
+    function: Monadic,
+    b: Plain<'_>,
+    want: Want<'_>,
+) -> Result<bool, Fail> {
+    let b = array(alloc, b)?;
+    Ok(is_so(&apply_to_one(alloc, function, &b), want))
+}
+
+/// Whether a function of two arguments gives what is wanted.
+fn gives(alloc: Global, function: Dyadic, a: &Array, b: &Array, want: Want<'_>) -> bool {
+    is_so(&apply_to_two(alloc, function, a, b), want)
+}
+
+/// Whether a row of a function of two arguments holds.
+fn holds(
+    alloc: Global,
+    function: Dyadic,
+    a: Plain<'_>,
+    b: Plain<'_>,
+    want: Want<'_>,
+) -> Result<bool, Fail> {
+    let a = array(alloc, a)?;
+    let b = array(alloc, b)?;
+    Ok(gives(alloc, function, &a, &b, want))
 }
 
 #[test]
 fn shapes_of_arrays(rt: HostRuntime) -> Result<(), Fail> {
     let alloc = rt.alloc();
-    let of_matrix = shape(alloc, &matrix(alloc)?)?;
-    assert!(rt; shows(&of_matrix, &[2], &[2, 3]));
-    let of_scalar = shape(alloc, &scalar(alloc, 7)?)?;
-    assert!(rt; shows(&of_scalar, &[0], &[]));
+    let seven = Scalar(7);
+    assert!(rt; holds_of_one(alloc, Monadic::Shape, MATRIX, Ok(Vector(&[2, 3])))?);
+    assert!(rt; holds_of_one(alloc, Monadic::Shape, seven, Ok(Vector(&[])))?);
     Ok(())
 }
 
 #[test]
 fn ravels_of_arrays(rt: HostRuntime) -> Result<(), Fail> {
     let alloc = rt.alloc();
-    let of_matrix = ravel(alloc, &matrix(alloc)?)?;
-    assert!(rt; shows(&of_matrix, &[6], &[1, 2, 3, 4, 5, 6]));
-    let of_scalar = ravel(alloc, &scalar(alloc, 7)?)?;
-    assert!(rt; shows(&of_scalar, &[1], &[7]));
+    let seven = Scalar(7);
+    assert!(rt;
+        holds_of_one(
+            alloc,
+            Monadic::Ravel,
+            MATRIX,
+            Ok(Vector(&[1, 2, 3, 4, 5, 6]))
+        )?
+    );
+    assert!(rt; holds_of_one(alloc, Monadic::Ravel, seven, Ok(Vector(&[7])))?);
     Ok(())
 }
 
 #[test]
 fn elements_taken_round(rt: HostRuntime) -> Result<(), Fail> {
-    let alloc = rt.alloc();
-    let round = reshaped(alloc, &[2, 3], &[1, 2, 3, 4])?;
-    assert!(rt; shows(&round, &[2, 3], &[1, 2, 3, 4, 1, 2]));
-    let zeros = reshaped(alloc, &[3], &[])?;
-    assert!(rt; shows(&zeros, &[3], &[0, 0, 0]));
-    let one = reshaped(alloc, &[], &[5, 6])?;
-    assert!(rt; shows(&one, &[], &[5]));
+    let rows = [
+        (
+            Vector(&[2, 3]),
+            Vector(&[1, 2, 3, 4]),
+            Ok(Shaped(&[2, 3], &[1, 2, 3, 4, 1, 2])),
+        ),
+        (Vector(&[3]), Vector(&[]), Ok(Vector(&[0, 0, 0]))),
+        (Vector(&[]), Vector(&[5, 6]), Ok(Scalar(5))),
+    ];
+    for (lengths, items, want) in rows {
+        assert!(rt; holds(rt.alloc(), Reshape, lengths, items, want)?);
+    }
     Ok(())
 }
 
 #[test]
 fn blanks_where_there_is_no_character(rt: HostRuntime) -> Result<(), Fail> {
     let alloc = rt.alloc();
-    let none = letters(alloc, 0)?;
-    let blanks = reshape(alloc, &scalar(alloc, 2)?, &none)?;
-    assert!(rt; spells(&blanks, &[2], b"  "));
-    let five = reshape(alloc, &none, &scalar(alloc, 5)?)?;
-    assert!(rt; shows(&five, &[], &[5]));
+    let none = Letters("");
+    assert!(rt; holds(alloc, Reshape, Scalar(2), none, Ok(Letters("  ")))?);
+    assert!(rt; holds(alloc, Reshape, none, Scalar(5), Ok(Scalar(5)))?);
     Ok(())
 }
 
 #[test]
 fn shapes_at_fault(rt: HostRuntime) -> Result<(), Fail> {
     let alloc = rt.alloc();
-    assert!(rt;
-        fails(
-            &reshaped(alloc, &[1_000_000, -1, 1_000_000], &[0]),
-            Fault::Domain
-        )
-    );
-    assert!(rt;
-        fails(
-            &reshaped(alloc, &[1_000_000, 1_000_000], &[0]),
-            Fault::Limit
-        )
-    );
-    assert!(rt; fails(&reshaped(alloc, &[0, 1_000_001], &[0]), Fault::Limit));
-    assert!(rt; fails(&reshaped(alloc, &[i64::MAX, i64::MAX], &[0]), Fault::Limit));
-    assert!(rt; fails(&reshaped(alloc, &[1; 9], &[0]), Fault::Limit));
-    let matrix = matrix(alloc)?;
-    assert!(rt; fails(&reshape(alloc, &matrix, &matrix), Fault::Rank));
+    let zero = Vector(&[0]);
+    let rows = [
+        (Vector(&[1_000_000, -1, 1_000_000]), Fault::Domain),
+        (Vector(&[1_000_000, 1_000_000]), Fault::Limit),
+        (Vector(&[0, 1_000_001]), Fault::Limit),
+        (Vector(&[i64::MAX, i64::MAX]), Fault::Limit),
+        (Vector(&[1; 9]), Fault::Limit),
+    ];
+    for (lengths, fault) in rows {
+        assert!(rt; holds(alloc, Reshape, lengths, zero, Err(fault))?);
+    }
+    assert!(rt; holds(alloc, Reshape, MATRIX, MATRIX, Err(Fault::Rank))?);
     Ok(())
 }
 
 #[test]
 fn elements_taken_from_the_front(rt: HostRuntime) -> Result<(), Fail> {
     let alloc = rt.alloc();
-    let two = taken(alloc, &[2], &letters(alloc, 3)?)?;
-    assert!(rt; spells(&two, &[2], b"ab"));
-    let five = taken(alloc, &[5], &letters(alloc, 2)?)?;
-    assert!(rt; spells(&five, &[5], b"ab   "));
+    let [two, five] = [Vector(&[2]), Vector(&[5])];
+    assert!(rt; holds(alloc, TakeItems, two, Letters("abc"), Ok(Letters("ab")))?);
+    assert!(rt; holds(alloc, TakeItems, five, Letters("ab"), Ok(Letters("ab   ")))?);
     Ok(())
 }
 
 #[test]
 fn elements_taken_from_the_end(rt: HostRuntime) -> Result<(), Fail> {
-    let alloc = rt.alloc();
-    let last = taken(alloc, &[-4], &numbers(alloc, &[1, 2, 3])?)?;
-    assert!(rt; shows(&last, &[4], &[0, 1, 2, 3]));
-    let corner = taken(alloc, &[-1, 4], &matrix(alloc)?)?;
-    assert!(rt; shows(&corner, &[1, 4], &[4, 5, 6, 0]));
-    let spread = taken(alloc, &[2, -2], &scalar(alloc, 2)?)?;
-    assert!(rt; shows(&spread, &[2, 2], &[0, 2, 0, 0]));
+    let rows = [
+        (Vector(&[-4]), Vector(&[1, 2, 3]), Ok(Vector(&[0, 1, 2, 3]))),
+        (Vector(&[-1, 4]), MATRIX, Ok(Shaped(&[1, 4], &[4, 5, 6, 0]))),
+        (
+            Vector(&[2, -2]),
+            Scalar(2),
+            Ok(Shaped(&[2, 2], &[0, 2, 0, 0])),
+        ),
+    ];
+    for (counts, b, want) in rows {
+        assert!(rt; holds(rt.alloc(), TakeItems, counts, b, want)?);
+    }
     Ok(())
 }
 
 #[test]
 fn counts_at_fault(rt: HostRuntime) -> Result<(), Fail> {
-    let alloc = rt.alloc();
-    let matrix = matrix(alloc)?;
-    assert!(rt; fails(&taken(alloc, &[2], &matrix), Fault::Length));
-    assert!(rt;
-        fails(
-            &taken(alloc, &[1_000_000, 1_000_000], &matrix),
-            Fault::Limit
-        )
-    );
-    assert!(rt; fails(&take_items(alloc, &matrix, &matrix), Fault::Rank));
-    let letter = letters(alloc, 1)?;
-    assert!(rt; fails(&take_items(alloc, &letter, &letter), Fault::Domain));
-    assert!(rt; fails(&taken(alloc, &[i64::MIN], &letter), Fault::Limit));
+    let letter = Letters("a");
+    let rows = [
+        (Vector(&[2]), MATRIX, Fault::Length),
+        (Vector(&[1_000_000, 1_000_000]), MATRIX, Fault::Limit),
+        (MATRIX, MATRIX, Fault::Rank),
+        (letter, letter, Fault::Domain),
+        (Vector(&[i64::MIN]), letter, Fault::Limit),
+    ];
+    for (counts, b, fault) in rows {
+        assert!(rt; holds(rt.alloc(), TakeItems, counts, b, Err(fault))?);
+    }
     Ok(())
 }
 
 #[test]
 fn elements_dropped(rt: HostRuntime) -> Result<(), Fail> {
-    let alloc = rt.alloc();
-    let matrix = matrix(alloc)?;
-    let rest = dropped(alloc, &[1, 1], &matrix)?;
-    assert!(rt; shows(&rest, &[1, 2], &[5, 6]));
-    let first = dropped(alloc, &[0, -2], &matrix)?;
-    assert!(rt; shows(&first, &[2, 1], &[1, 4]));
-    let none = dropped(alloc, &[i64::MIN, 1], &matrix)?;
-    assert!(rt; shows(&none, &[0, 2], &[]));
+    let rows = [
+        (Vector(&[1, 1]), Ok(Shaped(&[1, 2], &[5, 6]))),
+        (Vector(&[0, -2]), Ok(Shaped(&[2, 1], &[1, 4]))),
+        (Vector(&[i64::MIN, 1]), Ok(Shaped(&[0, 2], &[]))),
+    ];
+    for (counts, want) in rows {
+        assert!(rt; holds(rt.alloc(), DropItems, counts, MATRIX, want)?);
+    }
     Ok(())
 }
 
 #[test]
 fn elements_dropped_of_a_scalar(rt: HostRuntime) -> Result<(), Fail> {
-    let alloc = rt.alloc();
-    let five = scalar(alloc, 5)?;
-    let none = dropped(alloc, &[1], &five)?;
-    assert!(rt; shows(&none, &[0], &[]));
-    let same = dropped(alloc, &[0, 0], &five)?;
-    assert!(rt; shows(&same, &[1, 1], &[5]));
-    assert!(rt; fails(&dropped(alloc, &[0; 9], &five), Fault::Limit));
-    assert!(rt; fails(&dropped(alloc, &[1], &matrix(alloc)?), Fault::Length));
+    let five = Scalar(5);
+    let one = Vector(&[1]);
+    let rows = [
+        (one, five, Ok(Vector(&[]))),
+        (Vector(&[0, 0]), five, Ok(Shaped(&[1, 1], &[5]))),
+        (Vector(&[0; 9]), five, Err(Fault::Limit)),
+        (one, MATRIX, Err(Fault::Length)),
+    ];
+    for (counts, b, want) in rows {
+        assert!(rt; holds(rt.alloc(), DropItems, counts, b, want)?);
+    }
     Ok(())
 }
 
 #[test]
 fn vectors_joined(rt: HostRuntime) -> Result<(), Fail> {
     let alloc = rt.alloc();
-    let ones = numbers(alloc, &[1, 1, 1])?;
-    let five = joined(alloc, &ones, &numbers(alloc, &[-3, 7])?)?;
-    assert!(rt; shows(&five, &[5], &[1, 1, 1, -3, 7]));
+    let [ones, more] = [Vector(&[1, 1, 1]), Vector(&[-3, 7])];
+    assert!(rt; holds(alloc, Join, ones, more, Ok(Vector(&[1, 1, 1, -3, 7])))?);
     Ok(())
 }
 
 #[test]
 fn scalars_joined(rt: HostRuntime) -> Result<(), Fail> {
     let alloc = rt.alloc();
-    let three = scalar(alloc, 3)?;
-    let vector = joined(alloc, &numbers(alloc, &[1, 2])?, &three)?;
-    assert!(rt; shows(&vector, &[3], &[1, 2, 3]));
-    let two = joined(alloc, &scalar(alloc, 1)?, &three)?;
-    assert!(rt; shows(&two, &[2], &[1, 3]));
+    let three = Scalar(3);
+    assert!(rt; holds(alloc, Join, Vector(&[1, 2]), three, Ok(Vector(&[1, 2, 3])))?);
+    assert!(rt; holds(alloc, Join, Scalar(1), three, Ok(Vector(&[1, 3])))?);
     Ok(())
 }
 
 #[test]
 fn matrices_joined(rt: HostRuntime) -> Result<(), Fail> {
-    let alloc = rt.alloc();
-    let square = reshaped(alloc, &[2, 2], &[1, 2, 3, 4])?;
-    let beside = joined(alloc, &square, &matrix(alloc)?)?;
-    assert!(rt; shows(&beside, &[2, 5], &[1, 2, 1, 2, 3, 3, 4, 4, 5, 6]));
+    let beside = Ok(Shaped(&[2, 5], &[1, 2, 1, 2, 3, 3, 4, 4, 5, 6]));
+    assert!(rt; holds(rt.alloc(), Join, SQUARE, MATRIX, beside)?);
     Ok(())
 }
 
 #[test]
 fn vectors_joined_to_matrices(rt: HostRuntime) -> Result<(), Fail> {
     let alloc = rt.alloc();
-    let square = reshaped(alloc, &[2, 2], &[1, 2, 3, 4])?;
-    let vector = numbers(alloc, &[5, 6])?;
-    let wider = joined(alloc, &square, &vector)?;
-    assert!(rt; shows(&wider, &[2, 3], &[1, 2, 5, 3, 4, 6]));
-    let higher = joined_along(alloc, 1, &vector, &square)?;
-    assert!(rt; shows(&higher, &[3, 2], &[5, 6, 1, 2, 3, 4]));
+    let vector = Vector(&[5, 6]);
+    let wider = Ok(Shaped(&[2, 3], &[1, 2, 5, 3, 4, 6]));
+    assert!(rt; holds(alloc, Join, SQUARE, vector, wider)?);
+    let higher = Ok(Shaped(&[3, 2], &[5, 6, 1, 2, 3, 4]));
+    assert!(rt; holds(alloc, JoinAlong(1), vector, SQUARE, higher)?);
     Ok(())
 }
 
 #[test]
 fn scalars_joined_to_matrices(rt: HostRuntime) -> Result<(), Fail> {
     let alloc = rt.alloc();
-    let square = reshaped(alloc, &[2, 2], &[1, 2, 3, 4])?;
-    let nine = scalar(alloc, 9)?;
-    let wider = joined(alloc, &nine, &square)?;
-    assert!(rt; shows(&wider, &[2, 3], &[9, 1, 2, 9, 3, 4]));
-    let higher = joined_along(alloc, 1, &square, &nine)?;
-    assert!(rt; shows(&higher, &[3, 2], &[1, 2, 3, 4, 9, 9]));
+    let nine = Scalar(9);
+    let wider = Ok(Shaped(&[2, 3], &[9, 1, 2, 9, 3, 4]));
+    assert!(rt; holds(alloc, Join, nine, SQUARE, wider)?);
+    let higher = Ok(Shaped(&[3, 2], &[1, 2, 3, 4, 9, 9]));
+    assert!(rt; holds(alloc, JoinAlong(1), SQUARE, nine, higher)?);
     Ok(())
 }
 
 #[test]
 fn empty_operands_joined(rt: HostRuntime) -> Result<(), Fail> {
     let alloc = rt.alloc();
-    let no_number = numbers(alloc, &[])?;
-    let letter = joined(alloc, &no_number, &letters(alloc, 1)?)?;
-    assert!(rt; spells(&letter, &[1], b"a"));
-    let no_letter = letters(alloc, 0)?;
-    let text = joined(alloc, &no_number, &no_letter)?;
-    assert!(rt; spells(&text, &[0], b""));
-    let none = joined(alloc, &no_letter, &no_number)?;
-    assert!(rt; shows(&none, &[0], &[]));
+    let [no_number, no_letter] = [Vector(&[]), Letters("")];
+    assert!(rt; holds(alloc, Join, no_number, Letters("a"), Ok(Letters("a")))?);
+    assert!(rt; holds(alloc, Join, no_number, no_letter, Ok(Letters("")))?);
+    assert!(rt; holds(alloc, Join, no_letter, no_number, Ok(Vector(&[])))?);
     Ok(())
 }
 
 #[test]
 fn ranks_that_do_not_join(rt: HostRuntime) -> Result<(), Fail> {
     let alloc = rt.alloc();
-    let cube = reshaped(alloc, &[2, 2, 2], &[0])?;
-    assert!(rt; fails(&joined(alloc, &cube, &letters(alloc, 3)?), Fault::Rank));
-    let one = scalar(alloc, 1)?;
-    assert!(rt; fails(&joined_along(alloc, 1, &one, &one), Fault::Axis));
+    let [cube, one] = [Zeros(&[2, 2, 2]), Scalar(1)];
+    assert!(rt; holds(alloc, Join, cube, Letters("abc"), Err(Fault::Rank))?);
+    assert!(rt; holds(alloc, JoinAlong(1), one, one, Err(Fault::Axis))?);
     Ok(())
 }
 
 #[test]
 fn lengths_that_do_not_join(rt: HostRuntime) -> Result<(), Fail> {
     let alloc = rt.alloc();
-    let square = reshaped(alloc, &[2, 2], &[0])?;
-    let one = numbers(alloc, &[1])?;
-    assert!(rt; fails(&joined(alloc, &one, &square), Fault::Length));
-    let three = letters(alloc, 3)?;
-    assert!(rt; fails(&joined(alloc, &three, &square), Fault::Length));
-    assert!(rt; fails(&joined(alloc, &three, &one), Fault::Domain));
+    let square = Zeros(&[2, 2]);
+    let [one, three] = [Vector(&[1]), Letters("abc")];
+    assert!(rt; holds(alloc, Join, one, square, Err(Fault::Length))?);
+    assert!(rt; holds(alloc, Join, three, square, Err(Fault::Length))?);
+    assert!(rt; holds(alloc, Join, three, one, Err(Fault::Domain))?);
     Ok(())
 }
 
 #[test]
 fn too_many_joined(rt: HostRuntime) -> Result<(), Fail> {
     let alloc = rt.alloc();
-    let million = reshaped(alloc, &[1_000_000], &[0])?;
-    let letter = letters(alloc, 1)?;
-    assert!(rt; fails(&joined(alloc, &million, &letter), Fault::Domain));
-    assert!(rt; fails(&joined(alloc, &million, &scalar(alloc, 1)?), Fault::Limit));
+    let million = Zeros(&[1_000_000]);
+    assert!(rt; holds(alloc, Join, million, Letters("a"), Err(Fault::Domain))?);
+    assert!(rt; holds(alloc, Join, million, Scalar(1), Err(Fault::Limit))?);
     Ok(())
 }

@@ -3,49 +3,127 @@ mod characters;
 mod extension;
 mod values;
 
-ghost use Rattle.std.specs.Prelude.{◌≡◌, ◌≤◌, length};
-ghost use Rattle.apl_arrays.specs.Index.{size_of};
-
 use super::*;
-use apl_arrays::{Array, Ravel, Stop};
+use Plain::{Long, Scalar, Shaped, Text, Vector};
+use apl_arrays::{Array, MAX_ELEMENTS, Ravel, Stop, is_in_bounds, size};
+use apl_charset::decode_line;
 use apl_faults::Fault;
 use std::alloc::Global;
+use std::test::Fail;
 
-/// Whether these are the numbers of an array of this shape.
-fn is_array(outcome: &Result<Array, Stop>, shape: &[usize], numbers: &[i64]) -> bool {
-    match outcome {
-        Ok(array) => match array.ravel() {
-            Ravel::Nums(found) => array.shape() == shape && found.as_slice() == numbers,
-            Ravel::Chars(_) => false,
-        },
-        Err(_) => false,
+/// An array as a row writes it.
+#[derive(Clone, Copy)]
+enum Plain<'a> {
+    Scalar(i64),
+    Vector(&'a [i64]),
+    /// The numbers of an array of this shape.
+    Shaped(&'a [usize], &'a [i64]),
+    /// A thousand and one times 10, and then another number.
+    Long(i64),
+    /// The characters of a vector, or of a scalar where there is one.
+    Text(&'a str),
+}
+
+/// The array of numbers or the fault that comes out.
+type Want<'a> = Result<Plain<'a>, Fault>;
+
+/// The same where a scalar is to come out.
+fn scalar(want: Result<i64, Fault>) -> Want<'static> {
+    match want {
+        Ok(number) => Ok(Scalar(number)),
+        Err(fault) => Err(fault),
     }
 }
 
-fn is_fault(outcome: &Result<Array, Stop>, fault: Fault) -> bool {
-    match outcome {
-        Err(Stop::Fault(found)) => *found == fault,
+fn shaped(alloc: Global, shape: &[usize], numbers: &[i64]) -> Result<Array, Fail> {
+    if !is_in_bounds(shape) || size(shape) != numbers.len() {
+        return Err(Fail::new("a row with another shape"));
+    }
+    Ok(Array::from_shape(shape, Ravel::Nums(Vec::from_slice(alloc, numbers)?))?)
+}
+
+fn long(alloc: Global, last: i64) -> Result<Array, Fail> {
+    let mut numbers = vec![in alloc; 10i64; 1001]?;
+    numbers.push(last)?;
+    Ok(Array::from_nums(numbers))
+}
+
+fn text(alloc: Global, line: &str) -> Result<Array, Fail> {
+    let characters = decode_line(alloc, line.as_bytes())?;
+    if characters.len() > MAX_ELEMENTS {
+        return Err(Fail::new("a row with a long text"));
+    }
+    Ok(Array::from_chars(characters))
+}
+
+fn array(alloc: Global, plain: Plain<'_>) -> Result<Array, Fail> {
+    match plain {
+        Scalar(number) => shaped(alloc, &[], &[number]),
+        Vector(numbers) => shaped(alloc, &[numbers.len()], numbers),
+        Shaped(shape, numbers) => shaped(alloc, shape, numbers),
+        Long(last) => long(alloc, last),
+        Text(line) => text(alloc, line),
+    }
+}
+
+/// Whether these are the numbers of an array of this shape.
+fn shows(array: &Array, shape: &[usize], numbers: &[i64]) -> bool {
+    match array.ravel() {
+        Ravel::Nums(found) => array.shape() == shape && found.as_slice() == numbers,
+        Ravel::Chars(_) => false,
+    }
+}
+
+/// Whether an array of numbers is the one that a row writes.
+fn is_array(array: &Array, plain: Plain<'_>) -> bool {
+    match plain {
+        Scalar(number) => shows(array, &[], &[number]),
+        Vector(numbers) => shows(array, &[numbers.len()], numbers),
+        Shaped(shape, numbers) => shows(array, shape, numbers),
         _ => false,
     }
 }
 
-/// Whether it is a scalar of this number, or this fault.
-fn gives(outcome: &Result<Array, Stop>, want: Result<i64, Fault>) -> bool {
-    match want {
-        Ok(number) => is_array(outcome, &[], &[number]),
-        Err(fault) => is_fault(outcome, fault),
+/// Whether what comes out is what is wanted.
+fn is_so(outcome: &Result<Array, Stop>, want: Want<'_>) -> bool {
+    match outcome {
+        Ok(array) => match want {
+            Ok(plain) => is_array(array, plain),
+            Err(_) => false,
+        },
+        Err(Stop::Fault(fault)) => match want {
+            Ok(_) => false,
+            Err(wanted) => *fault == wanted,
+        },
+        Err(Stop::Memory) => false,
     }
 }
 
-fn array(alloc: Global, shape: &[usize], numbers: &[i64]) -> Result<Array, Stop>
-    requires { length numbers.now ≡ size_of shape.now }
-{
-    Ok(Array::from_shape(shape, Ravel::Nums(Vec::from_slice(alloc, numbers)?))?)
+/// Whether a row of a function of one argument holds.
+fn holds_of_one(
+    alloc: Global,
+    function: Monadic,
+    b: Plain<'_>,
+    want: Want<'_>,
+) -> Result<bool, Fail> {
+    let b = array(alloc, b)?;
+    Ok(is_so(&monadic(alloc, function, &b), want))
 }
 
-/// One number is a scalar.
-fn vector(alloc: Global, numbers: &[i64]) -> Result<Array, Stop>
-    requires { length numbers.now ≤ 5 }
-{
-    Ok(Array::from_nums(Vec::from_slice(alloc, numbers)?))
+/// Whether a function of two arguments gives what is wanted.
+fn gives(alloc: Global, function: Dyadic, a: &Array, b: &Array, want: Want<'_>) -> bool {
+    is_so(&dyadic(alloc, function, a, b), want)
+}
+
+/// Whether a row of a function of two arguments holds.
+fn holds_of_two(
+    alloc: Global,
+    function: Dyadic,
+    a: Plain<'_>,
+    b: Plain<'_>,
+    want: Want<'_>,
+) -> Result<bool, Fail> {
+    let a = array(alloc, a)?;
+    let b = array(alloc, b)?;
+    Ok(gives(alloc, function, &a, &b, want))
 }

@@ -1,249 +1,338 @@
 // Values from outside: worked rows of counting, grading, looking up, decoding and encoding.
-ghost use Rattle.std.specs.Prelude.{◌≡◌, ◌≤◌, length};
-ghost use Rattle.apl_arrays.specs.Index.{size_of};
+ghost use Rattle.std.specs.Prelude.{◌≤◌};
 
 use super::*;
-use apl_arrays::{Array, Cell, Ravel, Stop};
-use apl_charset::Ch;
+use Plain::{Counted, Scalar, Shaped, Text, Vector};
+use apl_arrays::{Array, MAX_ELEMENTS, Ravel, Stop, is_in_bounds, size};
+use apl_charset::decode_line;
 use apl_faults::Fault;
 use std::alloc::Global;
 use std::test::Fail;
 
-/// Whether these are the numbers of an array of this shape.
-fn is_array(outcome: &Result<Array, Stop>, shape: &[usize], numbers: &[i64]) -> bool {
-    match outcome {
-        Ok(array) => match array.ravel() {
-            Ravel::Nums(found) => array.shape() == shape && found.as_slice() == numbers,
-            Ravel::Chars(_) => false,
-        },
-        Err(_) => false,
+/// An array as a row writes it.
+#[derive(Clone, Copy)]
+enum Plain<'a> {
+    Scalar(i64),
+    Vector(&'a [i64]),
+    /// The numbers of an array of this shape.
+    Shaped(&'a [usize], &'a [i64]),
+    /// So many numbers from 1 on.
+    Counted(i64),
+    /// The characters of a vector, or of a scalar where there is one.
+    Text(&'a str),
+}
+
+/// The array of numbers or the fault that comes out.
+type Want<'a> = Result<Plain<'a>, Fault>;
+
+/// A function of one argument.
+#[derive(Clone, Copy)]
+enum Monadic {
+    Iota,
+    GradeUp,
+    GradeDown,
+}
+
+/// A function of two arguments.
+#[derive(Clone, Copy)]
+enum Dyadic {
+    IndexOf,
+    Member,
+    Decode,
+    Encode,
+}
+
+fn shaped(alloc: Global, shape: &[usize], numbers: &[i64]) -> Result<Array, Fail> {
+    if !is_in_bounds(shape) || size(shape) != numbers.len() {
+        return Err(Fail::new("a row with another shape"));
+    }
+    Ok(Array::from_shape(shape, Ravel::Nums(Vec::from_slice(alloc, numbers)?))?)
+}
+
+fn counted(alloc: Global, count: i64) -> Result<Array, Fail> {
+    Ok(iota(alloc, &shaped(alloc, &[], &[count])?, 1)?)
+}
+
+fn text(alloc: Global, line: &str) -> Result<Array, Fail> {
+    let characters = decode_line(alloc, line.as_bytes())?;
+    if characters.len() > MAX_ELEMENTS {
+        return Err(Fail::new("a row with a long text"));
+    }
+    Ok(Array::from_chars(characters))
+}
+
+fn array(alloc: Global, plain: Plain<'_>) -> Result<Array, Fail> {
+    match plain {
+        Scalar(number) => shaped(alloc, &[], &[number]),
+        Vector(numbers) => shaped(alloc, &[numbers.len()], numbers),
+        Shaped(shape, numbers) => shaped(alloc, shape, numbers),
+        Counted(count) => counted(alloc, count),
+        Text(line) => text(alloc, line),
     }
 }
 
-fn is_fault(outcome: &Result<Array, Stop>, fault: Fault) -> bool {
-    match outcome {
-        Err(Stop::Fault(found)) => *found == fault,
+/// Whether these are the numbers of an array of this shape.
+fn shows(array: &Array, shape: &[usize], numbers: &[i64]) -> bool {
+    match array.ravel() {
+        Ravel::Nums(found) => array.shape() == shape && found.as_slice() == numbers,
+        Ravel::Chars(_) => false,
+    }
+}
+
+/// Whether an array of numbers is the one that a row writes.
+fn is_array(array: &Array, plain: Plain<'_>) -> bool {
+    match plain {
+        Scalar(number) => shows(array, &[], &[number]),
+        Vector(numbers) => shows(array, &[numbers.len()], numbers),
+        Shaped(shape, numbers) => shows(array, shape, numbers),
         _ => false,
     }
 }
 
-fn array(alloc: Global, shape: &[usize], numbers: &[i64]) -> Result<Array, Stop>
-    requires { length numbers.now ≡ size_of shape.now }
-{
-    Ok(Array::from_shape(shape, Ravel::Nums(Vec::from_slice(alloc, numbers)?))?)
+/// Whether what comes out is what is wanted.
+fn is_so(outcome: &Result<Array, Stop>, want: Want<'_>) -> bool {
+    match outcome {
+        Ok(array) => match want {
+            Ok(plain) => is_array(array, plain),
+            Err(_) => false,
+        },
+        Err(Stop::Fault(fault)) => match want {
+            Ok(_) => false,
+            Err(wanted) => *fault == wanted,
+        },
+        Err(Stop::Memory) => false,
+    }
 }
 
-/// One number is a scalar.
-fn simple(alloc: Global, numbers: &[i64]) -> Result<Array, Stop>
-    requires { length numbers.now ≤ 5 }
+/// What a function gives by an index origin.
+fn apply_to_one(alloc: Global, io: usize, function: Monadic, b: &Array) -> Result<Array, Stop>
+    requires { io ≤ 1 }
 {
-    Ok(Array::from_nums(Vec::from_slice(alloc, numbers)?))
+    match function {
+        Monadic::Iota => iota(alloc, b, io),
+        Monadic::GradeUp => grade_up(alloc, b, io),
+        Monadic::GradeDown => grade_down(alloc, b, io),
+    }
 }
 
-/// One character is a scalar.
-fn text(alloc: Global, characters: &[Ch]) -> Result<Array, Stop>
-    requires { length characters.now ≤ 5 }
+/// What a function gives by an index origin, which [`Dyadic::IndexOf`] alone counts from.
+fn apply_to_two(
+    alloc: Global,
+    io: usize,
+    function: Dyadic,
+    a: &Array,
+    b: &Array,
+) -> Result<Array, Stop>
+    requires { io ≤ 1 }
 {
-    Ok(Array::from_chars(Vec::from_slice(alloc, characters)?))
+    match function {
+        Dyadic::IndexOf => index_of(alloc, a, b, io),
+        Dyadic::Member => member(alloc, a, b),
+        Dyadic::Decode => decode(alloc, a, b),
+        Dyadic::Encode => encode(alloc, a, b),
+    }
+}
+
+/// Whether a row of a function of one argument holds.
+fn holds_of_one(
+    alloc: Global,
+    io: usize,
+    function: Monadic,
+    b: Plain<'_>,
+    want: Want<'_>,
+) -> Result<bool, Fail>
+    requires { io ≤ 1 }
+{
+    let b = array(alloc, b)?;
+    Ok(is_so(&apply_to_one(alloc, io, function, &b), want))
+}
+
+/// Whether a function of two arguments gives this.
+fn gives(alloc: Global, io: usize, function: Dyadic, a: &Array, b: &Array, want: Want<'_>) -> bool
+    requires { io ≤ 1 }
+{
+    is_so(&apply_to_two(alloc, io, function, a, b), want)
+}
+
+/// Whether a row of a function of two arguments holds.
+fn holds_of_two(
+    alloc: Global,
+    io: usize,
+    function: Dyadic,
+    a: Plain<'_>,
+    b: Plain<'_>,
+    want: Want<'_>,
+) -> Result<bool, Fail>
+    requires { io ≤ 1 }
+{
+    let a = array(alloc, a)?;
+    let b = array(alloc, b)?;
+    Ok(gives(alloc, io, function, &a, &b, want))
 }
 
 #[test]
 fn counts(rt: HostRuntime) -> Result<(), Fail> {
     let alloc = rt.alloc();
-    let five = iota(alloc, &simple(alloc, &[5])?, 1);
-    assert!(rt; is_array(&five, &[5], &[1, 2, 3, 4, 5]));
-    let from_zero = iota(alloc, &simple(alloc, &[3])?, 0);
-    assert!(rt; is_array(&from_zero, &[3], &[0, 1, 2]));
-    let none = iota(alloc, &simple(alloc, &[0])?, 1);
-    assert!(rt; is_array(&none, &[0], &[]));
-    let negative = iota(alloc, &simple(alloc, &[-1])?, 1);
-    assert!(rt; is_fault(&negative, Fault::Domain));
-    let two = iota(alloc, &simple(alloc, &[1, 2])?, 1);
-    assert!(rt; is_fault(&two, Fault::Length));
-    let matrix = iota(alloc, &array(alloc, &[1, 1], &[3])?, 1);
-    assert!(rt; is_fault(&matrix, Fault::Rank));
-    let letters = iota(alloc, &text(alloc, &[Ch::ascii(b'A'), Ch::ascii(b'B')])?, 1);
-    assert!(rt; is_fault(&letters, Fault::Length));
-    let letter = iota(alloc, &text(alloc, &[Ch::ascii(b'A')])?, 1);
-    assert!(rt; is_fault(&letter, Fault::Domain));
-    let many = iota(alloc, &simple(alloc, &[1_000_001])?, 1);
-    assert!(rt; is_fault(&many, Fault::Limit));
-    let most = iota(alloc, &simple(alloc, &[i64::MAX])?, 1);
-    assert!(rt; is_fault(&most, Fault::Limit));
+    let rows = [
+        (Scalar(5), Ok(Vector(&[1, 2, 3, 4, 5]))),
+        (Scalar(0), Ok(Vector(&[]))),
+        (Scalar(-1), Err(Fault::Domain)),
+        (Vector(&[1, 2]), Err(Fault::Length)),
+        (Shaped(&[1, 1], &[3]), Err(Fault::Rank)),
+        (Text("AB"), Err(Fault::Length)),
+        (Text("A"), Err(Fault::Domain)),
+        (Scalar(1_000_001), Err(Fault::Limit)),
+        (Scalar(i64::MAX), Err(Fault::Limit)),
+    ];
+    for (b, want) in rows {
+        assert!(rt; holds_of_one(alloc, 1, Monadic::Iota, b, want)?);
+    }
+    let from_zero = Ok(Vector(&[0, 1, 2]));
+    assert!(rt; holds_of_one(alloc, 0, Monadic::Iota, Scalar(3), from_zero)?);
     Ok(())
 }
 
 #[test]
 fn grades(rt: HostRuntime) -> Result<(), Fail> {
     let alloc = rt.alloc();
-    let up = grade_up(alloc, &simple(alloc, &[3, 1, 2])?, 1);
-    assert!(rt; is_array(&up, &[3], &[2, 3, 1]));
-    let ties = simple(alloc, &[3, 1, 2, 1])?;
-    assert!(rt; is_array(&grade_up(alloc, &ties, 1), &[4], &[2, 4, 3, 1]));
-    assert!(rt; is_array(&grade_down(alloc, &ties, 1), &[4], &[1, 3, 2, 4]));
-    let equal = grade_down(alloc, &simple(alloc, &[3, 1, 3])?, 1);
-    assert!(rt; is_array(&equal, &[3], &[1, 3, 2]));
-    let ends = simple(alloc, &[0, i64::MIN, i64::MAX])?;
-    assert!(rt; is_array(&grade_up(alloc, &ends, 0), &[3], &[1, 0, 2]));
-    assert!(rt; is_array(&grade_down(alloc, &ends, 0), &[3], &[2, 0, 1]));
-    let matrix = array(alloc, &[2, 2], &[1, 1, 1, 1])?;
-    assert!(rt; is_fault(&grade_up(alloc, &matrix, 1), Fault::Rank));
-    assert!(rt; is_fault(&grade_down(alloc, &matrix, 1), Fault::Rank));
-    let letters = text(alloc, &[Ch::ascii(b'A'), Ch::ascii(b'B'), Ch::ascii(b'C')])?;
-    assert!(rt; is_fault(&grade_up(alloc, &letters, 1), Fault::Domain));
+    let [up, down] = [Monadic::GradeUp, Monadic::GradeDown];
+    let ties = Vector(&[3, 1, 2, 1]);
+    let matrix = Shaped(&[2, 2], &[1, 1, 1, 1]);
+    let rows = [
+        (up, Vector(&[3, 1, 2]), Ok(Vector(&[2, 3, 1]))),
+        (up, ties, Ok(Vector(&[2, 4, 3, 1]))),
+        (down, ties, Ok(Vector(&[1, 3, 2, 4]))),
+        (down, Vector(&[3, 1, 3]), Ok(Vector(&[1, 3, 2]))),
+        (up, matrix, Err(Fault::Rank)),
+        (down, matrix, Err(Fault::Rank)),
+        (up, Text("ABC"), Err(Fault::Domain)),
+    ];
+    for (function, b, want) in rows {
+        assert!(rt; holds_of_one(alloc, 1, function, b, want)?);
+    }
+    let ends = Vector(&[0, i64::MIN, i64::MAX]);
+    assert!(rt; holds_of_one(alloc, 0, up, ends, Ok(Vector(&[1, 0, 2])))?);
+    assert!(rt; holds_of_one(alloc, 0, down, ends, Ok(Vector(&[2, 0, 1])))?);
     Ok(())
 }
 
 #[test]
 fn first_places(rt: HostRuntime) -> Result<(), Fail> {
     let alloc = rt.alloc();
-    let letters = text(alloc, &[Ch::ascii(b'a'), Ch::ascii(b'b'), Ch::ascii(b'c')])?;
-    let wanted = text(alloc, &[Ch::ascii(b'c'), Ch::ascii(b'd')])?;
-    assert!(rt; is_array(&index_of(alloc, &letters, &wanted, 1), &[2], &[3, 4]));
-    let numbers = simple(alloc, &[7, 5, 7, 5])?;
-    let matrix = array(alloc, &[2, 2], &[5, 7, 6, 5])?;
-    assert!(rt;
-        is_array(
-            &index_of(alloc, &numbers, &matrix, 1),
-            &[2, 2],
-            &[2, 1, 5, 2]
-        )
-    );
-    assert!(rt; is_array(&index_of(alloc, &numbers, &wanted, 0), &[2], &[4, 4]));
-    assert!(rt;
-        is_array(
-            &index_of(alloc, &letters, &matrix, 1),
-            &[2, 2],
-            &[4, 4, 4, 4]
-        )
-    );
-    assert!(rt; is_fault(&index_of(alloc, &matrix, &numbers, 1), Fault::Rank));
-    assert!(rt;
-        is_fault(
-            &index_of(alloc, &simple(alloc, &[5])?, &numbers, 1),
-            Fault::Rank
-        )
-    );
+    let function = Dyadic::IndexOf;
+    let [letters, wanted] = [Text("abc"), Text("cd")];
+    let numbers = Vector(&[7, 5, 7, 5]);
+    let matrix = Shaped(&[2, 2], &[5, 7, 6, 5]);
+    let rows = [
+        (letters, wanted, Ok(Vector(&[3, 4]))),
+        (numbers, matrix, Ok(Shaped(&[2, 2], &[2, 1, 5, 2]))),
+        (letters, matrix, Ok(Shaped(&[2, 2], &[4, 4, 4, 4]))),
+        (matrix, numbers, Err(Fault::Rank)),
+        (Scalar(5), numbers, Err(Fault::Rank)),
+    ];
+    for (a, b, want) in rows {
+        assert!(rt; holds_of_two(alloc, 1, function, a, b, want)?);
+    }
+    assert!(rt; holds_of_two(alloc, 0, function, numbers, wanted, Ok(Vector(&[4, 4])))?);
     Ok(())
 }
 
 #[test]
 fn members(rt: HostRuntime) -> Result<(), Fail> {
-    let alloc = rt.alloc();
-    let two = simple(alloc, &[2])?;
-    assert!(rt; is_array(&member(alloc, &two, &simple(alloc, &[1, 2])?), &[], &[1]));
-    let matrix = array(alloc, &[2, 2], &[5, 7, 6, 5])?;
-    assert!(rt;
-        is_array(
-            &member(alloc, &matrix, &simple(alloc, &[6, 5])?),
-            &[2, 2],
-            &[1, 0, 1, 1]
-        )
-    );
-    let letters = text(alloc, &[Ch::ascii(b'a'), Ch::ascii(b'b')])?;
-    let more = text(alloc, &[Ch::ascii(b'c'), Ch::ascii(b'b'), Ch::ascii(b'b')])?;
-    assert!(rt; is_array(&member(alloc, &letters, &more), &[2], &[0, 1]));
-    assert!(rt; is_array(&member(alloc, &letters, &matrix), &[2], &[0, 0]));
-    assert!(rt; is_array(&member(alloc, &matrix, &letters), &[2, 2], &[0, 0, 0, 0]));
+    let matrix = Shaped(&[2, 2], &[5, 7, 6, 5]);
+    let letters = Text("ab");
+    let rows = [
+        (Scalar(2), Vector(&[1, 2]), Ok(Scalar(1))),
+        (matrix, Vector(&[6, 5]), Ok(Shaped(&[2, 2], &[1, 0, 1, 1]))),
+        (letters, Text("cbb"), Ok(Vector(&[0, 1]))),
+        (letters, matrix, Ok(Vector(&[0, 0]))),
+        (matrix, letters, Ok(Shaped(&[2, 2], &[0, 0, 0, 0]))),
+    ];
+    for (a, b, want) in rows {
+        assert!(rt; holds_of_two(rt.alloc(), 1, Dyadic::Member, a, b, want)?);
+    }
     Ok(())
 }
 
 #[test]
 fn values_of_digits(rt: HostRuntime) -> Result<(), Fail> {
-    let alloc = rt.alloc();
-    let ten = simple(alloc, &[10])?;
-    let digits = simple(alloc, &[1, 2, 3])?;
-    assert!(rt; is_array(&decode(alloc, &ten, &digits), &[], &[123]));
-    let hours = simple(alloc, &[24, 60, 60])?;
-    assert!(rt;
-        is_array(
-            &decode(alloc, &hours, &simple(alloc, &[1, 1, 1])?),
-            &[],
-            &[3661]
-        )
-    );
-    let bits = decode(
-        alloc,
-        &simple(alloc, &[2, 2, 2])?,
-        &simple(alloc, &[1, 0, 1])?,
-    );
-    assert!(rt; is_array(&bits, &[], &[5]));
-    let columns = array(alloc, &[2, 3], &[1, 2, 3, 4, 5, 6])?;
-    assert!(rt; is_array(&decode(alloc, &ten, &columns), &[3], &[14, 25, 36]));
-    assert!(rt; is_fault(&decode(alloc, &columns, &digits), Fault::Rank));
-    assert!(rt;
-        is_fault(
-            &decode(alloc, &simple(alloc, &[1, 2])?, &digits),
-            Fault::Length
-        )
-    );
-    let letter = Array::scalar(alloc, Cell::Char(Ch::ascii(b'A')))?;
-    assert!(rt; is_fault(&decode(alloc, &letter, &simple(alloc, &[])?), Fault::Domain));
-    let large = decode(
-        alloc,
-        &simple(alloc, &[i64::MAX])?,
-        &simple(alloc, &[2, 1])?,
-    );
-    assert!(rt; is_fault(&large, Fault::Limit));
-    // The product need not fit where the value does.
-    let least = decode(
-        alloc,
-        &simple(alloc, &[2])?,
-        &simple(alloc, &[4_611_686_018_427_387_904, -1])?,
-    );
-    assert!(rt; is_array(&least, &[], &[i64::MAX]));
+    let ten = Scalar(10);
+    let digits = Vector(&[1, 2, 3]);
+    let columns = Shaped(&[2, 3], &[1, 2, 3, 4, 5, 6]);
+    let rows = [
+        (ten, digits, Ok(Scalar(123))),
+        (Vector(&[24, 60, 60]), Vector(&[1, 1, 1]), Ok(Scalar(3661))),
+        (Vector(&[2, 2, 2]), Vector(&[1, 0, 1]), Ok(Scalar(5))),
+        (ten, columns, Ok(Vector(&[14, 25, 36]))),
+        (columns, digits, Err(Fault::Rank)),
+        (Vector(&[1, 2]), digits, Err(Fault::Length)),
+        (Text("A"), Vector(&[]), Err(Fault::Domain)),
+        (Scalar(i64::MAX), Vector(&[2, 1]), Err(Fault::Limit)),
+        // The product need not fit where the value does.
+        (
+            Scalar(2),
+            Vector(&[4_611_686_018_427_387_904, -1]),
+            Ok(Scalar(i64::MAX)),
+        ),
+    ];
+    for (a, b, want) in rows {
+        assert!(rt; holds_of_two(rt.alloc(), 1, Dyadic::Decode, a, b, want)?);
+    }
     Ok(())
 }
 
 #[test]
 fn digits_of_one_number(rt: HostRuntime) -> Result<(), Fail> {
-    let alloc = rt.alloc();
-    let hours = simple(alloc, &[24, 60, 60])?;
-    let seconds = encode(alloc, &hours, &simple(alloc, &[3661])?);
-    assert!(rt; is_array(&seconds, &[3], &[1, 1, 1]));
-    let more = encode(alloc, &hours, &simple(alloc, &[3725])?);
-    assert!(rt; is_array(&more, &[3], &[1, 2, 5]));
-    let ten = simple(alloc, &[10])?;
-    let scalar = encode(alloc, &ten, &simple(alloc, &[5])?);
-    assert!(rt; is_array(&scalar, &[], &[5]));
-    let negative = simple(alloc, &[-3])?;
-    assert!(rt; is_array(&encode(alloc, &ten, &negative), &[], &[7]));
-    let rest = simple(alloc, &[0, 10])?;
-    assert!(rt; is_array(&encode(alloc, &rest, &negative), &[2], &[-1, 7]));
-    let downward = encode(alloc, &simple(alloc, &[0, -5])?, &simple(alloc, &[3])?);
-    assert!(rt; is_array(&downward, &[2], &[-1, -2]));
+    let hours = Vector(&[24, 60, 60]);
+    let ten = Scalar(10);
+    let rows = [
+        (hours, 3661, Ok(Vector(&[1, 1, 1]))),
+        (hours, 3725, Ok(Vector(&[1, 2, 5]))),
+        (ten, 5, Ok(Scalar(5))),
+        (ten, -3, Ok(Scalar(7))),
+        (Vector(&[0, 10]), -3, Ok(Vector(&[-1, 7]))),
+        (Vector(&[0, -5]), 3, Ok(Vector(&[-1, -2]))),
+    ];
+    for (a, number, want) in rows {
+        assert!(rt; holds_of_two(rt.alloc(), 1, Dyadic::Encode, a, Scalar(number), want)?);
+    }
     Ok(())
 }
 
 #[test]
 fn digits_of_arrays(rt: HostRuntime) -> Result<(), Fail> {
-    let alloc = rt.alloc();
-    let tens = simple(alloc, &[10, 10])?;
-    let matrix = array(alloc, &[2, 2], &[12, 34, 56, 78])?;
-    let digits = encode(alloc, &tens, &matrix);
-    assert!(rt; is_array(&digits, &[2, 2, 2], &[1, 3, 5, 7, 2, 4, 6, 8]));
-    let none = simple(alloc, &[])?;
-    assert!(rt; is_array(&encode(alloc, &none, &tens), &[0, 2], &[]));
-    assert!(rt; is_fault(&encode(alloc, &matrix, &tens), Fault::Rank));
-    let letter = Array::scalar(alloc, Cell::Char(Ch::ascii(b'A')))?;
-    assert!(rt; is_fault(&encode(alloc, &letter, &tens), Fault::Domain));
-    assert!(rt; is_fault(&encode(alloc, &tens, &letter), Fault::Domain));
+    let tens = Vector(&[10, 10]);
+    let matrix = Shaped(&[2, 2], &[12, 34, 56, 78]);
+    let letter = Text("A");
+    let rows = [
+        (
+            tens,
+            matrix,
+            Ok(Shaped(&[2, 2, 2], &[1, 3, 5, 7, 2, 4, 6, 8])),
+        ),
+        (Vector(&[]), tens, Ok(Shaped(&[0, 2], &[]))),
+        (matrix, tens, Err(Fault::Rank)),
+        (letter, tens, Err(Fault::Domain)),
+        (tens, letter, Err(Fault::Domain)),
+    ];
+    for (a, b, want) in rows {
+        assert!(rt; holds_of_two(rt.alloc(), 1, Dyadic::Encode, a, b, want)?);
+    }
     Ok(())
 }
 
 #[test]
 fn digits_over_the_limits(rt: HostRuntime) -> Result<(), Fail> {
-    let alloc = rt.alloc();
-    let bases = iota(alloc, &simple(alloc, &[1001])?, 1)?;
-    let numbers = iota(alloc, &simple(alloc, &[1000])?, 1)?;
-    assert!(rt; is_fault(&encode(alloc, &bases, &numbers), Fault::Limit));
-    // The rest of the least number leaves 64 bits, and may come back.
-    let least = simple(alloc, &[i64::MIN])?;
-    let rest = simple(alloc, &[0, -1])?;
-    assert!(rt; is_fault(&encode(alloc, &rest, &least), Fault::Limit));
-    let twice = simple(alloc, &[0, -1, -1])?;
-    assert!(rt; is_array(&encode(alloc, &twice, &least), &[3], &[i64::MIN, 0, 0]));
-    let digit = simple(alloc, &[5, -1])?;
-    assert!(rt; is_array(&encode(alloc, &digit, &least), &[2], &[3, 0]));
+    let least = Scalar(i64::MIN);
+    let rows = [
+        (Counted(1001), Counted(1000), Err(Fault::Limit)),
+        // The rest of the least number leaves 64 bits, and may come back.
+        (Vector(&[0, -1]), least, Err(Fault::Limit)),
+        (Vector(&[0, -1, -1]), least, Ok(Vector(&[i64::MIN, 0, 0]))),
+        (Vector(&[5, -1]), least, Ok(Vector(&[3, 0]))),
+    ];
+    for (a, b, want) in rows {
+        assert!(rt; holds_of_two(rt.alloc(), 1, Dyadic::Encode, a, b, want)?);
+    }
     Ok(())
 }

@@ -1,261 +1,321 @@
 // Values from outside: worked rows of compression, expansion, indexing and indexed assignment.
-ghost use Rattle.std.specs.Prelude.{◌≡◌, ◌≤◌, length};
-ghost use Rattle.apl_arrays.specs.Index.{size_of};
-
 use super::*;
-use apl_arrays::{Along, Array, MAX_ELEMENTS, Ravel, Stop};
-use apl_charset::Ch;
+use Plain::{Ones, Scalar, Shaped, Text, Vector};
+use apl_arrays::{Along, Array, Ravel, Stop, is_in_bounds, size};
+use apl_charset::{Ch, decode_line};
 use apl_faults::Fault;
 use std::alloc::Global;
 use std::test::Fail;
 
-/// Whether these are the numbers of an array of this shape.
-fn is_array(outcome: &Result<Array, Stop>, shape: &[usize], numbers: &[i64]) -> bool {
-    match outcome {
-        Ok(array) => match array.ravel() {
-            Ravel::Nums(found) => array.shape() == shape && found.as_slice() == numbers,
-            Ravel::Chars(_) => false,
-        },
-        Err(_) => false,
-    }
+/// An array as a row writes it.
+#[derive(Clone, Copy)]
+enum Plain<'a> {
+    Scalar(i64),
+    Vector(&'a [i64]),
+    /// The numbers of an array of this shape.
+    Shaped(&'a [usize], &'a [i64]),
+    /// A vector of so many ones.
+    Ones(usize),
+    /// The characters of an array of this shape.
+    Text(&'a [usize], &'a str),
 }
 
-/// Whether these are the characters of an array of this shape.
-fn is_text(outcome: &Result<Array, Stop>, shape: &[usize], text: &[Ch]) -> bool {
-    match outcome {
-        Ok(array) => match array.ravel() {
-            Ravel::Chars(found) => array.shape() == shape && found.as_slice() == text,
-            Ravel::Nums(_) => false,
-        },
-        Err(_) => false,
-    }
-}
+/// The array or the fault that comes out.
+type Want<'a> = Result<Plain<'a>, Fault>;
 
-fn is_fault(outcome: &Result<Array, Stop>, fault: Fault) -> bool {
-    match outcome {
-        Err(Stop::Fault(found)) => *found == fault,
-        _ => false,
-    }
-}
+/// The index slots of a row, some of which are empty.
+type Slots<'a> = &'a [Option<Plain<'a>>];
 
-fn array(alloc: Global, shape: &[usize], numbers: &[i64]) -> Result<Array, Stop>
-    requires { length numbers.now ≡ size_of shape.now }
-{
+/// The rows 1 2 3 and 4 5 6.
+const MATRIX: Plain<'static> = Shaped(&[2, 3], &[1, 2, 3, 4, 5, 6]);
+
+fn shaped(alloc: Global, shape: &[usize], numbers: &[i64]) -> Result<Array, Fail> {
+    if !is_in_bounds(shape) || size(shape) != numbers.len() {
+        return Err(Fail::new("a row with another shape"));
+    }
     Ok(Array::from_shape(shape, Ravel::Nums(Vec::from_slice(alloc, numbers)?))?)
 }
 
-/// The rows 1 2 3 and 4 5 6.
-fn matrix(alloc: Global) -> Result<Array, Stop> {
-    array(alloc, &[2, 3], &[1, 2, 3, 4, 5, 6])
+fn ones(alloc: Global, count: usize) -> Result<Array, Fail> {
+    Ok(Array::from_shape(&[count], Ravel::Nums(vec![in alloc; 1; count]?))?)
 }
 
-/// One character is a scalar.
-fn text(alloc: Global, characters: &[Ch]) -> Result<Array, Stop>
-    requires { length characters.now ≤ 5 }
-{
-    Ok(Array::from_chars(Vec::from_slice(alloc, characters)?))
+fn text(alloc: Global, shape: &[usize], line: &str) -> Result<Array, Fail> {
+    let characters = decode_line(alloc, line.as_bytes())?;
+    if !is_in_bounds(shape) || size(shape) != characters.len() {
+        return Err(Fail::new("a row with another shape"));
+    }
+    Ok(Array::from_shape(shape, Ravel::Chars(characters))?)
+}
+
+fn array(alloc: Global, plain: Plain<'_>) -> Result<Array, Fail> {
+    match plain {
+        Scalar(number) => shaped(alloc, &[], &[number]),
+        Vector(numbers) => shaped(alloc, &[numbers.len()], numbers),
+        Shaped(shape, numbers) => shaped(alloc, shape, numbers),
+        Ones(count) => ones(alloc, count),
+        Text(shape, line) => text(alloc, shape, line),
+    }
+}
+
+fn slot(alloc: Global, slot: Option<Plain<'_>>) -> Result<Option<Array>, Fail> {
+    match slot {
+        Some(plain) => Ok(Some(array(alloc, plain)?)),
+        None => Ok(None),
+    }
+}
+
+fn index_slots(alloc: Global, slots: Slots<'_>) -> Result<Vec<Option<Array>>, Fail> {
+    let mut arrays = Vec::new(alloc);
+    for plain in slots {
+        arrays.push(slot(alloc, *plain)?)?;
+    }
+    Ok(arrays)
+}
+
+/// Whether these are the numbers of an array of this shape.
+fn shows(array: &Array, shape: &[usize], numbers: &[i64]) -> bool {
+    match array.ravel() {
+        Ravel::Nums(found) => array.shape() == shape && found.as_slice() == numbers,
+        Ravel::Chars(_) => false,
+    }
+}
+
+/// Whether characters are those of this text.
+fn are(found: &[Ch], text: &[u8]) -> bool {
+    for (character, byte) in found.iter().zip(text) {
+        if character.code() != char::from(*byte) {
+            return false;
+        }
+    }
+    found.len() == text.len()
+}
+
+/// Whether these are the characters of an array of this shape.
+fn spells(array: &Array, shape: &[usize], line: &str) -> bool {
+    match array.ravel() {
+        Ravel::Chars(found) => array.shape() == shape && are(found.as_slice(), line.as_bytes()),
+        Ravel::Nums(_) => false,
+    }
+}
+
+/// Whether an array is the one that a row writes.
+fn is_array(array: &Array, plain: Plain<'_>) -> bool {
+    match plain {
+        Scalar(number) => shows(array, &[], &[number]),
+        Vector(numbers) => shows(array, &[numbers.len()], numbers),
+        Shaped(shape, numbers) => shows(array, shape, numbers),
+        Ones(_) => false,
+        Text(shape, line) => spells(array, shape, line),
+    }
+}
+
+/// Whether what comes out is what is wanted.
+fn is_so(outcome: &Result<Array, Stop>, want: Want<'_>) -> bool {
+    match outcome {
+        Ok(array) => match want {
+            Ok(plain) => is_array(array, plain),
+            Err(_) => false,
+        },
+        Err(Stop::Fault(fault)) => match want {
+            Ok(_) => false,
+            Err(wanted) => *fault == wanted,
+        },
+        Err(Stop::Memory) => false,
+    }
+}
+
+/// A function that goes along an axis.
+#[derive(Clone, Copy)]
+enum Function {
+    Compress,
+    Expand,
+}
+
+fn done_along(
+    alloc: Global,
+    function: Function,
+    along: Along<'_>,
+    a: &Array,
+    b: &Array,
+) -> Result<Array, Stop> {
+    match function {
+        Function::Compress => compress(alloc, along, a, b, 1),
+        Function::Expand => expand(alloc, along, a, b, 1),
+    }
+}
+
+/// Whether a row of a function along an axis holds.
+fn holds_along(
+    alloc: Global,
+    function: Function,
+    along: Along<'_>,
+    a: Plain<'_>,
+    b: Plain<'_>,
+    want: Want<'_>,
+) -> Result<bool, Fail> {
+    let a = array(alloc, a)?;
+    let b = array(alloc, b)?;
+    Ok(is_so(&done_along(alloc, function, along, &a, &b), want))
+}
+
+/// Whether the elements in these slots are what is wanted.
+fn has_in_slots(alloc: Global, b: &Array, slots: &[Option<Array>], want: Want<'_>) -> bool {
+    is_so(&index(alloc, b, slots, 1), want)
+}
+
+/// Whether a row of indexing holds.
+fn holds_in_slots(
+    alloc: Global,
+    b: Plain<'_>,
+    slots: Slots<'_>,
+    want: Want<'_>,
+) -> Result<bool, Fail> {
+    let b = array(alloc, b)?;
+    let slots = index_slots(alloc, slots)?;
+    Ok(has_in_slots(alloc, &b, slots.as_slice(), want))
+}
+
+/// Whether a value with others in these slots, by an index origin, is what is wanted.
+fn has_with(
+    alloc: Global,
+    io: usize,
+    v: &Array,
+    slots: Slots<'_>,
+    b: &Array,
+    want: Want<'_>,
+) -> Result<bool, Fail> {
+    let slots = index_slots(alloc, slots)?;
+    Ok(is_so(&index_assign(alloc, v, slots.as_slice(), b, io), want))
+}
+
+/// Whether a row of indexed assignment, by an index origin, holds.
+fn holds_with(
+    alloc: Global,
+    io: usize,
+    v: Plain<'_>,
+    slots: Slots<'_>,
+    b: Plain<'_>,
+    want: Want<'_>,
+) -> Result<bool, Fail> {
+    let v = array(alloc, v)?;
+    let b = array(alloc, b)?;
+    has_with(alloc, io, &v, slots, &b, want)
 }
 
 #[test]
 fn compressions(rt: HostRuntime) -> Result<(), Fail> {
-    let alloc = rt.alloc();
-    let mask = array(alloc, &[3], &[1, 0, 1])?;
-    let few = array(alloc, &[3], &[1, 2, 3])?;
-    let rows = matrix(alloc)?;
-    assert!(rt; is_array(&compress(alloc, Along::Last, &mask, &few, 1), &[2], &[1, 3]));
-    assert!(rt;
-        is_array(
-            &compress(alloc, Along::Last, &mask, &rows, 1),
-            &[2, 2],
-            &[1, 3, 4, 6]
-        )
-    );
-    let first = array(alloc, &[2], &[1, 0])?;
-    assert!(rt;
-        is_array(
-            &compress(alloc, Along::First, &first, &rows, 1),
-            &[1, 3],
-            &[1, 2, 3]
-        )
-    );
-    let one = array(alloc, &[], &[1])?;
-    let two = array(alloc, &[], &[2])?;
-    let five = array(alloc, &[], &[5])?;
-    assert!(rt; is_array(&compress(alloc, Along::Last, &one, &five, 1), &[1], &[5]));
-    assert!(rt; is_fault(&compress(alloc, Along::Last, &two, &five, 1), Fault::Domain));
-    assert!(rt;
-        is_fault(
-            &compress(alloc, Along::Last, &first, &few, 1),
-            Fault::Length
-        )
-    );
-    assert!(rt; is_fault(&compress(alloc, Along::Last, &rows, &few, 1), Fault::Rank));
+    let [first, last] = [Along::First, Along::Last];
+    let [mask, few] = [Vector(&[1, 0, 1]), Vector(&[1, 2, 3])];
+    let rows = [
+        (last, mask, few, Ok(Vector(&[1, 3]))),
+        (last, mask, MATRIX, Ok(Shaped(&[2, 2], &[1, 3, 4, 6]))),
+        (
+            first,
+            Vector(&[1, 0]),
+            MATRIX,
+            Ok(Shaped(&[1, 3], &[1, 2, 3])),
+        ),
+        (last, Scalar(1), Scalar(5), Ok(Vector(&[5]))),
+        (last, Scalar(2), Scalar(5), Err(Fault::Domain)),
+        (last, Vector(&[1, 0]), few, Err(Fault::Length)),
+        (last, MATRIX, few, Err(Fault::Rank)),
+    ];
+    for (along, a, b, want) in rows {
+        assert!(rt; holds_along(rt.alloc(), Function::Compress, along, a, b, want)?);
+    }
     Ok(())
 }
 
 #[test]
 fn expansions(rt: HostRuntime) -> Result<(), Fail> {
-    let alloc = rt.alloc();
-    let mask = array(alloc, &[3], &[1, 0, 1])?;
-    let few = array(alloc, &[2], &[1, 2])?;
-    assert!(rt;
-        is_array(
-            &expand(alloc, Along::Last, &mask, &few, 1),
-            &[3],
-            &[1, 0, 2]
-        )
-    );
-    let letters = text(alloc, &[Ch::ascii(b'A'), Ch::ascii(b'B')])?;
-    let apart = [Ch::ascii(b'A'), Ch::ascii(b' '), Ch::ascii(b'B')];
-    assert!(rt;
-        is_text(
-            &expand(alloc, Along::First, &mask, &letters, 1),
-            &[3],
-            &apart
-        )
-    );
-    let all = array(alloc, &[3], &[1, 1, 1])?;
-    assert!(rt; is_fault(&expand(alloc, Along::Last, &all, &few, 1), Fault::Length));
-    let two = array(alloc, &[], &[2])?;
-    let five = array(alloc, &[], &[5])?;
-    assert!(rt; is_fault(&expand(alloc, Along::Last, &two, &five, 1), Fault::Domain));
+    let [first, last] = [Along::First, Along::Last];
+    let [mask, few] = [Vector(&[1, 0, 1]), Vector(&[1, 2])];
+    let rows = [
+        (last, mask, few, Ok(Vector(&[1, 0, 2]))),
+        (first, mask, Text(&[2], "AB"), Ok(Text(&[3], "A B"))),
+        (last, Vector(&[1, 1, 1]), few, Err(Fault::Length)),
+        (last, Scalar(2), Scalar(5), Err(Fault::Domain)),
+    ];
+    for (along, a, b, want) in rows {
+        assert!(rt; holds_along(rt.alloc(), Function::Expand, along, a, b, want)?);
+    }
     Ok(())
 }
 
 #[test]
 fn elements_by_slots(rt: HostRuntime) -> Result<(), Fail> {
-    let alloc = rt.alloc();
-    let rows = matrix(alloc)?;
-    let first = [Some(array(alloc, &[], &[1])?), None];
-    assert!(rt; is_array(&index(alloc, &rows, &first, 1), &[3], &[1, 2, 3]));
-    let second = [None, Some(array(alloc, &[], &[2])?)];
-    assert!(rt; is_array(&index(alloc, &rows, &second, 1), &[2], &[2, 5]));
-    let letters = text(alloc, &[Ch::ascii(b'a'), Ch::ascii(b'b'), Ch::ascii(b'c')])?;
-    let square = [Some(array(alloc, &[2, 2], &[1, 2, 3, 1])?)];
-    let chosen = [
-        Ch::ascii(b'a'),
-        Ch::ascii(b'b'),
-        Ch::ascii(b'c'),
-        Ch::ascii(b'a'),
+    let few = Vector(&[1, 2, 3]);
+    let square: Slots = &[Some(Shaped(&[2, 2], &[1, 2, 3, 1]))];
+    let rows: [(Plain, Slots, Want); 6] = [
+        (MATRIX, &[Some(Scalar(1)), None], Ok(Vector(&[1, 2, 3]))),
+        (MATRIX, &[None, Some(Scalar(2))], Ok(Vector(&[2, 5]))),
+        (Text(&[3], "abc"), square, Ok(Text(&[2, 2], "abca"))),
+        (Scalar(5), square, Err(Fault::Rank)),
+        (few, &[Some(Scalar(4))], Err(Fault::Index)),
+        (few, &[Some(Text(&[], "a"))], Err(Fault::Domain)),
     ];
-    assert!(rt; is_text(&index(alloc, &letters, &square, 1), &[2, 2], &chosen));
-    let five = array(alloc, &[], &[5])?;
-    assert!(rt; is_fault(&index(alloc, &five, &square, 1), Fault::Rank));
-    let few = array(alloc, &[3], &[1, 2, 3])?;
-    let beyond = [Some(array(alloc, &[], &[4])?)];
-    assert!(rt; is_fault(&index(alloc, &few, &beyond, 1), Fault::Index));
-    let letter = [Some(text(alloc, &[Ch::ascii(b'a')])?)];
-    assert!(rt; is_fault(&index(alloc, &few, &letter, 1), Fault::Domain));
+    for (b, slots, want) in rows {
+        assert!(rt; holds_in_slots(rt.alloc(), b, slots, want)?);
+    }
     Ok(())
-}
-
-/// A vector of so many ones.
-fn ones(alloc: Global, count: usize) -> Result<Array, Stop>
-    requires { count ≤ MAX_ELEMENTS }
-{
-    Ok(Array::from_nums(vec![in alloc; 1i64; count]?))
 }
 
 #[test]
 fn assignments_by_slots(rt: HostRuntime) -> Result<(), Fail> {
-    let alloc = rt.alloc();
-    let few = array(alloc, &[3], &[1, 2, 3])?;
-    let twice = [Some(array(alloc, &[2], &[1, 1])?)];
-    let pair = array(alloc, &[2], &[5, 6])?;
-    assert!(rt;
-        is_array(
-            &index_assign(alloc, &few, &twice, &pair, 1),
-            &[3],
-            &[6, 2, 3]
-        )
-    );
-    let both = [Some(array(alloc, &[2], &[3, 1])?)];
-    let nine = array(alloc, &[], &[9])?;
-    assert!(rt;
-        is_array(
-            &index_assign(alloc, &few, &both, &pair, 1),
-            &[3],
-            &[6, 2, 5]
-        )
-    );
-    assert!(rt;
-        is_array(
-            &index_assign(alloc, &few, &both, &nine, 1),
-            &[3],
-            &[9, 2, 9]
-        )
-    );
+    let few = Vector(&[1, 2, 3]);
+    let pair = Vector(&[5, 6]);
+    let rows = [
+        (Vector(&[1, 1]), pair, [6, 2, 3]),
+        (Vector(&[3, 1]), pair, [6, 2, 5]),
+        (Vector(&[3, 1]), Scalar(9), [9, 2, 9]),
+    ];
+    for (slot, b, want) in rows {
+        assert!(rt; holds_with(rt.alloc(), 1, few, &[Some(slot)], b, Ok(Vector(&want)))?);
+    }
     Ok(())
 }
 
 #[test]
 fn assignments_by_slots_of_all_and_of_characters(rt: HostRuntime) -> Result<(), Fail> {
     let alloc = rt.alloc();
-    let rows = matrix(alloc)?;
-    let first = [Some(array(alloc, &[], &[0])?), None];
-    let row = array(alloc, &[1, 3], &[7, 8, 9])?;
-    assert!(rt;
-        is_array(
-            &index_assign(alloc, &rows, &first, &row, 0),
-            &[2, 3],
-            &[7, 8, 9, 4, 5, 6]
-        )
-    );
-    let letters = text(alloc, &[Ch::ascii(b'a'), Ch::ascii(b'b')])?;
-    let second = [Some(array(alloc, &[], &[2])?)];
-    let star = text(alloc, &[Ch::ascii(b'*')])?;
-    let starred = [Ch::ascii(b'a'), Ch::ascii(b'*')];
-    assert!(rt;
-        is_text(
-            &index_assign(alloc, &letters, &second, &star, 1),
-            &[2],
-            &starred
-        )
-    );
+    let first = [Some(Scalar(0)), None];
+    let row = Shaped(&[1, 3], &[7, 8, 9]);
+    let rows = Ok(Shaped(&[2, 3], &[7, 8, 9, 4, 5, 6]));
+    assert!(rt; holds_with(alloc, 0, MATRIX, &first, row, rows)?);
+    let second = [Some(Scalar(2))];
+    let [letters, starred] = [Text(&[2], "ab"), Text(&[2], "a*")];
+    assert!(rt; holds_with(alloc, 1, letters, &second, Text(&[], "*"), Ok(starred))?);
     Ok(())
 }
 
 #[test]
 fn assignments_at_fault(rt: HostRuntime) -> Result<(), Fail> {
-    let alloc = rt.alloc();
-    let few = array(alloc, &[3], &[1, 2, 3])?;
-    let nine = array(alloc, &[], &[9])?;
-    let pair = array(alloc, &[2], &[5, 6])?;
-    let star = text(alloc, &[Ch::ascii(b'*')])?;
-    let beyond = [Some(array(alloc, &[], &[4])?)];
-    assert!(rt; is_fault(&index_assign(alloc, &few, &beyond, &nine, 1), Fault::Index));
-    let two_axes = [None, None];
-    assert!(rt; is_fault(&index_assign(alloc, &few, &two_axes, &nine, 1), Fault::Rank));
-    let whole = [None];
-    let rows = matrix(alloc)?;
-    assert!(rt; is_fault(&index_assign(alloc, &few, &whole, &rows, 1), Fault::Rank));
-    assert!(rt; is_fault(&index_assign(alloc, &few, &whole, &pair, 1), Fault::Length));
-    assert!(rt; is_fault(&index_assign(alloc, &few, &whole, &star, 1), Fault::Domain));
-    let none = [Some(array(alloc, &[0], &[])?)];
-    assert!(rt;
-        is_array(
-            &index_assign(alloc, &few, &none, &star, 1),
-            &[3],
-            &[1, 2, 3]
-        )
-    );
+    let few = Vector(&[1, 2, 3]);
+    let star = Text(&[], "*");
+    let whole: Slots = &[None];
+    let rows: [(Slots, Plain, Want); 6] = [
+        (&[Some(Scalar(4))], Scalar(9), Err(Fault::Index)),
+        (&[None, None], Scalar(9), Err(Fault::Rank)),
+        (whole, MATRIX, Err(Fault::Rank)),
+        (whole, Vector(&[5, 6]), Err(Fault::Length)),
+        (whole, star, Err(Fault::Domain)),
+        (&[Some(Vector(&[]))], star, Ok(few)),
+    ];
+    for (slots, b, want) in rows {
+        assert!(rt; holds_with(rt.alloc(), 1, few, slots, b, want)?);
+    }
     Ok(())
 }
 
 #[test]
 fn assignments_within_limits(rt: HostRuntime) -> Result<(), Fail> {
     let alloc = rt.alloc();
-    let rows = matrix(alloc)?;
-    let zero = array(alloc, &[], &[0])?;
-    let many = [Some(ones(alloc, 1001)?), Some(ones(alloc, 1000)?)];
-    assert!(rt; is_fault(&index_assign(alloc, &rows, &many, &zero, 1), Fault::Limit));
-    let most = [Some(ones(alloc, 1000)?), Some(ones(alloc, 1000)?)];
-    assert!(rt;
-        is_array(
-            &index_assign(alloc, &rows, &most, &zero, 1),
-            &[2, 3],
-            &[0, 2, 3, 4, 5, 6]
-        )
-    );
+    let zero = Scalar(0);
+    let many = [Some(Ones(1001)), Some(Ones(1000))];
+    assert!(rt; holds_with(alloc, 1, MATRIX, &many, zero, Err(Fault::Limit))?);
+    let most = [Some(Ones(1000)), Some(Ones(1000))];
+    let zeroed = Ok(Shaped(&[2, 3], &[0, 2, 3, 4, 5, 6]));
+    assert!(rt; holds_with(alloc, 1, MATRIX, &most, zero, zeroed)?);
     Ok(())
 }

@@ -1,10 +1,11 @@
 // Commands as they are typed.
 use crate::commands::{Command, command_of};
 use crate::session::Session;
-use crate::tests::{text_of, wrong_row};
+use crate::tests::{has_written, wrong_row};
 use crate::words::{names_in, next_word, split_blank};
-use apl_charset::decode_line;
+use apl_charset::{Ch, decode_line};
 use apl_machine::Machine;
+use std::alloc::Global;
 use std::test::Fail;
 
 #[test]
@@ -93,18 +94,32 @@ fn workspaces_cleared(rt: HostRuntime) -> Result<(), Fail> {
     Ok(())
 }
 
-#[test]
-fn output_stays(rt: HostRuntime) -> Result<(), Fail> {
-    let mut session = Session::new(rt.alloc(), Machine::new(rt.alloc()));
+/// Types an assignment and commands about its variable.
+fn type_commands(session: &mut Session) -> Result<(), Fail> {
     session.feed("V←5".as_bytes())?;
     session.advance(9)?;
     session.feed(b")NOPE")?;
     session.feed(b")VARS")?;
     session.feed(b")CLEAR")?;
     session.feed(b")VARS")?;
-    let lines = session.take_output();
-    let text = text_of(rt.alloc(), &lines)?;
-    assert_eq!(rt; text.as_slice(), b"INCORRECT COMMAND\nV\n".as_slice());
+    Ok(())
+}
+
+/// Whether a session has written this after them.
+fn commands_write(alloc: Global, session: &mut Session, output: &[u8]) -> Result<bool, Fail> {
+    type_commands(session)?;
+    Ok(has_written(alloc, session, output)?)
+}
+
+/// The same for a new session.
+fn new_commands_write(alloc: Global, output: &[u8]) -> Result<bool, Fail> {
+    let mut session = Session::new(alloc, Machine::new(alloc));
+    commands_write(alloc, &mut session, output)
+}
+
+#[test]
+fn output_stays(rt: HostRuntime) -> Result<(), Fail> {
+    assert!(rt; new_commands_write(rt.alloc(), b"INCORRECT COMMAND\nV\n")?);
     Ok(())
 }
 
@@ -138,6 +153,12 @@ fn commands_in_a_definition(rt: HostRuntime) -> Result<(), Fail> {
     Ok(())
 }
 
+/// The command that a word names.
+fn command_in(alloc: Global, word: &str) -> Result<Option<Command>, Fail> {
+    let text = decode_line(alloc, word.as_bytes())?;
+    Ok(command_of(&text))
+}
+
 #[test]
 fn command_words(rt: HostRuntime) -> Result<(), Fail> {
     let rows = [
@@ -151,24 +172,33 @@ fn command_words(rt: HostRuntime) -> Result<(), Fail> {
         ("∆I", None),
     ];
     for (word, command) in rows {
-        let text = decode_line(rt.alloc(), word.as_bytes())?;
-        assert_eq!(rt; command_of(&text), command, "{word}");
+        assert_eq!(rt; command_in(rt.alloc(), word)?, command, "{word}");
     }
     Ok(())
 }
 
+/// Whether a text is a character, two blanks, and a last word of two.
+fn is_two_words(text: &[Ch]) -> bool {
+    let (front, behind) = split_blank(text);
+    match next_word(behind) {
+        Some((word, rest)) => {
+            front.len() == 1 && behind.len() == 4 && word.len() == 2 && next_word(rest).is_none()
+        }
+        None => false,
+    }
+}
+
+/// How many names a text is, if each of its words is one.
+fn names_counted(alloc: Global, text: &[u8]) -> Result<Option<usize>, Fail> {
+    let text = decode_line(alloc, text)?;
+    Ok(names_in(alloc, &text)?.map(|names| names.len()))
+}
+
 #[test]
 fn words_of_a_text(rt: HostRuntime) -> Result<(), Fail> {
+    assert_eq!(rt; names_counted(rt.alloc(), b"A  BC")?, Some(2));
+    assert_eq!(rt; names_counted(rt.alloc(), b"A 1")?, None);
     let text = decode_line(rt.alloc(), b"A  BC")?;
-    let (word, rest) = split_blank(&text);
-    assert_eq!(rt; word.len(), 1);
-    assert_eq!(rt; rest.len(), 4);
-    let (word, rest) = next_word(rest).ok_or("no word")?;
-    assert_eq!(rt; word.len(), 2);
-    assert!(rt; next_word(rest).is_none());
-    let names = names_in(rt.alloc(), &text)?.ok_or("no names")?;
-    assert_eq!(rt; names.len(), 2);
-    let text = decode_line(rt.alloc(), b"A 1")?;
-    assert!(rt; names_in(rt.alloc(), &text)?.is_none());
+    assert!(rt; is_two_words(&text));
     Ok(())
 }

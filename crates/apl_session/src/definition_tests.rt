@@ -1,9 +1,9 @@
 // Definitions as they are typed, shown and refused.
 use crate::definition::OpenDefinition;
-use crate::runs::run;
-use crate::session::{Bytes, Event, Session};
+use crate::runs::RunError;
+use crate::session::{Event, Session};
 use crate::tape::Tape;
-use crate::tests::{text_of, wrong_row};
+use crate::tests::{has_written, line_event, measured, new_is_driven, type_lines, wrong_row};
 use apl_machine::Machine;
 use std::alloc::{AllocError, Global};
 use std::test::Fail;
@@ -98,41 +98,68 @@ fn long_definition(alloc: Global, count: usize) -> Result<Vec<u8>, AllocError> {
     Ok(input)
 }
 
+/// The error of a run over a definition of so many lines, if it ends with one, and how many bytes it writes.
+fn definition_run(alloc: Global, count: usize) -> Result<(Option<RunError>, usize), AllocError> {
+    let mut reader = Tape::new(long_definition(alloc, count)?);
+    Ok(measured(alloc, &mut reader, 0))
+}
+
 #[test]
 fn long_definitions(rt: HostRuntime) -> Result<(), Fail> {
-    let alloc = rt.alloc();
     for (count, written) in [(999, 7902), (1000, 22), (1001, 22)] {
-        let mut reader = Tape::new(long_definition(alloc, count)?);
-        let mut writer = Tape::new(Vec::new(alloc));
-        assert!(rt; run(alloc, Machine::new(alloc), &mut reader, &mut writer, 0).is_ok());
-        assert_eq!(rt; writer.bytes().len(), written, "{count}");
+        assert_eq!(rt;
+            definition_run(rt.alloc(), count)?,
+            (None, written),
+            "{count}"
+        );
     }
     Ok(())
+}
+
+/// Whether a new definition takes a thousand lines behind its header, and keeps no more.
+fn keeps_a_thousand(alloc: Global, definition: &mut OpenDefinition) -> Result<bool, AllocError> {
+    for count in 1..1002 {
+        if definition.as_slice().len() != count {
+            return Ok(false);
+        }
+        definition.add(alloc, &[])?;
+    }
+    definition.add(alloc, &[])?;
+    Ok(definition.as_slice().len() == 1001)
 }
 
 #[test]
 fn lines_kept(rt: HostRuntime) -> Result<(), Fail> {
     let mut definition = OpenDefinition::new(rt.alloc(), &[])?;
-    for count in 1..1002 {
-        assert_eq!(rt; definition.as_slice().len(), count);
-        definition.add(rt.alloc(), &[])?;
-    }
-    definition.add(rt.alloc(), &[])?;
-    assert_eq!(rt; definition.as_slice().len(), 1001);
+    assert!(rt; keeps_a_thousand(rt.alloc(), &mut definition)?);
     Ok(())
 }
 
-/// A session that was typed lines.
-fn typed(alloc: Global, lines: &[&[u8]]) -> Result<Session, Fail> {
-    let mut session = Session::new(alloc, Machine::new(alloc));
-    for line in lines {
-        session.feed(line)?;
-    }
-    Ok(session)
+/// Whether a session has written this after these lines.
+fn lines_write(
+    alloc: Global,
+    session: &mut Session,
+    lines: &[&[u8]],
+    output: &[u8],
+) -> Result<bool, Fail> {
+    type_lines(session, lines)?;
+    Ok(has_written(alloc, session, output)?)
+}
+
+/// The same for a new session with this machine.
+fn new_lines_write(
+    alloc: Global,
+    machine: Machine,
+    lines: &[&[u8]],
+    output: &[u8],
+) -> Result<bool, Fail> {
+    let mut session = Session::new(alloc, machine);
+    lines_write(alloc, &mut session, lines, output)
 }
 
 #[test]
 fn bad_bytes_inside(rt: HostRuntime) -> Result<(), Fail> {
+    let alloc = rt.alloc();
     let lines = [
         "∇F".as_bytes(),
         b"\xff".as_slice(),
@@ -141,42 +168,54 @@ fn bad_bytes_inside(rt: HostRuntime) -> Result<(), Fail> {
         "∇".as_bytes(),
         "∇F[⎕]∇".as_bytes(),
     ];
-    let mut session = typed(rt.alloc(), &lines)?;
-    let written = session.take_output();
-    let text = text_of(rt.alloc(), &written)?;
-    let want = "CHARACTER ERROR\nCHARACTER ERROR\n    ∇ F\n[1] 1\n    ∇\n";
-    assert_eq!(rt; text.as_slice(), want.as_bytes());
+    let output = "CHARACTER ERROR\nCHARACTER ERROR\n    ∇ F\n[1] 1\n    ∇\n";
+    assert!(rt; new_lines_write(alloc, Machine::new(alloc), &lines, output.as_bytes())?);
     Ok(())
+}
+
+/// Whether a session is idle inside a definition.
+fn is_open(session: &mut Session) -> bool {
+    let lines = ["∇F".as_bytes(), b"1".as_slice()];
+    type_lines(session, &lines).is_ok() && session.machine().is_idle()
+}
+
+/// The same for a new session, with its machine.
+fn left_open(alloc: Global) -> (bool, Machine) {
+    let mut session = Session::new(alloc, Machine::new(alloc));
+    let open = is_open(&mut session);
+    (open, session.into_machine())
+}
+
+/// Whether a new session with that machine has written this after these lines.
+fn left_out_writes(alloc: Global, lines: &[&[u8]], output: &[u8]) -> Result<bool, Fail> {
+    let (open, machine) = left_open(alloc);
+    let written = new_lines_write(alloc, machine, lines, output)?;
+    Ok(open && written)
 }
 
 #[test]
 fn an_open_definition_is_left_out(rt: HostRuntime) -> Result<(), Fail> {
-    let session = typed(rt.alloc(), &["∇F".as_bytes(), b"1".as_slice()])?;
-    assert!(rt; session.machine().is_idle());
-    let mut session = Session::new(rt.alloc(), session.into_machine());
-    session.feed(b")")?;
-    session.feed("∇F[⎕]∇".as_bytes())?;
-    let written = session.take_output();
-    let text = text_of(rt.alloc(), &written)?;
-    assert_eq!(rt;
-        text.as_slice(),
-        b"INCORRECT COMMAND\nDEFN ERROR\n".as_slice()
-    );
+    let lines = [b")".as_slice(), "∇F[⎕]∇".as_bytes()];
+    let output = b"INCORRECT COMMAND\nDEFN ERROR\n";
+    assert!(rt; left_out_writes(rt.alloc(), &lines, output)?);
     Ok(())
+}
+
+/// Events that type the lines, with steps and an interrupt behind each.
+fn line_events(alloc: Global, lines: &[&str]) -> Result<Vec<Event>, AllocError> {
+    let mut events = Vec::new(alloc);
+    for line in lines {
+        events.push(line_event(alloc, line.as_bytes())?)?;
+        events.push(Event::Steps(3))?;
+        events.push(Event::Interrupt)?;
+    }
+    Ok(events)
 }
 
 #[test]
 fn driven_definition(rt: HostRuntime) -> Result<(), Fail> {
-    let alloc = rt.alloc();
-    let mut events = Vec::new(alloc);
-    for line in ["∇F", "1", "∇", "∇F[⎕]∇"] {
-        let bytes = Bytes::new(Vec::from_slice(alloc, line.as_bytes())?);
-        events.push(Event::Line(bytes))?;
-        events.push(Event::Steps(3))?;
-        events.push(Event::Interrupt)?;
-    }
-    let mut session = Session::new(alloc, Machine::new(alloc));
-    session.drive(&events)?;
-    assert_eq!(rt; session.take_output().len(), 3);
+    let events = line_events(rt.alloc(), &["∇F", "1", "∇", "∇F[⎕]∇"])?;
+    let output = "    ∇ F\n[1] 1\n    ∇\n";
+    assert!(rt; new_is_driven(rt.alloc(), events, output.as_bytes())?);
     Ok(())
 }

@@ -9,16 +9,27 @@ use apl_machine::{Machine, OutLine, Progress};
 use std::alloc::{AllocError, Global};
 use std::test::Fail;
 
-/// The error of a run on a clear workspace, if it ended with one, and what it wrote.
-fn ran(
+/// The error of a run on a clear workspace, if it ended with one.
+fn end_of(alloc: Global, reader: &mut Tape, writer: &mut Tape, steps: u64) -> Option<RunError> {
+    run(alloc, Machine::new(alloc), reader, writer, steps).err()
+}
+
+/// Whether a run on a clear workspace, with nine steps a line, ends so and writes this.
+fn ends_with(
     alloc: Global,
     reader: &mut Tape,
     mut writer: Tape,
-    steps: u64,
-) -> Result<(Option<RunError>, Vec<u8>), AllocError> {
-    let error = run(alloc, Machine::new(alloc), reader, &mut writer, steps).err();
-    let written = Vec::from_slice(alloc, writer.bytes())?;
-    Ok((error, written))
+    end: Option<RunError>,
+    output: &[u8],
+) -> bool {
+    end_of(alloc, reader, &mut writer, 9) == end && writer.bytes() == output
+}
+
+/// The error of a run on a clear workspace, if it ended with one, and how many bytes it wrote.
+pub(crate) fn measured(alloc: Global, reader: &mut Tape, steps: u64) -> (Option<RunError>, usize) {
+    let mut writer = empty(alloc);
+    let end = end_of(alloc, reader, &mut writer, steps);
+    (end, writer.bytes().len())
 }
 
 /// A tape that holds a text.
@@ -30,15 +41,30 @@ fn empty(alloc: Global) -> Tape {
     Tape::new(Vec::new(alloc))
 }
 
+/// Whether a run over these bytes on a clear workspace, with so many steps a line, ends well and writes this.
+fn writes(alloc: Global, reader: &mut Tape, steps: u64, output: &[u8]) -> bool {
+    let mut writer = empty(alloc);
+    end_of(alloc, reader, &mut writer, steps).is_none() && writer.bytes() == output
+}
+
+/// The same for an input.
+fn input_writes(
+    alloc: Global,
+    input: &[u8],
+    steps: u64,
+    output: &[u8],
+) -> Result<bool, AllocError> {
+    let mut reader = tape(alloc, input)?;
+    Ok(writes(alloc, &mut reader, steps, output))
+}
+
 /// The first input whose run on a clear workspace, with so many steps a line, ends in an error or writes something else.
 pub(crate) fn wrong_row<'a>(
     alloc: Global,
     rows: &[(&'a str, u64, &str)],
 ) -> Result<Option<&'a str>, AllocError> {
     for (input, steps, output) in rows {
-        let mut reader = tape(alloc, input.as_bytes())?;
-        let (error, written) = ran(alloc, &mut reader, empty(alloc), *steps)?;
-        if error.is_some() || written.as_slice() != output.as_bytes() {
+        if !input_writes(alloc, input.as_bytes(), *steps, output.as_bytes())? {
             return Ok(Some(*input));
         }
     }
@@ -173,10 +199,8 @@ fn texts_and_comments(rt: HostRuntime) -> Result<(), Fail> {
 
 #[test]
 fn bad_bytes(rt: HostRuntime) -> Result<(), Fail> {
-    let mut reader = tape(rt.alloc(), b"\xff\n2\n")?;
-    let (error, written) = ran(rt.alloc(), &mut reader, empty(rt.alloc()), 9)?;
-    assert_eq!(rt; error, None);
-    assert_eq!(rt; written.as_slice(), b"CHARACTER ERROR\n2\n".as_slice());
+    let output = b"CHARACTER ERROR\n2\n";
+    assert!(rt; input_writes(rt.alloc(), b"\xff\n2\n", 9, output)?);
     Ok(())
 }
 
@@ -196,15 +220,38 @@ fn long(
     Ok(text)
 }
 
+/// The report of a number of 501 digits.
+fn digits_report(alloc: Global) -> Result<Vec<u8>, AllocError> {
+    let digits = long(alloc, b"LIMIT ERROR\n      ", b'1', 501, b"\n")?;
+    long(alloc, &digits, b' ', 506, b"^\n")
+}
+
+/// Whether a number of 501 digits is reported.
+fn reports_digits(alloc: Global) -> Result<bool, AllocError> {
+    let mut reader = Tape::new(long(alloc, b"", b'1', 501, b"\n")?);
+    let report = digits_report(alloc)?;
+    Ok(writes(alloc, &mut reader, 9, &report))
+}
+
+/// The error of a run over these bytes, how many it writes, and how many of nine are left.
+fn run_over(alloc: Global, input: Vec<u8>) -> (Option<RunError>, usize, Option<usize>) {
+    let mut reader = Tape::new(input);
+    let (end, written) = measured(alloc, &mut reader, 9);
+    (end, written, reader.read(&mut [0; 9]).ok())
+}
+
+/// The same for a two, and a command of so many blanks and the bytes behind them.
+fn after_blanks(
+    alloc: Global,
+    count: usize,
+    back: &[u8],
+) -> Result<(Option<RunError>, usize, Option<usize>), AllocError> {
+    Ok(run_over(alloc, long(alloc, b"2\n)", b' ', count, back)?))
+}
+
 #[test]
 fn long_lines(rt: HostRuntime) -> Result<(), Fail> {
-    let alloc = rt.alloc();
-    let digits = long(alloc, b"", b'1', 501, b"\n")?;
-    let report = long(alloc, b"LIMIT ERROR\n      ", b'1', 501, b"\n")?;
-    let report = long(alloc, &report, b' ', 506, b"^\n")?;
-    let (error, written) = ran(alloc, &mut Tape::new(digits), empty(alloc), 9)?;
-    assert_eq!(rt; error, None);
-    assert_eq!(rt; written.as_slice(), report.as_slice());
+    assert!(rt; reports_digits(rt.alloc())?);
     let rows = [
         (2000, b"\n3\n".as_slice(), None, b"2\n3\n".as_slice(), 0),
         (1999, b"\r\n3", None, b"2\n3\n", 0),
@@ -212,47 +259,71 @@ fn long_lines(rt: HostRuntime) -> Result<(), Fail> {
         (2001, b"\n3\n", Some(RunError::LineTooLong), b"2\n", 3),
     ];
     for (count, back, end, output, left) in rows {
-        let input = long(alloc, b"2\n)", b' ', count - 1, back)?;
-        let mut reader = Tape::new(input);
-        let (error, written) = ran(alloc, &mut reader, empty(alloc), 9)?;
-        assert_eq!(rt; error, end, "{count}");
+        let written = output.len() + if end.is_none() { 18 } else { 0 };
         assert_eq!(rt;
-            written.len(),
-            output.len() + if end.is_none() { 18 } else { 0 },
+            after_blanks(rt.alloc(), count - 1, back)?,
+            (end, written, Some(left)),
             "{count}"
         );
-        let mut rest = [0; 9];
-        assert_eq!(rt; reader.read(&mut rest), Ok(left), "{count}");
     }
     Ok(())
 }
 
-/// The error of a run over a million empty lines and the bytes behind them, and how many bytes are
-/// left.
-fn after_a_million(alloc: Global, back: &[u8]) -> Result<(Option<RunError>, usize), Fail> {
-    let mut reader = Tape::new(long(alloc, b"", b'\n', 1_000_000, back)?);
-    let (error, written) = ran(alloc, &mut reader, empty(alloc), 9)?;
-    let left = reader.read(&mut [0; 9]).unwrap_or(9);
-    Ok((error, written.len() + left))
+/// The same for a million empty lines and the bytes behind them.
+fn after_a_million(
+    alloc: Global,
+    back: &[u8],
+) -> Result<(Option<RunError>, usize, Option<usize>), AllocError> {
+    Ok(run_over(alloc, long(alloc, b"", b'\n', 1_000_000, back)?))
 }
 
 #[test]
 fn a_million_lines(rt: HostRuntime) -> Result<(), Fail> {
-    assert_eq!(rt; after_a_million(rt.alloc(), b"")?, (None, 0));
+    assert_eq!(rt; after_a_million(rt.alloc(), b"")?, (None, 0, Some(0)));
     Ok(())
 }
 
 #[test]
 fn a_line_too_many(rt: HostRuntime) -> Result<(), Fail> {
     let end = Some(RunError::TooManyLines);
-    assert_eq!(rt; after_a_million(rt.alloc(), b"\n6")?, (end, 1));
+    assert_eq!(rt; after_a_million(rt.alloc(), b"\n6")?, (end, 0, Some(1)));
     Ok(())
+}
+
+/// A tape that holds three lines.
+fn three_lines(alloc: Global) -> Result<Tape, AllocError> {
+    tape(alloc, b"2+3\n7+1\n9")
+}
+
+/// Whether a run, whose reader fails after so many calls, says so and writes this.
+fn fails_to_read(alloc: Global, calls: u64, output: &[u8]) -> Result<bool, AllocError> {
+    let mut reader = three_lines(alloc)?.failing_after(calls);
+    let end = Some(RunError::Read);
+    Ok(ends_with(alloc, &mut reader, empty(alloc), end, output))
+}
+
+/// Whether a run, whose writer takes single bytes and fails after so many calls, says so and writes this.
+fn fails_to_write(alloc: Global, calls: u64, output: &[u8]) -> Result<bool, AllocError> {
+    let mut reader = three_lines(alloc)?;
+    let writer = empty(alloc).moving_at_most(1).failing_after(calls);
+    let end = Some(RunError::Write);
+    Ok(ends_with(alloc, &mut reader, writer, end, output))
+}
+
+/// Whether a run, whose reader gives single bytes and whose writer takes at most so many, ends so and writes this.
+fn moves_at_most(
+    alloc: Global,
+    most: usize,
+    end: Option<RunError>,
+    output: &[u8],
+) -> Result<bool, AllocError> {
+    let mut reader = three_lines(alloc)?.moving_at_most(0);
+    let writer = empty(alloc).moving_at_most(most);
+    Ok(ends_with(alloc, &mut reader, writer, end, output))
 }
 
 #[test]
 fn failing_devices(rt: HostRuntime) -> Result<(), Fail> {
-    let alloc = rt.alloc();
-    let input = b"2+3\n7+1\n9".as_slice();
     for (calls, output) in [
         (0, b"".as_slice()),
         (3, b""),
@@ -260,33 +331,18 @@ fn failing_devices(rt: HostRuntime) -> Result<(), Fail> {
         (7, b"5\n"),
         (9, b"5\n8\n"),
     ] {
-        let mut reader = tape(alloc, input)?.failing_after(calls);
-        let (error, written) = ran(alloc, &mut reader, empty(alloc), 9)?;
-        assert_eq!(rt; error, Some(RunError::Read), "{calls}");
-        assert_eq!(rt; written.as_slice(), output, "{calls}");
+        assert!(rt; fails_to_read(rt.alloc(), calls, output)?, "{calls}");
     }
     for (calls, output) in [(0, b"".as_slice()), (1, b"5"), (2, b"5\n"), (4, b"5\n8\n")] {
-        let writer = empty(alloc).moving_at_most(1).failing_after(calls);
-        let mut reader = tape(alloc, input)?;
-        let (error, written) = ran(alloc, &mut reader, writer, 9)?;
-        assert_eq!(rt; error, Some(RunError::Write), "{calls}");
-        assert_eq!(rt; written.as_slice(), output, "{calls}");
+        assert!(rt; fails_to_write(rt.alloc(), calls, output)?, "{calls}");
     }
-    for (most, error, output) in [
-        (0, Some(RunError::Write), b"".as_slice()),
-        (1, None, b"5\n8\n9\n"),
-    ] {
-        let writer = empty(alloc).moving_at_most(most);
-        let mut reader = tape(alloc, input)?.moving_at_most(0);
-        let answer = ran(alloc, &mut reader, writer, 9)?;
-        assert_eq!(rt; answer.0, error);
-        assert_eq!(rt; answer.1.as_slice(), output);
-    }
+    assert!(rt; moves_at_most(rt.alloc(), 0, Some(RunError::Write), b"")?);
+    assert!(rt; moves_at_most(rt.alloc(), 1, None, b"5\n8\n9\n")?);
     Ok(())
 }
 
 /// What was written, each line with a line feed.
-pub(crate) fn text_of(alloc: Global, lines: &[OutLine]) -> Result<Vec<u8>, AllocError> {
+fn text_of(alloc: Global, lines: &[OutLine]) -> Result<Vec<u8>, AllocError> {
     let mut all = Vec::new(alloc);
     for line in lines {
         let bytes = encode(alloc, line.text.as_slice())?;
@@ -296,67 +352,128 @@ pub(crate) fn text_of(alloc: Global, lines: &[OutLine]) -> Result<Vec<u8>, Alloc
     Ok(all)
 }
 
-/// A session that was typed a line.
-fn typed(alloc: Global, line: &[u8]) -> Result<Session, FeedError> {
+/// Whether a session has written this.
+pub(crate) fn has_written(
+    alloc: Global,
+    session: &mut Session,
+    output: &[u8],
+) -> Result<bool, AllocError> {
+    let lines = session.take_output();
+    let text = text_of(alloc, &lines)?;
+    Ok(text.as_slice() == output)
+}
+
+/// Types lines.
+pub(crate) fn type_lines(session: &mut Session, lines: &[&[u8]]) -> Result<(), FeedError> {
+    for line in lines {
+        session.feed(line)?;
+    }
+    Ok(())
+}
+
+/// Whether a session, once it is typed a line, runs for one step, takes no line then, ends, and has written one line.
+fn is_stepped(session: &mut Session) -> Result<bool, Fail> {
+    session.feed("2+3×4".as_bytes())?;
+    Ok(
+        session.advance(1)? == Progress::Running
+            && session.feed(b"5") == Err(FeedError::Busy)
+            && session.advance(9)? == Progress::Idle
+            && session.take_output().len() == 1,
+    )
+}
+
+/// The same for a new session.
+fn new_is_stepped(alloc: Global) -> Result<bool, Fail> {
     let mut session = Session::new(alloc, Machine::new(alloc));
-    session.feed(line)?;
-    Ok(session)
+    is_stepped(&mut session)
 }
 
 #[test]
 fn steps(rt: HostRuntime) -> Result<(), Fail> {
-    let mut session = typed(rt.alloc(), "2+3×4".as_bytes())?;
-    assert_eq!(rt; session.advance(1)?, Progress::Running);
-    assert_eq!(rt; session.feed(b"5"), Err(FeedError::Busy));
-    assert_eq!(rt; session.advance(9)?, Progress::Idle);
-    assert_eq!(rt; session.take_output().len(), 1);
+    assert!(rt; new_is_stepped(rt.alloc())?);
     Ok(())
+}
+
+/// The event that types a line.
+pub(crate) fn line_event(alloc: Global, line: &[u8]) -> Result<Event, AllocError> {
+    Ok(Event::Line(Bytes::new(Vec::from_slice(alloc, line)?)))
 }
 
 /// The line `1+1`, one that comes while it runs, one step, and an interrupt.
 fn events(alloc: Global) -> Result<Vec<Event>, AllocError> {
     let mut events = Vec::new(alloc);
-    events.push(Event::Line(Bytes::new(Vec::from_slice(alloc, b"1+1")?)))?;
-    events.push(Event::Line(Bytes::new(Vec::from_slice(alloc, b"8")?)))?;
+    events.push(line_event(alloc, b"1+1")?)?;
+    events.push(line_event(alloc, b"8")?)?;
     events.push(Event::Steps(1))?;
     events.push(Event::Interrupt)?;
     Ok(events)
 }
 
-#[test]
-fn driven(rt: HostRuntime) -> Result<(), Fail> {
-    let mut session = Session::new(rt.alloc(), Machine::new(rt.alloc()));
-    let events = events(rt.alloc())?;
-    session.drive(&events)?;
-    assert!(rt; session.machine().is_idle());
-    let lines = session.take_output();
-    let text = text_of(rt.alloc(), &lines)?;
-    assert_eq!(rt;
-        text.as_slice(),
-        b"INTERRUPT\n      1+1\n      ^\n".as_slice()
-    );
-    Ok(())
+/// Whether a session is idle after these events, and has written this.
+fn is_driven(
+    alloc: Global,
+    session: &mut Session,
+    events: &[Event],
+    output: &[u8],
+) -> Result<bool, Fail> {
+    session.drive(events)?;
+    Ok(session.machine().is_idle() && has_written(alloc, session, output)?)
+}
+
+/// The same for a new session.
+pub(crate) fn new_is_driven(
+    alloc: Global,
+    events: Vec<Event>,
+    output: &[u8],
+) -> Result<bool, Fail> {
+    let mut session = Session::new(alloc, Machine::new(alloc));
+    is_driven(alloc, &mut session, &events, output)
 }
 
 #[test]
-fn interrupted(rt: HostRuntime) -> Result<(), Fail> {
-    let mut session = typed(rt.alloc(), b"5")?;
-    session.interrupt()?;
-    let mut machine = session.into_machine();
-    assert_eq!(rt; machine.take_output().len(), 3);
+fn driven(rt: HostRuntime) -> Result<(), Fail> {
+    let output = b"INTERRUPT\n      1+1\n      ^\n";
+    assert!(rt; new_is_driven(rt.alloc(), events(rt.alloc())?, output)?);
     Ok(())
+}
+
+/// Whether a session takes a line and an interrupt.
+fn is_abandoned(session: &mut Session, line: &[u8]) -> bool {
+    session.feed(line).is_ok() && session.interrupt().is_ok()
+}
+
+/// The same for a new session, and how many lines its machine has written then.
+fn new_is_abandoned(alloc: Global, line: &[u8]) -> (bool, usize) {
+    let mut session = Session::new(alloc, Machine::new(alloc));
+    let abandoned = is_abandoned(&mut session, line);
+    let mut machine = session.into_machine();
+    (abandoned, machine.take_output().len())
+}
+
+#[test]
+fn interrupted(rt: HostRuntime) {
+    assert_eq!(rt; new_is_abandoned(rt.alloc(), b"5"), (true, 3));
+}
+
+/// What a device over these bytes answers to a read, and the bytes that it moves.
+fn device_read(bytes: &[u8]) -> (Result<usize, Failed>, [u8; 2]) {
+    let mut buffer = [0; 2];
+    let count = Device::new(bytes).read(&mut buffer);
+    (count, buffer)
+}
+
+/// What a device over four bytes answers to two writes.
+fn device_writes(first: &[u8], second: &[u8]) -> (Result<usize, Failed>, Result<usize, Failed>) {
+    let mut room = [0; 4];
+    let mut writer = Device::new(room.as_mut_slice());
+    let count = writer.write(first);
+    (count, writer.write(second))
 }
 
 #[test]
 fn streams(rt: HostRuntime) {
-    let mut buffer = [0; 2];
-    let mut reader = Device::new(b"567".as_slice());
-    assert_eq!(rt; reader.read(&mut buffer), Ok(2));
-    assert_eq!(rt; buffer, [b'5', b'6']);
-    let mut room = [0; 4];
-    let mut writer = Device::new(room.as_mut_slice());
-    assert_eq!(rt; writer.write(b"abcdef"), Ok(4));
-    assert_eq!(rt; writer.write(b"gh"), Ok(0));
+    assert_eq!(rt; device_read(b"567"), (Ok(2), [b'5', b'6']));
+    assert_eq!(rt; device_writes(b"abcdef", b"gh"), (Ok(4), Ok(0)));
     assert_eq!(rt; Failed, Failed);
 }
 

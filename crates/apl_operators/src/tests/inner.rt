@@ -1,93 +1,134 @@
 // Inner products.
+use super::Plain::{Numbers, Ones, Text};
 use super::*;
-use apl_arrays::View;
+use apl_arrays::{Cells, View};
 use apl_scalar::Dyadic;
-use std::test::Fail;
+
+/// The function that folds, and the one whose values it folds.
+type Functions = (Dyadic, Dyadic);
+
+const SUMS_OF_PRODUCTS: Functions = (Dyadic::Plus, Dyadic::Times);
+
+/// Whether the inner product of two arrays is so.
+fn gives<B: Cells>(alloc: Global, functions: Functions, a: &Array, b: &B, want: Want<'_>) -> bool {
+    let (outer_function, inner_function) = functions;
+    is_so(&inner(alloc, outer_function, inner_function, a, b), want)
+}
+
+/// Whether the inner product of a row is so.
+fn holds(
+    alloc: Global,
+    functions: Functions,
+    a: Plain<'_>,
+    b: Plain<'_>,
+    want: Want<'_>,
+) -> Result<bool, Fail> {
+    let a = array(alloc, a)?;
+    let b = array(alloc, b)?;
+    Ok(gives(alloc, functions, &a, &b, want))
+}
+
+/// The same where the second array is lent as a view.
+fn holds_of_a_view(
+    alloc: Global,
+    functions: Functions,
+    a: Plain<'_>,
+    b: Plain<'_>,
+    want: Want<'_>,
+) -> Result<bool, Fail> {
+    let a = array(alloc, a)?;
+    let b = array(alloc, b)?;
+    Ok(gives(alloc, functions, &a, &View::whole(&b), want))
+}
 
 #[test]
 fn sums_of_products(rt: HostRuntime) -> Result<(), Fail> {
-    let alloc = rt.alloc();
-    let [plus, times] = [Dyadic::Plus, Dyadic::Times];
-    let first = vector(alloc, &[1, 2, 3])?;
-    let second = vector(alloc, &[4, 5, 6])?;
-    let dot = inner(alloc, plus, times, &first, &second);
-    assert!(rt; is_array(&dot, &[], &[32]));
-    let wide = array(alloc, &[2, 3], &[1, 2, 3, 4, 5, 6])?;
-    let tall = array(alloc, &[3, 2], &[1, 2, 3, 4, 5, 6])?;
-    let product = inner(alloc, plus, times, &wide, &tall);
-    assert!(rt; is_array(&product, &[2, 2], &[22, 28, 49, 64]));
-    let rows = inner(alloc, plus, times, &wide, &first);
-    assert!(rt; is_array(&rows, &[2], &[14, 32]));
-    let none = vector(alloc, &[])?;
-    assert!(rt; is_array(&inner(alloc, plus, times, &none, &none), &[], &[0]));
-    let differences = inner(alloc, Dyadic::Minus, plus, &first, &second);
-    assert!(rt; is_array(&differences, &[], &[7]));
+    let first = Numbers(&[3], &[1, 2, 3]);
+    let second = Numbers(&[3], &[4, 5, 6]);
+    let wide = Numbers(&[2, 3], &[1, 2, 3, 4, 5, 6]);
+    let tall = Numbers(&[3, 2], &[1, 2, 3, 4, 5, 6]);
+    let none = Numbers(&[0], &[]);
+    let sums = SUMS_OF_PRODUCTS;
+    let differences = (Dyadic::Minus, Dyadic::Plus);
+    let rows: [(Functions, Plain, Plain, Want); 5] = [
+        (sums, first, second, Ok((&[], &[32]))),
+        (sums, wide, tall, Ok((&[2, 2], &[22, 28, 49, 64]))),
+        (sums, wide, first, Ok((&[2], &[14, 32]))),
+        (sums, none, none, Ok((&[], &[0]))),
+        (differences, first, second, Ok((&[], &[7]))),
+    ];
+    for (functions, a, b, want) in rows {
+        assert!(rt; holds(rt.alloc(), functions, a, b, want)?);
+    }
     Ok(())
 }
 
 #[test]
 fn extended_axes(rt: HostRuntime) -> Result<(), Fail> {
     let alloc = rt.alloc();
-    let [plus, times] = [Dyadic::Plus, Dyadic::Times];
-    let ten = vector(alloc, &[10])?;
-    let wide = array(alloc, &[2, 3], &[1, 2, 3, 4, 5, 6])?;
-    assert!(rt; is_array(&inner(alloc, plus, times, &wide, &ten), &[2], &[60, 150]));
-    assert!(rt; is_array(&inner(alloc, plus, times, &ten, &wide), &[3], &[50, 70, 90]));
-    assert!(rt; is_array(&inner(alloc, plus, times, &ten, &ten), &[], &[100]));
-    let one = array(alloc, &[1], &[10])?;
-    let none = vector(alloc, &[])?;
-    assert!(rt; is_array(&inner(alloc, plus, times, &one, &none), &[], &[0]));
-    let columns = View::whole(&wide);
-    let sums = inner(alloc, plus, times, &vector(alloc, &[1, 1])?, &columns);
-    assert!(rt; is_array(&sums, &[3], &[5, 7, 9]));
+    let sums = SUMS_OF_PRODUCTS;
+    let ten = Numbers(&[], &[10]);
+    let wide = Numbers(&[2, 3], &[1, 2, 3, 4, 5, 6]);
+    let rows: [(Plain, Plain, Want); 4] = [
+        (wide, ten, Ok((&[2], &[60, 150]))),
+        (ten, wide, Ok((&[3], &[50, 70, 90]))),
+        (ten, ten, Ok((&[], &[100]))),
+        (Numbers(&[1], &[10]), Numbers(&[0], &[]), Ok((&[], &[0]))),
+    ];
+    for (a, b, want) in rows {
+        assert!(rt; holds(alloc, sums, a, b, want)?);
+    }
+    let ones = Numbers(&[2], &[1, 1]);
+    assert!(rt; holds_of_a_view(alloc, sums, ones, wide, Ok((&[3], &[5, 7, 9])))?);
     Ok(())
 }
 
 #[test]
 fn characters(rt: HostRuntime) -> Result<(), Fail> {
-    let alloc = rt.alloc();
-    let [a, b, c] = [Ch::ascii(b'a'), Ch::ascii(b'b'), Ch::ascii(b'c')];
+    let [abc, abb, none] = [Text("abc"), Text("abb"), Text("")];
     let [and, equal, plus] = [Dyadic::And, Dyadic::Equal, Dyadic::Plus];
-    let abc = text(alloc, &[a, b, c])?;
-    assert!(rt; is_array(&inner(alloc, and, equal, &abc, &abc), &[], &[1]));
-    let abb = text(alloc, &[a, b, b])?;
-    assert!(rt; is_array(&inner(alloc, and, equal, &abc, &abb), &[], &[0]));
-    assert!(rt; is_array(&inner(alloc, plus, equal, &abc, &abb), &[], &[2]));
-    assert!(rt; is_fault(&inner(alloc, plus, plus, &abc, &abb), Fault::Domain));
-    let none = text(alloc, &[])?;
-    assert!(rt; is_array(&inner(alloc, plus, plus, &none, &none), &[], &[0]));
+    let rows: [(Functions, Plain, Plain, Want); 5] = [
+        ((and, equal), abc, abc, Ok((&[], &[1]))),
+        ((and, equal), abc, abb, Ok((&[], &[0]))),
+        ((plus, equal), abc, abb, Ok((&[], &[2]))),
+        ((plus, plus), abc, abb, Err(Fault::Domain)),
+        ((plus, plus), none, none, Ok((&[], &[0]))),
+    ];
+    for (functions, a, b, want) in rows {
+        assert!(rt; holds(rt.alloc(), functions, a, b, want)?);
+    }
     Ok(())
 }
 
 #[test]
 fn shapes_that_differ(rt: HostRuntime) -> Result<(), Fail> {
-    let alloc = rt.alloc();
-    let [plus, times] = [Dyadic::Plus, Dyadic::Times];
-    let two = vector(alloc, &[1, 2])?;
-    let three = vector(alloc, &[1, 2, 3])?;
-    assert!(rt; is_fault(&inner(alloc, plus, times, &two, &three), Fault::Length));
-    let tall = array(alloc, &[3, 2], &[1, 2, 3, 4, 5, 6])?;
-    assert!(rt; is_fault(&inner(alloc, plus, times, &tall, &three), Fault::Length));
-    let many = Array::from_shape(&[2000, 1], Ravel::Nums(vec![in alloc; 1; 2000]?))?;
-    let other = Array::from_shape(&[1, 2000], Ravel::Nums(vec![in alloc; 1; 2000]?))?;
-    assert!(rt; is_fault(&inner(alloc, plus, times, &many, &other), Fault::Limit));
+    let three = Numbers(&[3], &[1, 2, 3]);
+    let rows: [(Plain, Plain, Fault); 3] = [
+        (Numbers(&[2], &[1, 2]), three, Fault::Length),
+        (Numbers(&[3, 2], &[1, 2, 3, 4, 5, 6]), three, Fault::Length),
+        (Ones(&[2000, 1]), Ones(&[1, 2000]), Fault::Limit),
+    ];
+    for (a, b, fault) in rows {
+        assert!(rt; holds(rt.alloc(), SUMS_OF_PRODUCTS, a, b, Err(fault))?);
+    }
     Ok(())
 }
 
 /// A fault of what meets comes before those of the folds, also where the fold is that of an earlier element.
 #[test]
 fn order_of_faults(rt: HostRuntime) -> Result<(), Fail> {
-    let alloc = rt.alloc();
-    let [plus, divide] = [Dyadic::Plus, Dyadic::Divide];
-    let row = array(alloc, &[1, 2], &[i64::MAX, i64::MAX])?;
-    let exact = array(alloc, &[2, 2], &[1, 1, 1, 1])?;
-    let limit = inner(alloc, plus, divide, &row, &exact);
-    assert!(rt; is_fault(&limit, Fault::Limit));
-    let later = array(alloc, &[2, 2], &[1, 0, 1, 1])?;
-    let domain = inner(alloc, plus, divide, &row, &later);
-    assert!(rt; is_fault(&domain, Fault::Domain));
-    let none = vector(alloc, &[])?;
-    let nothing = inner(alloc, Dyadic::Nand, plus, &none, &none);
-    assert!(rt; is_fault(&nothing, Fault::Domain));
+    let row = Numbers(&[1, 2], &[i64::MAX, i64::MAX]);
+    let exact = Numbers(&[2, 2], &[1, 1, 1, 1]);
+    let later = Numbers(&[2, 2], &[1, 0, 1, 1]);
+    let none = Numbers(&[0], &[]);
+    let sums_of_quotients = (Dyadic::Plus, Dyadic::Divide);
+    let rows = [
+        (sums_of_quotients, row, exact, Fault::Limit),
+        (sums_of_quotients, row, later, Fault::Domain),
+        ((Dyadic::Nand, Dyadic::Plus), none, none, Fault::Domain),
+    ];
+    for (functions, a, b, fault) in rows {
+        assert!(rt; holds(rt.alloc(), functions, a, b, Err(fault))?);
+    }
     Ok(())
 }

@@ -1,6 +1,5 @@
 // The tables of the functions.
 use super::*;
-use std::test::Fail;
 
 #[test]
 fn laws(_rt: HostRuntime) {
@@ -34,8 +33,7 @@ fn one_argument(rt: HostRuntime) -> Result<(), Fail> {
         (Monadic::Not, -1, Err(Fault::Domain)),
     ];
     for (function, y, want) in rows {
-        let result = monadic(alloc, function, &vector(alloc, &[y])?);
-        assert!(rt; gives(&result, want));
+        assert!(rt; holds_of_one(alloc, function, Scalar(y), scalar(want))?);
     }
     Ok(())
 }
@@ -53,8 +51,7 @@ fn factorials(rt: HostRuntime) -> Result<(), Fail> {
         (i64::MIN, Err(Fault::Domain)),
     ];
     for (y, want) in rows {
-        let result = monadic(alloc, Monadic::Factorial, &vector(alloc, &[y])?);
-        assert!(rt; gives(&result, want));
+        assert!(rt; holds_of_one(alloc, Monadic::Factorial, Scalar(y), scalar(want))?);
     }
     Ok(())
 }
@@ -83,13 +80,7 @@ fn sums_and_products(rt: HostRuntime) -> Result<(), Fail> {
         (Dyadic::Minimum, -3, 2, Ok(-3)),
     ];
     for (function, x, y, want) in rows {
-        let result = dyadic(
-            alloc,
-            function,
-            &vector(alloc, &[x])?,
-            &vector(alloc, &[y])?,
-        );
-        assert!(rt; gives(&result, want));
+        assert!(rt; holds_of_two(alloc, function, Scalar(x), Scalar(y), scalar(want))?);
     }
     Ok(())
 }
@@ -110,13 +101,7 @@ fn quotients(rt: HostRuntime) -> Result<(), Fail> {
         (i64::MIN, i64::MIN, Ok(1)),
     ];
     for (x, y, want) in rows {
-        let result = dyadic(
-            alloc,
-            Dyadic::Divide,
-            &vector(alloc, &[x])?,
-            &vector(alloc, &[y])?,
-        );
-        assert!(rt; gives(&result, want));
+        assert!(rt; holds_of_two(alloc, Dyadic::Divide, Scalar(x), Scalar(y), scalar(want))?);
     }
     Ok(())
 }
@@ -136,13 +121,8 @@ fn signs_of_residues(rt: HostRuntime) -> Result<(), Fail> {
         (i64::MAX, -1, 9223372036854775806),
     ];
     for (x, y, want) in rows {
-        let result = dyadic(
-            alloc,
-            Dyadic::Residue,
-            &vector(alloc, &[x])?,
-            &vector(alloc, &[y])?,
-        );
-        assert!(rt; gives(&result, Ok(want)));
+        let want = Ok(Scalar(want));
+        assert!(rt; holds_of_two(alloc, Dyadic::Residue, Scalar(x), Scalar(y), want)?);
     }
     Ok(())
 }
@@ -168,13 +148,7 @@ fn powers(rt: HostRuntime) -> Result<(), Fail> {
         (i64::MIN, 1, Ok(i64::MIN)),
     ];
     for (x, y, want) in rows {
-        let result = dyadic(
-            alloc,
-            Dyadic::Power,
-            &vector(alloc, &[x])?,
-            &vector(alloc, &[y])?,
-        );
-        assert!(rt; gives(&result, want));
+        assert!(rt; holds_of_two(alloc, Dyadic::Power, Scalar(x), Scalar(y), scalar(want))?);
     }
     Ok(())
 }
@@ -183,8 +157,7 @@ fn powers(rt: HostRuntime) -> Result<(), Fail> {
 #[test]
 fn comparisons(rt: HostRuntime) -> Result<(), Fail> {
     let alloc = rt.alloc();
-    let a = vector(alloc, &[-1, 2, 2])?;
-    let b = vector(alloc, &[2, 2, -1])?;
+    let [a, b] = [Vector(&[-1, 2, 2]), Vector(&[2, 2, -1])];
     let rows = [
         (Dyadic::Less, [1, 0, 0]),
         (Dyadic::NotGreater, [1, 1, 0]),
@@ -194,8 +167,7 @@ fn comparisons(rt: HostRuntime) -> Result<(), Fail> {
         (Dyadic::NotEqual, [1, 0, 1]),
     ];
     for (function, want) in rows {
-        let result = dyadic(alloc, function, &a, &b);
-        assert!(rt; is_array(&result, &[3], want.as_slice()));
+        assert!(rt; holds_of_two(alloc, function, a, b, Ok(Vector(&want)))?);
     }
     Ok(())
 }
@@ -210,14 +182,13 @@ fn truth_values(rt: HostRuntime) -> Result<(), Fail> {
         (Dyadic::Nand, [1, 1, 1, 0]),
         (Dyadic::Nor, [1, 0, 0, 0]),
     ];
+    let a = Vector(&[0, 0, 1, 1]);
+    let no_truth_values = Vector(&[0, 1, 0, 2]);
     for (function, want) in rows {
-        let a = vector(alloc, &[0, 0, 1, 1])?;
-        let result = dyadic(alloc, function, &a, &vector(alloc, &[0, 1, 0, 1])?);
-        assert!(rt; is_array(&result, &[4], &want));
-        let fault = dyadic(alloc, function, &a, &vector(alloc, &[0, 1, 0, 2])?);
-        assert!(rt; is_fault(&fault, Fault::Domain));
-        let negative = dyadic(alloc, function, &vector(alloc, &[-1])?, &a);
-        assert!(rt; is_fault(&negative, Fault::Domain));
+        let values = Ok(Vector(&want));
+        assert!(rt; holds_of_two(alloc, function, a, Vector(&[0, 1, 0, 1]), values)?);
+        assert!(rt; holds_of_two(alloc, function, a, no_truth_values, Err(Fault::Domain))?);
+        assert!(rt; holds_of_two(alloc, function, Scalar(-1), a, Err(Fault::Domain))?);
     }
     Ok(())
 }
