@@ -31,12 +31,3 @@ pub use stop::Stop;
 pub use strided::Strided;
 pub use view::View;
 pub use view_elements::ViewElements;
-
-#[cfg(test)]
-mod check_tests;
-#[cfg(test)]
-mod equality_tests;
-#[cfg(test)]
-mod tests;
-#[cfg(test)]
-mod view_tests;

@@ -17,6 +17,3 @@ mod walk;
 pub use fold::fold_numbers;
 pub use reduction::reduce;
 pub use scanning::scan;
-
-#[cfg(test)]
-mod tests;

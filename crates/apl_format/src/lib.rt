@@ -7,8 +7,6 @@ mod formatted;
 mod lines;
 mod number;
 mod row;
-#[cfg(test)]
-mod tests;
 mod width;
 
 pub use examples::{worked_displays, worked_formats};

@@ -2,7 +2,5 @@
 #![tactic(auto)]
 
 mod frame;
-#[cfg(test)]
-mod tests;
 
 pub use frame::{Frame, FrameBuf, Stage};

@@ -5,8 +5,6 @@
 mod level;
 mod operand;
 mod output;
-#[cfg(test)]
-mod tests;
 mod watch;
 
 pub use level::Level;

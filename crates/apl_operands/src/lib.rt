@@ -2,7 +2,5 @@
 #![tactic(auto)]
 
 mod operands;
-#[cfg(test)]
-mod tests;
 
 pub use operands::{Given, Held, Operands, arguments, fetch, last_operand, left, one_value};

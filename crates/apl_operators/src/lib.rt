@@ -13,6 +13,3 @@ mod turned;
 pub use apl_folds::{reduce, scan};
 pub use inner_product::inner;
 pub use outer_product::outer;
-
-#[cfg(test)]
-mod tests;

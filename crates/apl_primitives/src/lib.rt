@@ -8,6 +8,3 @@ mod value;
 
 pub use arguments::Arguments;
 pub use value::phrase_value;
-
-#[cfg(test)]
-mod tests;

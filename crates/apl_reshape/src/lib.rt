@@ -18,6 +18,3 @@ pub use dropping::drop_items;
 pub use joining::catenate;
 pub use shapes::{ravel, reshape, shape};
 pub use taking::take_items;
-
-#[cfg(test)]
-mod tests;

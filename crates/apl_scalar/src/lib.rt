@@ -22,6 +22,3 @@ pub use examples::{residues, worked_arrays, worked_values};
 pub use function::{Dyadic, Monadic, Scalar};
 pub use logic::{And, Connective, Logical, Nand, Nor, Or};
 pub use powers::Power;
-
-#[cfg(test)]
-mod tests;

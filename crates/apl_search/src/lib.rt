@@ -18,6 +18,3 @@ pub use encoding::encode;
 pub use grading::{grade_down, grade_up};
 pub use membership::member;
 pub use places::index_of;
-
-#[cfg(test)]
-mod tests;

@@ -15,6 +15,3 @@ mod slots;
 pub use assignment::index_assign;
 pub use compression::{compress, expand};
 pub use indexing::index;
-
-#[cfg(test)]
-mod tests;

@@ -7,6 +7,3 @@ mod monadic;
 pub use apl_select::{index, index_assign};
 pub use dyadic::structural2;
 pub use monadic::structural1;
-
-#[cfg(test)]
-mod tests;

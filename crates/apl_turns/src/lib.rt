@@ -8,6 +8,3 @@ mod views;
 
 pub use rotation::rotate;
 pub use views::{reverse, transpose, transpose_by};
-
-#[cfg(test)]
-mod tests;
