@@ -5,13 +5,13 @@ use Rattle.std.specs.List.{AllByRecursion}
 use Rattle.apl_machine_state.specs.declared.output.OutLine.{OutLine}
 use Rattle.apl_machine_state.specs.State.{State}
 use Rattle.apl_session.specs.Transcript.{written, ended, unfinished, complete_lines, last_line, lines_of, without_return, after_lines, transcript_of, transcript, silent}
-use Rattle.apl_session.specs.Devices.{Extends}
+use Rattle.apl_devices.specs.Devices.{Extends}
 use Rattle.apl_session.specs.Runs.{IsWithinLimits, IsDue, IsWritten, StoppedAt, StopsWriting, ReadsLine, IsPiece, BeginsWithLine, IsLast}
 use Rattle.apl_session.specs.declared.runs.RunError.{RunError}
 use Rattle.apl_session.specs.declared.runs.RunError.TheVariants.{Read, Write, Memory, LineTooLong, TooManyLines}
 use Rattle.apl_session.proofs.Reading.{ended-behind_line, unfinished-behind_line, ended-behind_piece, unfinished-behind_piece, map-append_one, all-append_one, last_line-length, complete-length}
 use Rattle.apl_session.proofs.Transcripts.{silent-append, transcript-append, silent-quiet}
-use Rattle.apl_session.proofs.Writing.{extends-second}
+use Rattle.apl_devices.proofs.Writing.{extends-second}
 
 -- Where a run stands between two lines: it took so many whole lines, and the session and the bytes written are what they come to.
 pub record Reached (ws : State) (n : ℕ) (before after : List ℕ) (tells : Bool) (old new : List ℕ) (s : State) (count : ℕ) : Type 0 where

@@ -3,6 +3,4 @@ pub mod Commands
 pub mod Events
 pub mod Transcript
 pub mod Views
-pub mod Devices
 pub mod Runs
-pub mod Tapes

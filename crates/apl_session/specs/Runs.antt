@@ -3,7 +3,7 @@ use Rattle.std.specs.Prelude.{◌≡◌, ◌≢◌, ℕ, ◌≤◌, ◌==◌, Bo
 use Rattle.std.specs.List.{AllByRecursion, list_all}
 use Rattle.apl_machine_state.specs.State.{State}
 use Rattle.apl_session.specs.Transcript.{ended, unfinished, complete_lines, lines_of, without_return, transcript_of}
-use Rattle.apl_session.specs.Devices.{Extends}
+use Rattle.apl_devices.specs.Devices.{Extends}
 use Rattle.apl_session.specs.declared.runs.RunError.{RunError}
 use Rattle.apl_session.specs.declared.runs.RunError.TheVariants.{Read, Write, Memory, LineTooLong, TooManyLines}
 

@@ -2,12 +2,12 @@
 ghost use Rattle.std.specs.Prelude.{◌≡◌, ◌≢◌, [], ◌∷◌, ◌++◌, IfOk, IfErr, OnOk, OnErr, IsErrOf, IsTrue, true};
 ghost use Rattle.apl_charset.specs.Text.{bytes};
 ghost use Rattle.apl_session.specs.Transcript.{without_return, written};
-ghost use Rattle.apl_session.specs.Devices.{Extends};
+ghost use Rattle.apl_devices.specs.Devices.{Extends};
 ghost use Rattle.apl_session.specs.Runs.{ReadsLine, StopsReading, StopsWriting};
 
-use crate::devices::{Failed, Sink, Source, read_byte, write_all};
 use crate::runs::RunError;
 use apl_charset::encode;
+use apl_devices::{Failed, Sink, Source, read_byte, write_all};
 use apl_machine::OutLine;
 use std::alloc::{AllocError, Global};
 

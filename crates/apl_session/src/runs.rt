@@ -3,12 +3,12 @@ ghost use Rattle.std.specs.Prelude.{◌≡◌, ◌≢◌, [], ◌∷◌, ◌++�
 ghost use Rattle.apl_machine_state.specs.State.{is_idle};
 ghost use Rattle.apl_session.specs.Transcript.{last_line, lines_of, after_lines, transcript_of, transcript, silent};
 ghost use Rattle.apl_session.specs.Defining.{closed};
-ghost use Rattle.apl_session.specs.Devices.{Extends};
+ghost use Rattle.apl_devices.specs.Devices.{Extends};
 ghost use Rattle.apl_session.specs.Runs.{number_of, IsWithinLimits, StopsWriting, StoppedAt};
 
-use crate::devices::{Failed, Sink, Source, read_byte};
 use crate::lines::{read_line, write_lines};
 use crate::session::{FeedError, Session};
+use apl_devices::{Failed, Sink, Source, read_byte};
 use apl_machine::Machine;
 use std::alloc::{AllocError, AllocFailed, Global};
 use thiserror::Error;

@@ -1,7 +1,7 @@
 use Rattle.std.proofs.Common.{◌≡◌, drop}
 use Rattle.std.specs.Prelude.{IsTrue}
 use Rattle.apl_session.specs.Transcript.{written}
-use Rattle.apl_session.specs.Devices.{Wrote}
+use Rattle.apl_devices.specs.Devices.{Wrote}
 use Rattle.apl_session.proofs.lines.write_lines.Given as goal
 
 abbrev pub invariant-loop-line : goal.invariant-loop-line

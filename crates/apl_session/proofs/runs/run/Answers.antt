@@ -3,7 +3,7 @@ use Rattle.std.specs.Prelude.{IsTrue}
 use Rattle.apl_machine_state.specs.State.{State}
 use Rattle.apl_session.specs.Transcript.{last_line, complete_lines, lines_of, after_lines, transcript_of, transcript, silent}
 use Rattle.apl_session.specs.Defining.{closed}
-use Rattle.apl_session.specs.Devices.{Extends}
+use Rattle.apl_devices.specs.Devices.{Extends}
 use Rattle.apl_session.specs.Runs.{IsWithinLimits, StopsWriting, StoppedAt, BeginsWithLine, IsLast}
 use Rattle.apl_session.proofs.Reached.{Reached, reached-none, Took, reads-line, reads-last, if_ok-map, if_err-map, took-line, took-last, reached-line, stopped-writing, stopped-reading, stopped-at_end, stopped-many, whole-within, any-ok, under_err, ends-within, ends-state, ends-transcript}
 use Rattle.apl_session.proofs.Reading.{last_line-length}

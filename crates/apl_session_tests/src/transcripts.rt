@@ -1,11 +1,7 @@
 // Sessions and runs as they answer.
-use crate::devices::{Failed, Sink, Source};
-use crate::runs::{RunError, run};
-use crate::session::{Bytes, Event, FeedError, Session};
-use crate::streams::Device;
-use crate::tape::Tape;
 use apl_charset::encode;
 use apl_machine::{Machine, OutLine, Progress};
+use apl_session::{Bytes, Event, FeedError, RunError, Session, Source, Tape, run};
 use std::alloc::{AllocError, Global};
 use std::test::Fail;
 
@@ -453,28 +449,6 @@ fn new_is_abandoned(alloc: Global, line: &[u8]) -> (bool, usize) {
 #[test]
 fn interrupted(rt: HostRuntime) {
     assert_eq!(rt; new_is_abandoned(rt.alloc(), b"5"), (true, 3));
-}
-
-/// What a device over these bytes answers to a read, and the bytes that it moves.
-fn device_read(bytes: &[u8]) -> (Result<usize, Failed>, [u8; 2]) {
-    let mut buffer = [0; 2];
-    let count = Device::new(bytes).read(&mut buffer);
-    (count, buffer)
-}
-
-/// What a device over four bytes answers to two writes.
-fn device_writes(first: &[u8], second: &[u8]) -> (Result<usize, Failed>, Result<usize, Failed>) {
-    let mut room = [0; 4];
-    let mut writer = Device::new(room.as_mut_slice());
-    let count = writer.write(first);
-    (count, writer.write(second))
-}
-
-#[test]
-fn streams(rt: HostRuntime) {
-    assert_eq!(rt; device_read(b"567"), (Ok(2), [b'5', b'6']));
-    assert_eq!(rt; device_writes(b"abcdef", b"gh"), (Ok(4), Ok(0)));
-    assert_eq!(rt; Failed, Failed);
 }
 
 #[test]

@@ -1,6 +1,6 @@
 // Devices in memory.
 ghost use Rattle.std.specs.Prelude.{◌≡◌, ◌≢◌, ◌↔◌, ℕ, ◌<◌, ◌≤◌, ◌+◌, [], ◌++◌, take, length, true, false, Some, None, IfOk, OnOk, OnErr, IsErr};
-ghost use Rattle.apl_session.specs.Tapes as model;
+ghost use Rattle.apl_devices.specs.Tapes as model;
 
 use crate::devices::{Failed, Sink, Source};
 use std::marker::Model;
@@ -18,7 +18,7 @@ pub struct Tape {
 
 impl Model for Tape {
     ghost use Rattle.std.specs.Prelude.{◌≤◌, length};
-    ghost use Rattle.apl_session.specs.Tapes as model;
+    ghost use Rattle.apl_devices.specs.Tapes as model;
 
     ghost Value = { model.Tape };
 
@@ -94,7 +94,7 @@ impl Tape {
 
 impl Source for Tape {
     ghost use Rattle.std.specs.Prelude.{true};
-    ghost use Rattle.apl_session.specs.Tapes as model;
+    ghost use Rattle.apl_devices.specs.Tapes as model;
 
     ghost tells = { true };
 

@@ -1,10 +1,7 @@
 // Commands as they are typed.
-use crate::commands::{Command, command_of};
-use crate::session::Session;
-use crate::tests::{has_written, wrong_row};
-use crate::words::{names_in, next_word, split_blank};
-use apl_charset::{Ch, decode_line};
+use crate::transcripts::{has_written, wrong_row};
 use apl_machine::Machine;
+use apl_session::Session;
 use std::alloc::Global;
 use std::test::Fail;
 
@@ -134,9 +131,9 @@ fn incorrect_commands(rt: HostRuntime) -> Result<(), Fail> {
             "INCORRECT COMMAND\nINCORRECT COMMAND\nINCORRECT COMMAND\nINCORRECT COMMAND\nINCORRECT COMMAND\n",
         ),
         (
-            ")S\n)SIS\n)SI⍝\n))SI\n",
+            ")S\n)SIS\n)SI⍝\n))SI\n)∆I\n",
             0,
-            "INCORRECT COMMAND\nINCORRECT COMMAND\nINCORRECT COMMAND\nINCORRECT COMMAND\n",
+            "INCORRECT COMMAND\nINCORRECT COMMAND\nINCORRECT COMMAND\nINCORRECT COMMAND\nINCORRECT COMMAND\n",
         ),
     ];
     assert_eq!(rt; wrong_row(rt.alloc(), &rows)?, None);
@@ -150,55 +147,5 @@ fn commands_in_a_definition(rt: HostRuntime) -> Result<(), Fail> {
         ("∇F\n⍝\n)SI\n", 9, ""),
     ];
     assert_eq!(rt; wrong_row(rt.alloc(), &rows)?, None);
-    Ok(())
-}
-
-/// The command that a word names.
-fn command_in(alloc: Global, word: &str) -> Result<Option<Command>, Fail> {
-    let text = decode_line(alloc, word.as_bytes())?;
-    Ok(command_of(&text))
-}
-
-#[test]
-fn command_words(rt: HostRuntime) -> Result<(), Fail> {
-    let rows = [
-        ("SI", Some(Command::StateIndicator)),
-        ("Fns", Some(Command::Functions)),
-        ("vars", Some(Command::Variables)),
-        ("ERASE", Some(Command::Erase)),
-        ("clear", Some(Command::Clear)),
-        ("", None),
-        ("S", None),
-        ("∆I", None),
-    ];
-    for (word, command) in rows {
-        assert_eq!(rt; command_in(rt.alloc(), word)?, command, "{word}");
-    }
-    Ok(())
-}
-
-/// Whether a text is a character, two blanks, and a last word of two.
-fn is_two_words(text: &[Ch]) -> bool {
-    let (front, behind) = split_blank(text);
-    match next_word(behind) {
-        Some((word, rest)) => {
-            front.len() == 1 && behind.len() == 4 && word.len() == 2 && next_word(rest).is_none()
-        }
-        None => false,
-    }
-}
-
-/// How many names a text is, if each of its words is one.
-fn names_counted(alloc: Global, text: &[u8]) -> Result<Option<usize>, Fail> {
-    let text = decode_line(alloc, text)?;
-    Ok(names_in(alloc, &text)?.map(|names| names.len()))
-}
-
-#[test]
-fn words_of_a_text(rt: HostRuntime) -> Result<(), Fail> {
-    assert_eq!(rt; names_counted(rt.alloc(), b"A  BC")?, Some(2));
-    assert_eq!(rt; names_counted(rt.alloc(), b"A 1")?, None);
-    let text = decode_line(rt.alloc(), b"A  BC")?;
-    assert!(rt; is_two_words(&text));
     Ok(())
 }

@@ -1,10 +1,7 @@
 // Definitions as they are typed, shown and refused.
-use crate::definition::OpenDefinition;
-use crate::runs::RunError;
-use crate::session::{Event, Session};
-use crate::tape::Tape;
-use crate::tests::{has_written, line_event, measured, new_is_driven, type_lines, wrong_row};
+use crate::transcripts::{has_written, line_event, measured, new_is_driven, type_lines, wrong_row};
 use apl_machine::Machine;
+use apl_session::{Event, RunError, Session, Tape};
 use std::alloc::{AllocError, Global};
 use std::test::Fail;
 
@@ -106,32 +103,13 @@ fn definition_run(alloc: Global, count: usize) -> Result<(Option<RunError>, usiz
 
 #[test]
 fn long_definitions(rt: HostRuntime) -> Result<(), Fail> {
-    for (count, written) in [(999, 7902), (1000, 22), (1001, 22)] {
+    for (count, written) in [(999, 7902), (1000, 22), (1001, 22), (2000, 22)] {
         assert_eq!(rt;
             definition_run(rt.alloc(), count)?,
             (None, written),
             "{count}"
         );
     }
-    Ok(())
-}
-
-/// Whether a new definition takes a thousand lines behind its header, and keeps no more.
-fn keeps_a_thousand(alloc: Global, definition: &mut OpenDefinition) -> Result<bool, AllocError> {
-    for count in 1..1002 {
-        if definition.as_slice().len() != count {
-            return Ok(false);
-        }
-        definition.add(alloc, &[])?;
-    }
-    definition.add(alloc, &[])?;
-    Ok(definition.as_slice().len() == 1001)
-}
-
-#[test]
-fn lines_kept(rt: HostRuntime) -> Result<(), Fail> {
-    let mut definition = OpenDefinition::new(rt.alloc(), &[])?;
-    assert!(rt; keeps_a_thousand(rt.alloc(), &mut definition)?);
     Ok(())
 }
 

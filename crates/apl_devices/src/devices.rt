@@ -1,6 +1,6 @@
 // What a run reads from and writes to.
 ghost use Rattle.std.specs.Prelude.{◌≡◌, ◌≢◌, ℕ, ◌<◌, ◌≤◌, List, [], ◌++◌, Bool, true, take, length, IfOk, OnOk, OnErr, IsTrue};
-ghost use Rattle.apl_session.specs.Devices.{TakesFirst, Wrote, Extends};
+ghost use Rattle.apl_devices.specs.Devices.{TakesFirst, Wrote, Extends};
 
 /// A device failed, and moved no byte.
 #[derive(Clone, Copy, Debug, PartialEq, Eq)]
