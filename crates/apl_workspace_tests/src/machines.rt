@@ -1,27 +1,31 @@
 // Machines, each public function once with ample memory.
 use crate::typing::{
-    FACT, begin_in, define_in, has_written, name, number_of, text, texts, type_all, type_in,
+    Check, FACT, begin_in, define_in, has_written, name, number_of, passes, text, texts, type_all,
+    type_in,
 };
 use apl_machine::{BeginError, Level, Machine, Progress};
 use apl_symbols::{Class, Name};
 use apl_tokens::tokens;
-use apl_translate::{Bound, bind};
+use apl_translate::{Bound, Cache, bind};
 use std::alloc::{AllocError, Global};
 use std::test::Fail;
 
-/// Whether a machine is idle, runs once `2+3×4` has begun, and lets no other line begin then.
-fn runs_once_begun(alloc: Global, machine: &mut Machine) -> Result<bool, Fail> {
-    let was_idle = machine.is_idle();
-    begin_in(alloc, machine, "2+3×4")?;
-    let other = text(alloc, "5")?;
-    let refused = machine.begin(other.as_slice()).err() == Some(BeginError::Busy);
-    Ok(was_idle && !machine.is_idle() && refused)
+/// It is idle, runs once `2+3×4` has begun, and lets no other line begin then.
+struct RunsOnceBegun;
+
+impl Check for RunsOnceBegun {
+    fn holds(alloc: Global, machine: &mut Machine) -> Result<bool, Fail> {
+        let was_idle = machine.is_idle();
+        begin_in(alloc, machine, "2+3×4")?;
+        let other = text(alloc, "5")?;
+        let refused = machine.begin(other.as_slice()).err() == Some(BeginError::Busy);
+        Ok(was_idle && !machine.is_idle() && refused)
+    }
 }
 
 #[test]
 fn begun(rt: HostRuntime) -> Result<(), Fail> {
-    let mut machine = Machine::new(rt.alloc());
-    assert!(rt; runs_once_begun(rt.alloc(), &mut machine)?);
+    assert!(rt; passes::<RunsOnceBegun>(rt.alloc())?);
     Ok(())
 }
 
@@ -43,44 +47,55 @@ fn comes_to(machine: &mut Machine, steps: &[Progress]) -> Result<bool, AllocErro
     Ok(true)
 }
 
-fn is_stepped(alloc: Global, machine: &mut Machine) -> Result<bool, Fail> {
-    begin_in(alloc, machine, "2+3×4")?;
-    Ok(comes_to(machine, &STEPS)? && has_written(alloc, machine, &["14"])?)
+/// The steps of `2+3×4` come to that, and write its value.
+struct Steps;
+
+impl Check for Steps {
+    fn holds(alloc: Global, machine: &mut Machine) -> Result<bool, Fail> {
+        begin_in(alloc, machine, "2+3×4")?;
+        Ok(comes_to(machine, &STEPS)? && has_written(alloc, machine, &["14"])?)
+    }
 }
 
 #[test]
 fn stepped(rt: HostRuntime) -> Result<(), Fail> {
-    let mut machine = Machine::new(rt.alloc());
-    assert!(rt; is_stepped(rt.alloc(), &mut machine)?);
+    assert!(rt; passes::<Steps>(rt.alloc())?);
     Ok(())
 }
 
-fn is_interrupted(alloc: Global, machine: &mut Machine) -> Result<bool, Fail> {
-    begin_in(alloc, machine, "2+3×4")?;
-    machine.interrupt()?;
-    let report = ["INTERRUPT", "      2+3×4", "      ^"];
-    Ok(machine.is_idle() && has_written(alloc, machine, &report)?)
+/// An interrupt leaves it idle, with a report.
+struct IsInterrupted;
+
+impl Check for IsInterrupted {
+    fn holds(alloc: Global, machine: &mut Machine) -> Result<bool, Fail> {
+        begin_in(alloc, machine, "2+3×4")?;
+        machine.interrupt()?;
+        let report = ["INTERRUPT", "      2+3×4", "      ^"];
+        Ok(machine.is_idle() && has_written(alloc, machine, &report)?)
+    }
 }
 
 #[test]
 fn interrupted(rt: HostRuntime) -> Result<(), Fail> {
-    let mut machine = Machine::new(rt.alloc());
-    assert!(rt; is_interrupted(rt.alloc(), &mut machine)?);
+    assert!(rt; passes::<IsInterrupted>(rt.alloc())?);
     Ok(())
 }
 
-/// Whether lines are written in the order in which they were said, and given once.
-fn says(alloc: Global, machine: &mut Machine) -> Result<bool, Fail> {
-    machine.say(text(alloc, "ONE")?)?;
-    machine.say_lines(texts(alloc, &["TWO", "", "'THREE'"])?)?;
-    let given = has_written(alloc, machine, &["ONE", "TWO", "", "'THREE'"])?;
-    Ok(given && has_written(alloc, machine, &[])?)
+/// Lines are written in the order in which they were said, and given once.
+struct Says;
+
+impl Check for Says {
+    fn holds(alloc: Global, machine: &mut Machine) -> Result<bool, Fail> {
+        machine.say(text(alloc, "ONE")?)?;
+        machine.say_lines(texts(alloc, &["TWO", "", "'THREE'"])?)?;
+        let given = has_written(alloc, machine, &["ONE", "TWO", "", "'THREE'"])?;
+        Ok(given && has_written(alloc, machine, &[])?)
+    }
 }
 
 #[test]
 fn said(rt: HostRuntime) -> Result<(), Fail> {
-    let mut machine = Machine::new(rt.alloc());
-    assert!(rt; says(rt.alloc(), &mut machine)?);
+    assert!(rt; passes::<Says>(rt.alloc())?);
     Ok(())
 }
 
@@ -127,13 +142,20 @@ fn fill(alloc: Global, machine: &mut Machine) -> Result<(), Fail> {
     type_all(alloc, machine, &["A←5"])
 }
 
+/// Its names stand for what they were given.
+struct HasNames;
+
+impl Check for HasNames {
+    fn holds(alloc: Global, machine: &mut Machine) -> Result<bool, Fail> {
+        fill(alloc, machine)?;
+        let a = name(alloc, "A")?;
+        Ok(stand_for(alloc, machine)? && number_of(machine.value(&a)) == Some(5))
+    }
+}
+
 #[test]
 fn names(rt: HostRuntime) -> Result<(), Fail> {
-    let mut machine = Machine::new(rt.alloc());
-    fill(rt.alloc(), &mut machine)?;
-    assert!(rt; stand_for(rt.alloc(), &machine)?);
-    let a = name(rt.alloc(), "A")?;
-    assert_eq!(rt; number_of(machine.value(&a)), Some(5));
+    assert!(rt; passes::<HasNames>(rt.alloc())?);
     Ok(())
 }
 
@@ -148,30 +170,41 @@ fn globals_are(alloc: Global, machine: &Machine, want: &[(&str, bool)]) -> Resul
     Ok(globals.len() == want.len())
 }
 
-/// Whether `F` can be erased, and then all be cleared.
-fn is_emptied(alloc: Global, machine: &mut Machine) -> Result<bool, Fail> {
-    let all = globals_are(alloc, machine, &[("A", false), ("F", true), ("N", true)])?;
-    machine.erase(&[name(alloc, "F")?]);
-    let some = globals_are(alloc, machine, &[("A", false), ("N", true)])?;
-    machine.clear();
-    Ok(all && some && globals_are(alloc, machine, &[])?)
+/// `F` can be erased, and then all be cleared.
+struct IsEmptied;
+
+impl Check for IsEmptied {
+    fn holds(alloc: Global, machine: &mut Machine) -> Result<bool, Fail> {
+        fill(alloc, machine)?;
+        let all = globals_are(alloc, machine, &[("A", false), ("F", true), ("N", true)])?;
+        machine.erase(&[name(alloc, "F")?]);
+        let some = globals_are(alloc, machine, &[("A", false), ("N", true)])?;
+        machine.clear();
+        Ok(all && some && globals_are(alloc, machine, &[])?)
+    }
 }
 
 #[test]
 fn objects(rt: HostRuntime) -> Result<(), Fail> {
-    let mut machine = Machine::new(rt.alloc());
-    fill(rt.alloc(), &mut machine)?;
-    assert!(rt; is_emptied(rt.alloc(), &mut machine)?);
+    assert!(rt; passes::<IsEmptied>(rt.alloc())?);
     Ok(())
+}
+
+/// It has the vectors that were set.
+struct HasVectors;
+
+impl Check for HasVectors {
+    fn holds(alloc: Global, machine: &mut Machine) -> Result<bool, Fail> {
+        define_in(alloc, machine, &FACT)?;
+        type_in(alloc, machine, "(2⎕STOP 'FACT'),3 1⎕TRACE 'FACT'")?;
+        let vectors = machine.vectors(&name(alloc, "FACT")?);
+        Ok(matches!(vectors, Some(([2], [1, 3]))))
+    }
 }
 
 #[test]
 fn vectors(rt: HostRuntime) -> Result<(), Fail> {
-    let mut machine = Machine::new(rt.alloc());
-    define_in(rt.alloc(), &mut machine, &FACT)?;
-    type_in(rt.alloc(), &mut machine, "(2⎕STOP 'FACT'),3 1⎕TRACE 'FACT'")?;
-    let vectors = machine.vectors(&name(rt.alloc(), "FACT")?);
-    assert!(rt; matches!(vectors, Some(([2], [1, 3]))));
+    assert!(rt; passes::<HasVectors>(rt.alloc())?);
     Ok(())
 }
 
@@ -185,17 +218,25 @@ fn is_fact_suspended(alloc: Global, levels: &[Level]) -> Result<bool, Fail> {
     Ok(levels == [fact].as_slice())
 }
 
+/// A call that fails is suspended.
+struct HasLevels;
+
+impl Check for HasLevels {
+    fn holds(alloc: Global, machine: &mut Machine) -> Result<bool, Fail> {
+        define_in(alloc, machine, &FACT)?;
+        type_in(alloc, machine, "FACT 21")?;
+        let levels = machine.levels()?;
+        is_fact_suspended(alloc, levels.as_slice())
+    }
+}
+
 #[test]
 fn levels(rt: HostRuntime) -> Result<(), Fail> {
-    let mut machine = Machine::new(rt.alloc());
-    define_in(rt.alloc(), &mut machine, &FACT)?;
-    type_in(rt.alloc(), &mut machine, "FACT 21")?;
-    let levels = machine.levels()?;
-    assert!(rt; is_fact_suspended(rt.alloc(), levels.as_slice())?);
+    assert!(rt; passes::<HasLevels>(rt.alloc())?);
     Ok(())
 }
 
-/// Whether one instruction of four is done, and one value waits.
+/// Whether one instruction of three is done, and one value waits.
 fn shows_a_frame(machine: &Machine) -> bool {
     match machine.frame(0) {
         Some(frame) => frame.done == 1 && frame.code.len() == 3 && frame.operands.len() == 1,
@@ -203,13 +244,20 @@ fn shows_a_frame(machine: &Machine) -> bool {
     }
 }
 
+/// It lends what its one context is doing.
+struct LendsFrames;
+
+impl Check for LendsFrames {
+    fn holds(alloc: Global, machine: &mut Machine) -> Result<bool, Fail> {
+        begin_in(alloc, machine, "2+3×4")?;
+        machine.step()?;
+        Ok(shows_a_frame(machine) && machine.frame(1).is_none())
+    }
+}
+
 #[test]
 fn frames(rt: HostRuntime) -> Result<(), Fail> {
-    let mut machine = Machine::new(rt.alloc());
-    begin_in(rt.alloc(), &mut machine, "2+3×4")?;
-    machine.step()?;
-    assert!(rt; shows_a_frame(&machine));
-    assert!(rt; machine.frame(1).is_none());
+    assert!(rt; passes::<LendsFrames>(rt.alloc())?);
     Ok(())
 }
 
@@ -220,11 +268,24 @@ fn bound(alloc: Global, line: &str) -> Result<Bound, Fail> {
     Ok(bind(alloc, tokens.as_slice(), &[Class::Variable])?)
 }
 
+/// Whether the translation of `A←5` is kept, and no other one.
+fn is_kept(alloc: Global, cache: &Cache) -> Result<bool, Fail> {
+    let kept = cache.cached(&bound(alloc, "A←5")?).is_some();
+    Ok(kept && cache.cached(&bound(alloc, "A←6")?).is_none())
+}
+
+/// The translation of a line that began is kept.
+struct KeepsTranslations;
+
+impl Check for KeepsTranslations {
+    fn holds(alloc: Global, machine: &mut Machine) -> Result<bool, Fail> {
+        type_in(alloc, machine, "A←5")?;
+        is_kept(alloc, machine.cache())
+    }
+}
+
 #[test]
 fn translations_are_kept(rt: HostRuntime) -> Result<(), Fail> {
-    let mut machine = Machine::new(rt.alloc());
-    type_in(rt.alloc(), &mut machine, "A←5")?;
-    assert!(rt; machine.cache().cached(&bound(rt.alloc(), "A←5")?).is_some());
-    assert!(rt; machine.cache().cached(&bound(rt.alloc(), "A←6")?).is_none());
+    assert!(rt; passes::<KeepsTranslations>(rt.alloc())?);
     Ok(())
 }

@@ -1,12 +1,14 @@
 // Workspaces in parts.
-ghost use Rattle.std.specs.Prelude.{IfOk};
-ghost use Rattle.apl_parts.specs.Restored.{AreWhole};
+ghost use Rattle.std.specs.Prelude.{All, IfOk};
+ghost use Rattle.apl_parts.specs.Restored.{AreFew, AreWhole};
 
-use crate::typing::{FACT, define_in, definition, has_written, name, number_of, type_in};
+use crate::typing::{
+    Check, FACT, define_in, definition, has_written, name, number_of, passes, type_in,
+};
 use apl_arrays::{Array, Cell};
 use apl_machine::{CallPart, ContextPart, FunctionPart, Machine, Parts, RestPart};
 use apl_names::DefinedFunction;
-use apl_symbols::Class;
+use apl_symbols::{Class, Name};
 use std::alloc::Global;
 use std::test::Fail;
 
@@ -64,13 +66,25 @@ fn has_contexts(parts: &Parts) -> bool {
     }
 }
 
+/// Whether its parts are these.
+fn is_taken_apart(alloc: Global, parts: &Parts) -> Result<bool, Fail> {
+    Ok(has_globals(alloc, parts)? && has_contexts(parts))
+}
+
+/// Its parts are what it stands for.
+struct IsTakenApart;
+
+impl Check for IsTakenApart {
+    fn holds(alloc: Global, machine: &mut Machine) -> Result<bool, Fail> {
+        suspend(alloc, machine)?;
+        let parts = machine.parts()?;
+        is_taken_apart(alloc, &parts)
+    }
+}
+
 #[test]
 fn taken_apart(rt: HostRuntime) -> Result<(), Fail> {
-    let mut machine = Machine::new(rt.alloc());
-    suspend(rt.alloc(), &mut machine)?;
-    let parts = machine.parts()?;
-    assert!(rt; has_globals(rt.alloc(), &parts)?);
-    assert!(rt; has_contexts(&parts));
+    assert!(rt; passes::<IsTakenApart>(rt.alloc())?);
     Ok(())
 }
 
@@ -99,15 +113,27 @@ fn made_by_hand(rt: HostRuntime) -> Result<(), Fail> {
     Ok(())
 }
 
-/// A workspace of the function `FACT`, which stops before its second line, and of the variable `A`.
-fn made(alloc: Global) -> Result<Parts, Fail>
-    ensures { IfOk result (λ p. AreWhole p) }
+/// The function `FACT`, which stops before its second line.
+fn functions(alloc: Global) -> Result<Vec<FunctionPart>, Fail>
+    ensures { IfOk result (λ parts. All AreFew parts.items) }
 {
     let function = DefinedFunction::new(alloc, definition(alloc, &FACT)?)?;
     let function = FunctionPart::new(function, vec![in alloc; 2]?, Vec::new(alloc));
+    Ok(vec![in alloc; function]?)
+}
+
+/// The variable `A`.
+fn variables(alloc: Global) -> Result<Vec<(Name, Array)>, Fail> {
     let value = Array::scalar(alloc, Cell::Num(7))?;
-    let functions = vec![in alloc; function]?;
-    let variables = vec![in alloc; (name(alloc, "A")?, value)]?;
+    Ok(vec![in alloc; (name(alloc, "A")?, value)]?)
+}
+
+/// A workspace of that function and that variable.
+fn made(alloc: Global) -> Result<Parts, Fail>
+    ensures { IfOk result (λ p. AreWhole p) }
+{
+    let functions = functions(alloc)?;
+    let variables = variables(alloc)?;
     Ok(Parts::new(functions, variables, 0, Vec::new(alloc)))
 }
 

@@ -3,7 +3,7 @@ ghost use Rattle.std.specs.Prelude.{◌≡◌, OnOk};
 ghost use Rattle.apl_machine_state.specs.State.{step};
 ghost use Rattle.apl_debug.specs.Stepping.{is_over, run};
 
-use crate::typing::{FACT, begin_in, define_in, has_written, name, type_in};
+use crate::typing::{Check, FACT, begin_in, define_in, has_written, name, passes, type_in};
 use apl_debug::{Level, Stepper, runs, state_indicator, stops, traces};
 use apl_machine::{Machine, Progress};
 use std::alloc::{AllocError, Global};
@@ -38,12 +38,20 @@ fn is_g_above_f(alloc: Global, levels: &[Level]) -> Result<bool, Fail> {
     Ok(levels == want.as_slice())
 }
 
+/// A call that fails is suspended above the pendent one that made it.
+struct StandsStill;
+
+impl Check for StandsStill {
+    fn holds(alloc: Global, machine: &mut Machine) -> Result<bool, Fail> {
+        stand_still(alloc, machine)?;
+        let levels = state_indicator(machine)?;
+        is_g_above_f(alloc, levels.as_slice())
+    }
+}
+
 #[test]
 fn suspended_above_pendent(rt: HostRuntime) -> Result<(), Fail> {
-    let mut machine = Machine::new(rt.alloc());
-    stand_still(rt.alloc(), &mut machine)?;
-    let levels = state_indicator(&machine)?;
-    assert!(rt; is_g_above_f(rt.alloc(), levels.as_slice())?);
+    assert!(rt; passes::<StandsStill>(rt.alloc())?);
     Ok(())
 }
 
@@ -65,12 +73,19 @@ fn ends_line_by_line(machine: &mut Machine) -> Result<bool, AllocError> {
     Ok(stepper.line(1)? == Progress::Idle)
 }
 
+/// Each line of `FACT 0` ends with its last step.
+struct EndsItsLines;
+
+impl Check for EndsItsLines {
+    fn holds(alloc: Global, machine: &mut Machine) -> Result<bool, Fail> {
+        begin(alloc, machine, "FACT 0")?;
+        Ok(ends_line_by_line(machine)? && has_written(alloc, machine, &["1"])?)
+    }
+}
+
 #[test]
 fn lines(rt: HostRuntime) -> Result<(), Fail> {
-    let mut machine = Machine::new(rt.alloc());
-    begin(rt.alloc(), &mut machine, "FACT 0")?;
-    assert!(rt; ends_line_by_line(&mut machine)?);
-    assert!(rt; has_written(rt.alloc(), &mut machine, &["1"])?);
+    assert!(rt; passes::<EndsItsLines>(rt.alloc())?);
     Ok(())
 }
 
@@ -83,14 +98,22 @@ fn step_and_run(machine: &mut Machine, count: u64) -> Result<Progress, AllocErro
     stepper.until_idle(count)
 }
 
+/// What a stepper makes is the machine's.
+struct RunsThroughAStepper;
+
+impl Check for RunsThroughAStepper {
+    fn holds(alloc: Global, machine: &mut Machine) -> Result<bool, Fail> {
+        runs();
+        begin(alloc, machine, "FACT 1")?;
+        let runs_on = step_and_run(machine, 4)? == Progress::Running;
+        let ends = step_and_run(machine, 100)? == Progress::Idle;
+        Ok(runs_on && ends && has_written(alloc, machine, &["1"])?)
+    }
+}
+
 #[test]
 fn through_a_stepper(rt: HostRuntime) -> Result<(), Fail> {
-    runs();
-    let mut machine = Machine::new(rt.alloc());
-    begin(rt.alloc(), &mut machine, "FACT 1")?;
-    assert_eq!(rt; step_and_run(&mut machine, 4)?, Progress::Running);
-    assert_eq!(rt; step_and_run(&mut machine, 100)?, Progress::Idle);
-    assert!(rt; has_written(rt.alloc(), &mut machine, &["1"])?);
+    assert!(rt; passes::<RunsThroughAStepper>(rt.alloc())?);
     Ok(())
 }
 
@@ -106,15 +129,19 @@ fn is_watched(alloc: Global, machine: &Machine) -> Result<bool, Fail> {
     )
 }
 
+/// A function has the vectors that were set for it.
+struct IsWatched;
+
+impl Check for IsWatched {
+    fn holds(alloc: Global, machine: &mut Machine) -> Result<bool, Fail> {
+        define_in(alloc, machine, &FACT)?;
+        type_in(alloc, machine, "(9 2⎕STOP 'FACT'),3 1⎕TRACE 'FACT'")?;
+        is_watched(alloc, machine)
+    }
+}
+
 #[test]
 fn watched(rt: HostRuntime) -> Result<(), Fail> {
-    let mut machine = Machine::new(rt.alloc());
-    define_in(rt.alloc(), &mut machine, &FACT)?;
-    type_in(
-        rt.alloc(),
-        &mut machine,
-        "(9 2⎕STOP 'FACT'),3 1⎕TRACE 'FACT'",
-    )?;
-    assert!(rt; is_watched(rt.alloc(), &machine)?);
+    assert!(rt; passes::<IsWatched>(rt.alloc())?);
     Ok(())
 }

@@ -8,6 +8,19 @@ use apl_symbols::Name;
 use std::alloc::{AllocError, Global};
 use std::test::Fail;
 
+/// Something that is asked of a machine.
+pub(crate) trait Check {
+    /// Whether a machine that was clear has it.
+    fn holds(alloc: Global, machine: &mut Machine) -> Result<bool, Fail>;
+}
+
+/// Whether a clear machine passes a check. The tests hold no machine of their own, since each function
+/// that does takes a minute to prove.
+pub(crate) fn passes<C: Check>(alloc: Global) -> Result<bool, Fail> {
+    let mut machine = Machine::new(alloc);
+    C::holds(alloc, &mut machine)
+}
+
 /// A function that calls itself until its argument is 0.
 pub(crate) const FACT: [&str; 4] = ["Z←FACT N", "Z←1", "→(N≤0)/0", "Z←N×FACT N-1"];
 
