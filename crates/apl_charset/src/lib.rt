@@ -3,8 +3,6 @@
 
 mod character;
 mod line;
-#[cfg(test)]
-mod tests;
 mod text;
 
 pub use character::Ch;

@@ -1,7 +1,7 @@
 // A line of bytes as characters.
 ghost use Rattle.std.specs.Prelude.{◌≡◌, ◌≢◌, ℕ, ◌∷◌, [], IfOk, IfErr, IsErr, List, Some, None};
 ghost use Rattle.apl_charset.specs.Decoding.{decoded};
-ghost use Rattle.apl_charset.specs.Text.{bytes, IsLine, IsFault, IsOutside};
+ghost use Rattle.apl_charset.specs.Text.{bytes, IsLine, IsFault, IsOutside, fault_number};
 ghost use Rattle.std.specs.Str.{IsValidUpTo};
 ghost use Rattle.apl_charset.specs.declared.line.CharFault.{CharFault};
 ghost use Rattle.apl_charset.specs.declared.line.CharFault.TheVariants.{Memory};
@@ -21,6 +21,19 @@ pub enum CharFault {
     NotInSet { at: usize },
     #[error("out of memory")]
     Memory,
+}
+
+impl CharFault {
+    /// Its number, from 1 to 3.
+    pub fn number(self) -> u8
+        ensures { result ≡ fault_number self }
+    {
+        match self {
+            CharFault::NotUtf8 { .. } => 1,
+            CharFault::NotInSet { .. } => 2,
+            CharFault::Memory => 3,
+        }
+    }
 }
 
 impl<T: Drop> From<AllocFailed<T>> for CharFault {

@@ -4,8 +4,6 @@
 mod code;
 mod instr;
 mod row;
-#[cfg(test)]
-mod tests;
 
 pub use code::{Code, MOST};
 pub use instr::{Action, Arguments, Instr, Source};

@@ -8,8 +8,6 @@ mod contexts;
 mod lines;
 mod moves;
 mod stack;
-#[cfg(test)]
-mod tests;
 
 pub use beginning::begin_line;
 pub use context::{Call, Context, Statement};

@@ -5,3 +5,4 @@ pub mod Defining
 pub mod Listing
 pub mod Defines
 pub mod Blanks
+pub mod Refusals

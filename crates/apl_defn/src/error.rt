@@ -1,6 +1,7 @@
 // Why lines define no function.
 ghost use Rattle.std.specs.Prelude.{◌≡◌};
 ghost use Rattle.apl_defn.specs.declared.error.DefnError.TheVariants.{Memory};
+ghost use Rattle.apl_defn.specs.Refusals.{error_number};
 
 use std::alloc::{AllocError, AllocFailed};
 use thiserror::Error;
@@ -23,6 +24,21 @@ pub enum DefnError {
     Line { line: usize },
     #[error("out of memory")]
     Memory,
+}
+
+impl DefnError {
+    /// Its number, from 1 to 5.
+    pub fn number(self) -> u8
+        ensures { result ≡ error_number self }
+    {
+        match self {
+            DefnError::Header => 1,
+            DefnError::Twice => 2,
+            DefnError::TooLong => 3,
+            DefnError::Line { .. } => 4,
+            DefnError::Memory => 5,
+        }
+    }
 }
 
 impl From<AllocError> for DefnError {

@@ -11,8 +11,6 @@ mod listing;
 mod name;
 mod parts;
 mod reading;
-#[cfg(test)]
-mod tests;
 
 pub use blanks::trimmed;
 pub use defining::define;

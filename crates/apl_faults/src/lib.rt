@@ -3,8 +3,6 @@
 
 mod fault;
 mod reports;
-#[cfg(test)]
-mod tests;
 
 pub use fault::Fault;
 pub use reports::{Call, fault_line, place, report};

@@ -46,3 +46,8 @@ pub record Reads (text : List ℕ) (code : List Instr) (at : ℕ) : Type 0 where
   pub phrases : ArePhrases code
   pub within : at ≤ length text
   pub front : text ≡ listed 0 code ++ drop at text
+
+-- the number of an error
+abbrev pub error_number : AsmError → ℕ
+error_number Memory = 1
+error_number (Form _) = 2

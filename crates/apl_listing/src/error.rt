@@ -1,6 +1,7 @@
 //! Why a text is no listing.
 ghost use Rattle.std.specs.Prelude.{◌≡◌};
 ghost use Rattle.apl_listing.specs.declared.error.AsmError.TheVariants.{Memory};
+ghost use Rattle.apl_listing.specs.Assembly.{error_number};
 
 use std::alloc::{AllocError, AllocFailed};
 use thiserror::Error;
@@ -13,6 +14,18 @@ pub enum AsmError {
     Form { line: usize },
     #[error("out of memory")]
     Memory,
+}
+
+impl AsmError {
+    /// Its number, 1 or 2.
+    pub fn number(self) -> u8
+        ensures { result ≡ error_number self }
+    {
+        match self {
+            AsmError::Memory => 1,
+            AsmError::Form { .. } => 2,
+        }
+    }
 }
 
 impl From<AllocError> for AsmError {

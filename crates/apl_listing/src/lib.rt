@@ -26,8 +26,6 @@ mod assembly;
 mod error;
 mod reading;
 mod stack;
-#[cfg(test)]
-mod tests;
 mod well_made;
 mod writing;
 

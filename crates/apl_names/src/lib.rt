@@ -6,8 +6,6 @@ mod function;
 mod global_scope;
 mod names;
 mod slots;
-#[cfg(test)]
-mod tests;
 
 pub use binding::Binding;
 pub use function::DefinedFunction;

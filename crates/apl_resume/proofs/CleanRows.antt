@@ -33,6 +33,7 @@ when-clean true r h = h
 when-clean false r h = tt
 
 value-clean : (ks : List Kind) → AreCleanKinds ks → IsCleanIfAny (at_value ks)
+value-clean (K ∷ W LeftArrow ∷ ks) h = tt
 value-clean (K ∷ ks) h = tt
 value-clean (W (Function f) ∷ B ∷ ks) h = when-clean (ends ks) (Dyadic f) h.0
 value-clean (W (Function f) ∷ K ∷ B ∷ ks) h = when-clean (ends ks) (DyadicAxis f) tt

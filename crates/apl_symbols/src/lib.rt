@@ -7,8 +7,6 @@ mod name;
 mod primitive;
 mod symbol;
 mod system;
-#[cfg(test)]
-mod tests;
 
 pub use class::Class;
 pub use name::{MOST, Name};

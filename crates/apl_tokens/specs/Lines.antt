@@ -108,3 +108,12 @@ Ascend low (t ∷ ts) = (low < t.at) × (t.at ≤ 500) × Ascend t.at ts
 abbrev pub Fits : Kind → Type 0
 Fits (kind.Constant ns) = All (λ n. FitsSigned w64 n) ns
 Fits _ = Unit {0}
+
+-- the number of an error
+abbrev pub error_number : TokenError → ℕ
+error_number (Quote _) = 1
+error_number (Unbalanced _) = 2
+error_number (Stray _) = 3
+error_number (Limit _) = 4
+error_number (TooLong _) = 5
+error_number Memory = 6

@@ -6,8 +6,6 @@ mod class;
 mod line;
 mod place;
 mod reading;
-#[cfg(test)]
-mod tests;
 mod token;
 mod writing;
 

@@ -1,7 +1,7 @@
 // The tokens of a line.
 ghost use Rattle.std.specs.Prelude.{◌≡◌, ◌≢◌, ℕ, List, All, ◌<◌, ◌≤◌, length, true, IfOk, IfErr, IfSome, OnOk, MatchOption, ◌∷◌, [], pos, Ok, Err, replicate, ◌++◌};
 ghost use Rattle.apl_tokens.specs.Spelling.{all_blank, Step, Row};
-ghost use Rattle.apl_tokens.specs.Lines.{error_at, IsSmall, IsBreak, Joins, Breaks, Spells, IsFault, Ascend, Fits};
+ghost use Rattle.apl_tokens.specs.Lines.{error_at, error_number, IsSmall, IsBreak, Joins, Breaks, Spells, IsFault, Ascend, Fits};
 ghost use Rattle.apl_tokens.specs.Joined.{push_joined};
 ghost use Rattle.apl_tokens.specs.declared.token.Kind.TheVariants.{Constant};
 ghost use Rattle.apl_tokens.specs.Tokens.{tokens_of, Reads, AreTokens, IsPlaced, token};
@@ -41,6 +41,22 @@ pub enum TokenError {
     TooLong { column: usize },
     #[error("out of memory")]
     Memory,
+}
+
+impl TokenError {
+    /// Its number, from 1 to 6.
+    pub fn number(self) -> u8
+        ensures { result ≡ error_number self }
+    {
+        match self {
+            TokenError::Quote { .. } => 1,
+            TokenError::Unbalanced { .. } => 2,
+            TokenError::Stray { .. } => 3,
+            TokenError::Limit { .. } => 4,
+            TokenError::TooLong { .. } => 5,
+            TokenError::Memory => 6,
+        }
+    }
 }
 
 impl From<AllocError> for TokenError {

@@ -4,14 +4,10 @@
 
 mod binding;
 mod cache;
-#[cfg(test)]
-mod cache_tests;
 mod equality;
 mod form;
 mod phrase;
 mod ready;
-#[cfg(test)]
-mod tests;
 mod translation;
 
 pub use binding::bind;

@@ -69,10 +69,26 @@ fn at_value(items: &[Placed]) -> Option<Row>
         return None;
     };
     match first.form {
-        Form::Slots => Some(Row::Select),
+        Form::Slots => after_slots(rest),
         Form::Word(Word::Function(f)) => after_function(f, rest),
         Form::Word(Word::Jot) => after_jot(rest),
         _ => None,
+    }
+}
+
+/// After a value and an index list. Nothing is selected of a value that is to be assigned to.
+fn after_slots(items: &[Placed]) -> Option<Row>
+    ensures { result ≡ at_value (K ∷ kinds items.now) }
+{
+    match items {
+        [
+            Placed {
+                form: Form::Word(Word::LeftArrow),
+                ..
+            },
+            ..
+        ] => None,
+        _ => Some(Row::Select),
     }
 }
 
