@@ -8,3 +8,4 @@ mod Same
 mod Keeps
 pub mod Made
 pub mod Spelt
+mod Table

@@ -3,6 +3,7 @@ pub mod Forms
 pub mod Lines
 pub mod Translation
 pub mod Scan
+pub mod Table
 pub mod Binding
 pub mod Kept
 pub mod Ready
