@@ -167,6 +167,23 @@ impl Binder {
             }
         }
     }
+
+    /// Binds tokens: their items go to the end of the items, which have room for them.
+    fn bind_all(
+        &mut self,
+        classes: &[Class],
+        tokens: &[Token],
+        items: &mut Vec<Placed>,
+    ) -> Result<(), AllocError>
+        requires few { (self.old.constants + length tokens.now ≤ 500) × (self.old.names + length tokens.now ≤ 500) }
+        requires room { vec_len items.old + length tokens.now ≤ vec_capacity items.old }
+        ensures { OnOk result (items.new.items ≡ items.old.items ++ items_from classes.now self.old tokens.now) }
+    {
+        for token in tokens {
+            self.bind(classes, token, items)?;
+        }
+        Ok(())
+    }
 }
 
 fn class_at(classes: &[Class], n: usize) -> Class
@@ -242,9 +259,7 @@ fn items_of(alloc: Global, tokens: &[Token], classes: &[Class]) -> Result<Vec<Pl
 {
     let mut items = Vec::with_capacity(alloc, tokens.len())?;
     let mut binder = Binder::new(alloc);
-    for token in tokens {
-        binder.bind(classes, token, &mut items)?;
-    }
+    binder.bind_all(classes, tokens, &mut items)?;
     Ok(items)
 }
 
