@@ -4,8 +4,6 @@
 
 mod law;
 mod resume;
-#[cfg(test)]
-mod tests;
 
 pub use law::{always_in_order, cut_is_uncut, quiet_where_clean};
 pub use resume::resume_all;
