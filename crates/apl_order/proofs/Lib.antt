@@ -3,3 +3,10 @@ pub mod Standing
 pub mod Answered
 pub mod Ends
 pub mod Steps
+pub mod Maps
+pub mod Vectors
+pub mod Outcomes
+pub mod Defined
+pub mod CallMaps
+pub mod Assigned
+pub mod Keeping
