@@ -5,3 +5,4 @@ pub mod Globals
 pub mod Told
 pub mod Clear
 pub mod Lines
+pub mod InOrder

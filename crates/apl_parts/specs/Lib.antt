@@ -3,3 +3,4 @@ pub mod Workspaces
 pub mod Taken
 pub mod Restored
 pub mod Making
+pub mod Promises
