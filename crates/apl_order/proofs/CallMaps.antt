@@ -121,7 +121,7 @@ origin-in-call d m defined h =
 -- ---- a call begins
 
 -- names with values, or without one
-abbrev AreValues : List (Text × Binding) → Type 0
+abbrev pub AreValues : List (Text × Binding) → Type 0
 AreValues [] = Unit {0}
 AreValues (e ∷ es) = (bound_to (value_in (Some e.1)) ≡ e.1) × AreValues es
 
@@ -130,7 +130,7 @@ values-append [] fs a b = b
 values-append (e ∷ es) fs a b = (a.0, values-append es fs a.1 b)
 
 -- the names of a list of bindings
-abbrev first_names : List (Text × Binding) → List Text
+abbrev pub first_names : List (Text × Binding) → List Text
 first_names es = map (λ (e : Text × Binding). e.0) es
 
 -- what such a list says of a name of its own
@@ -203,15 +203,19 @@ begun-split s d a b =
 begun-said : (s : Scene) (d : Definition) (a b : Option Arr) (q : Text) → said (call_map s d a b) q ≡ said (begun_names s d.header a b ++ map label_of d.labels) q
 begun-said s d a b q = said-listed (names_of_call s d a b) q ∙ ap (λ (l : List (Text × Binding)). said l q) (sym (begun-split s d a b))
 
-begun-agrees : (s : Scene) (d : Definition) (a b : Option Arr) (q : Text) → Agrees d (call_map s d a b) q
-begun-agrees s d a b q =
-    begun-said s d a b q
-    ∙ said-own (begun_names s d.header a b) (map label_of d.labels) q (begun-values s d.header a b)
-    ∙ ap (λ (l : List Text). option_or (cond (has l q) (Some (bound_to (value_in (said (begun_names s d.header a b ++ map label_of d.labels) q)))) None) (said (map label_of d.labels) q)) (begun-first s d.header a b)
-    ∙ ap (λ (o : Option Binding). option_or (cond (has (names_in d.header) q) (Some (bound_to (value_in o))) None) (said (map label_of d.labels) q)) (sym (begun-said s d a b q))
+-- a map of such names, which are those of the header, and the labels
+listed-agrees : (d : Definition) (es : List (Text × Binding)) (m : Map) → AreValues es → first_names es ≡ names_in d.header → ((q : Text) → said m q ≡ said (es ++ map label_of d.labels) q) → (q : Text) → Agrees d m q
+listed-agrees d es m h e is q =
+    is q
+    ∙ said-own es (map label_of d.labels) q h
+    ∙ ap (λ (l : List Text). option_or (cond (has l q) (Some (bound_to (value_in (said (es ++ map label_of d.labels) q)))) None) (said (map label_of d.labels) q)) e
+    ∙ ap (λ (o : Option Binding). option_or (cond (has (names_in d.header) q) (Some (bound_to (value_in o))) None) (said (map label_of d.labels) q)) (sym (is q))
+
+pub listed-call-map : (d : Definition) (es : List (Text × Binding)) → AreValues es → first_names es ≡ names_in d.header → IsCallMap d (map_of (es ++ map label_of d.labels))
+listed-call-map d es h e = by-agreement d (map_of (es ++ map label_of d.labels)) (listed-map (es ++ map label_of d.labels)) (listed-agrees d es (map_of (es ++ map label_of d.labels)) h e (said-listed (es ++ map label_of d.labels)))
 
 pub begun-map : (s : Scene) (d : Definition) (a b : Option Arr) → IsCallMap d (call_map s d a b)
-begun-map s d a b = by-agreement d (call_map s d a b) (listed-map (names_of_call s d a b)) (begun-agrees s d a b)
+begun-map s d a b = by-agreement d (call_map s d a b) (listed-map (names_of_call s d a b)) (listed-agrees d (begun_names s d.header a b) (call_map s d a b) (begun-values s d.header a b) (begun-first s d.header a b) (begun-said s d a b))
 
 -- ---- no name of a call stands for a function
 

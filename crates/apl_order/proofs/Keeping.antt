@@ -191,7 +191,7 @@ ends-keep w stops context below rest end held h = keeps-with w stops _ (abandone
 
 -- ---- vectors
 
-vector-fits : (d : Definition) (lines : List ℕ) → AreLines d lines → IsVectorOf (Some d) (unless_empty lines)
+pub vector-fits : (d : Definition) (lines : List ℕ) → AreLines d lines → IsVectorOf (Some d) (unless_empty lines)
 vector-fits d [] h = tt
 vector-fits d (n ∷ ns) h = h
 

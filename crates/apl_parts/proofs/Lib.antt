@@ -6,3 +6,4 @@ pub mod Told
 pub mod Clear
 pub mod Lines
 pub mod InOrder
+pub mod Kept

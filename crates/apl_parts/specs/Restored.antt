@@ -1,5 +1,5 @@
 -- The state of parts.
-use Rattle.std.specs.Prelude.{◌≡◌, ℕ, ◌<◌, ◌≤◌, false, true, List, [], ◌∷◌, ◌++◌, All, map, length, reverse, Option, Some, None, Result, Ok, Err, option_map}
+use Rattle.std.specs.Prelude.{◌≡◌, ℕ, suc, ◌<◌, ◌≤◌, false, true, List, [], ◌∷◌, ◌++◌, All, map, length, reverse, Option, Some, None, Result, Ok, Err, option_map}
 use Rattle.apl_arrays.specs.Cells.{Arr}
 use Rattle.apl_symbols.specs.declared.class.Class.{Class}
 use Rattle.apl_tokens.specs.declared.token.Token.{Token}
@@ -12,6 +12,7 @@ use Rattle.apl_translate.specs.Lines.{Line}
 use Rattle.apl_translate.specs.Translation.{Translates}
 use Rattle.apl_vectors.specs.Vectors.{Vectors, with_vector}
 use Rattle.apl_defn.specs.Definitions.{Text, Definition, is_line, line_of}
+use Rattle.apl_defn.specs.Defining.{IsDefined}
 use Rattle.apl_names.specs.declared.binding.Binding.{Binding}
 use Rattle.apl_names.specs.declared.binding.Binding.TheVariants.{Value, Function}
 use Rattle.apl_names.specs.Maps.{Map, map_of}
@@ -19,6 +20,7 @@ use Rattle.apl_machine_state.specs.Items.{Rest}
 use Rattle.apl_machine_state.specs.Environment as model
 use Rattle.apl_machine_state.specs.Calls.{bound_to, label_of}
 use Rattle.apl_machine_state.specs.State.{State, clear}
+use Rattle.apl_order.specs.Kept.{AreLines, names_in}
 use Rattle.apl_frames.specs.declared.frame.Stage.TheVariants.{Pendent}
 use Rattle.apl_frames.specs.Flat.{HasKinds, rest_with}
 use Rattle.apl_contexts.specs.Contexts.{Place, Newest, Beneath, Idle}
@@ -82,9 +84,10 @@ abbrev pub IsWaitingIn : Text → Option Waiting → Type 0
 IsWaitingIn text None = Unit {0}
 IsWaitingIn text (Some w) = IsWaiting text w
 
+-- A call's function is one that is defined, it stands at a line of it, and the names that have values are those of the header, in its order.
 abbrev pub IsContext : ContextPart → Type 0
 IsContext (Statement s) = IsWaiting s.text s.rest
-IsContext (Call c) = (is_line c.definition c.at ≡ true) × IsWaitingIn (line_of c.definition c.at) c.rest
+IsContext (Call c) = (is_line c.definition c.at ≡ true) × IsWaitingIn (line_of c.definition c.at) c.rest × IsDefined c.definition × (map (λ local. local.0) c.locals ≡ names_in c.definition.header)
 IsContext (Execute s) = IsWaiting s.text s.rest
 
 -- the newest context and one beneath a statement are suspended, and one beneath a call or an execute awaits an answer
@@ -114,9 +117,25 @@ AreStanding place (c ∷ cs) = FitsWaiting place (waiting_in c) × AreStanding (
 abbrev pub AreFew : Watched → Type 0
 AreFew f = (length f.stops ≤ 999) × (length f.traces ≤ 999)
 
--- The index origin is 0 or 1, vectors have at most as many lines as functions, and the contexts are some that an idle machine has.
+-- a function that is defined, with vectors of numbers of its lines, which ascend
+pub record IsWatched (f : Watched) : Type 0 where
+  pub defined : IsDefined f.definition
+  pub stops : AreLines f.definition f.stops
+  pub traces : AreLines f.definition f.traces
+
+-- how many calls and executes stand
+abbrev pub standing_in : List ContextPart → ℕ
+standing_in [] = 0
+standing_in (Statement s ∷ cs) = standing_in cs
+standing_in (Call c ∷ cs) = suc (standing_in cs)
+standing_in (Execute s ∷ cs) = suc (standing_in cs)
+
+-- The index origin is 0 or 1, the functions are defined and their vectors some of theirs, and the contexts are some that an idle machine has, at most
+-- 256 calls and executes among them.
 pub record AreWhole (p : Pieces) : Type 0 where
   pub origin : p.origin ≤ 1
   pub few : All AreFew p.functions
   pub contexts : All IsContext p.contexts
   pub standing : AreStanding Newest (reverse p.contexts)
+  pub watched : All IsWatched p.functions
+  pub within : standing_in (reverse p.contexts) ≤ 256

@@ -1,5 +1,5 @@
 //! Laws of parts.
-ghost use Rattle.apl_parts.specs.Promises.{WholePartsStandInOrder};
+ghost use Rattle.apl_parts.specs.Promises.{WholePartsAreKept, WholePartsStandInOrder};
 
 /// The law that the contexts of parts which are some of an idle machine stand in order.
 pub fn whole_parts_stand_in_order()
@@ -7,3 +7,8 @@ pub fn whole_parts_stand_in_order()
 {
     // Nothing is done: the law is of the definitions.
 }
+
+/// The law that the state of such parts is one that a machine can have.
+pub fn whole_parts_are_kept()
+    ensures { WholePartsAreKept }
+{}

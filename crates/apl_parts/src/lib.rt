@@ -8,7 +8,7 @@ mod resuming;
 mod standing;
 mod taking;
 
-pub use laws::whole_parts_stand_in_order;
+pub use laws::{whole_parts_are_kept, whole_parts_stand_in_order};
 pub use parts::{CallPart, ContextPart, FunctionPart, Parts, RestPart, Restored, StatementPart};
 pub use restoring::restored;
 pub use taking::taken;
