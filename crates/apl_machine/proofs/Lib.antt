@@ -17,3 +17,4 @@ pub mod Changed
 pub mod Typed
 pub mod Erased
 pub mod Restored
+pub mod Held

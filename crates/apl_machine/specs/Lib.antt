@@ -7,3 +7,4 @@ pub mod Reduced
 pub mod Changes
 pub mod Paces
 pub mod Spaces
+pub mod Refusals

@@ -8,6 +8,8 @@ ghost use Rattle.apl_machine_state.specs.State.{State, clear, definition_of, int
 ghost use Rattle.apl_machine_state.specs.Beginning.{begun, started};
 ghost use Rattle.apl_tokens.specs.Tokens.{tokens_of};
 ghost use Rattle.apl_contexts.specs.Contexts.{line_in};
+ghost use Rattle.apl_names.specs.Maps.{IsMap};
+ghost use Rattle.apl_machine.specs.Refusals.{error_number};
 ghost use Rattle.apl_machine.specs.Spaces.{IsSound, state_of};
 
 use crate::change::change_of;
@@ -44,22 +46,34 @@ impl Model for Machine {
 
     ghost Value = { State };
 
-    ghost use Rattle.apl_machine.specs.Spaces.{IsSound, state_of};
+    ghost use Rattle.apl_machine.specs.Spaces.{IsHeld, state_of};
 
     ghost view = { λ m. state_of m.workspace };
 
-    ghost invariant = { λ m. IsSound m.workspace };
+    ghost invariant = { λ m. IsHeld m.workspace };
 }
 
 /// Why a line did not begin.
 #[derive(Clone, Copy, Debug, PartialEq, Eq, Error)]
 pub enum BeginError {
-    /// A statement runs.
+    /// Something runs: a line begins on an idle machine alone.
     #[error("a statement runs")]
     Busy,
-    /// There is no memory for the line.
+    /// Memory has run out: the same line may begin later.
     #[error("out of memory")]
     Memory,
+}
+
+impl BeginError {
+    /// Its number, 1 or 2.
+    pub fn number(self) -> u8
+        ensures { result ≡ error_number self }
+    {
+        match self {
+            BeginError::Busy => 1,
+            BeginError::Memory => 2,
+        }
+    }
 }
 
 impl From<AllocError> for BeginError {
@@ -227,7 +241,8 @@ impl Machine {
         mem::replace(&mut self.workspace.output, Vec::new(alloc))
     }
 
-    /// The value of a name, as a statement that begins now would read it, if it has one.
+    /// The value of a name, as a statement that begins now would read it, if it has one. A label has
+    /// none, nor has a function.
     pub fn value(&self, name: &Name) -> Option<&Array>
         ensures { option_copied result ≡ value_of self.now name.now }
     {
@@ -284,7 +299,8 @@ impl Machine {
 
     /// The global names, ascending, and whether each is that of a function.
     pub fn globals(&self) -> Result<Vec<(Name, bool)>, AllocError>
-        ensures { IfOk result (λ names. names.items ≡ globals self.now) }
+        ensures kinds { IfOk result (λ names. names.items ≡ globals self.now) }
+        ensures ascend { IsMap self.now.world.globals }
     {
         self.workspace.names.globals()
     }

@@ -1,5 +1,6 @@
 //! The global objects of a workspace.
 ghost use Rattle.std.specs.Prelude.{◌≡◌, OnErr, OnOk, option_copied};
+ghost use Rattle.apl_defn.specs.Defining.{IsDefined};
 ghost use Rattle.apl_machine_state.specs.Objects.{cleared, erased, without_global};
 ghost use Rattle.apl_machine_state.specs.State.{is_variable, with_function};
 ghost use Rattle.apl_names.specs.Maps.{function_in};
@@ -15,6 +16,7 @@ use std::alloc::AllocError;
 /// vectors. After an error nothing has changed.
 pub(crate) fn define(workspace: &mut Workspace, definition: Definition) -> Result<(), AllocError>
     requires sound { IsSound workspace.old }
+    ensures defined { IsDefined definition }
     ensures sound { IsSound workspace.new }
     ensures ok { OnOk result (state_of workspace.new ≡ with_function definition (state_of workspace.old)) }
     ensures err { OnErr result (workspace.new ≡ workspace.old) }

@@ -1,5 +1,6 @@
 //! A workspace taken apart, and put together again.
 ghost use Rattle.std.specs.Prelude.{◌≡◌, IfOk};
+ghost use Rattle.apl_order.specs.Kept.{IsKept};
 ghost use Rattle.apl_parts.specs.Restored.{AreWhole, state_of};
 ghost use Rattle.apl_parts.specs.Taken.{parts_of};
 
@@ -15,7 +16,8 @@ impl Machine {
     /// contexts, each as it waits. What is being done by the newest context, where the machine runs, is told as
     /// if it waited. The error is that memory has run out.
     pub fn parts(&self) -> Result<Parts, AllocError>
-        ensures { IfOk result (λ p. p ≡ parts_of self.now) }
+        ensures kept { IsKept self.now }
+        ensures parts { IfOk result (λ p. p ≡ parts_of self.now) }
     {
         let space = &self.workspace;
         taken(
