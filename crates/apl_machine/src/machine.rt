@@ -161,6 +161,13 @@ impl Machine {
         self.workspace.contexts.line().is_none()
     }
 
+    /// The law that no definition is open in a machine: an open one belongs to a session.
+    pub fn opens_no_definition(&self)
+        ensures { self.now.definition ≡ None }
+    {
+        let _workspace = &self.workspace;
+    }
+
     /// Begins the statement of a typed text. A text that is no line, or has a label, is reported
     /// and leaves the machine idle. After an error the machine is as before.
     pub fn begin(&mut self, text: &[Ch]) -> Result<(), BeginError>
