@@ -2,8 +2,11 @@
 ghost use Rattle.std.specs.Prelude.{◌≡◌, ◌≢◌, ℕ, ◌<◌, ◌≤◌, List, [], ◌++◌, Bool, true, take, length, IfOk, OnOk, OnErr, IsTrue};
 ghost use Rattle.apl_devices.specs.Devices.{TakesFirst, Wrote, Extends};
 
+use thiserror::Error;
+
 /// A device failed, and moved no byte.
-#[derive(Clone, Copy, Debug, PartialEq, Eq)]
+#[derive(Clone, Copy, Debug, PartialEq, Eq, Error)]
+#[error("the device failed")]
 pub struct Failed;
 
 /// A reader, which may tell its bytes.

@@ -5,8 +5,6 @@
 mod devices;
 mod streams;
 mod tape;
-#[cfg(test)]
-mod tests;
 
 pub use devices::{Failed, Sink, Source, read_byte, write_all};
 pub use streams::Device;

@@ -1,9 +1,8 @@
 // Lines that are read and written.
-ghost use Rattle.std.specs.Prelude.{◌≡◌, ◌≢◌, [], ◌∷◌, ◌++◌, IfOk, IfErr, OnOk, OnErr, IsErrOf, IsTrue, true};
+ghost use Rattle.std.specs.Prelude.{◌≡◌, ◌≢◌, [], ◌∷◌, ◌++◌, IfOk, IfErr, IsTrue};
 ghost use Rattle.apl_charset.specs.Text.{bytes};
 ghost use Rattle.apl_session.specs.Transcript.{without_return, written};
-ghost use Rattle.apl_devices.specs.Devices.{Extends};
-ghost use Rattle.apl_session.specs.Runs.{ReadsLine, StopsReading, StopsWriting};
+ghost use Rattle.apl_session.specs.Runs.{ReadsEnd, ReadsLine, Writes, reader_failed, writer_failed};
 
 use crate::runs::RunError;
 use apl_charset::encode;
@@ -24,13 +23,12 @@ fn drop_return(line: &mut Vec<u8>)
 }
 
 /// Reads the next line in place of what the buffer holds. True: a line feed ended it, and it has
-/// lost that and a carriage return before it; false: the input ended behind it.
+/// lost that and a carriage return before it; false: the input ended behind it. After an error the
+/// buffer holds what was read of the line, without a byte for which there was no room.
 pub fn read_line<R: Source>(reader: &mut R, line: &mut Vec<u8>) -> Result<bool, RunError>
     ensures line { IsTrue R.tells → ReadsLine (R.left reader.old) result line.new.items (R.left reader.new) }
-    ensures reading { IfErr result StopsReading }
-    ensures failed { IsErrOf result RunError.Read → R.failed reader.new ≡ true }
-    ensures fine { OnOk result (R.failed reader.new ≡ R.failed reader.old) }
-    ensures other { IfErr result (λ e. e ≢ RunError.Read → R.failed reader.new ≡ R.failed reader.old) }
+    ensures reading { IfErr result (λ e. e ≢ RunError.Write) }
+    ensures reader { R.failed reader.new ≡ reader_failed result (R.failed reader.old) }
 {
     line.clear();
     loop {
@@ -51,6 +49,19 @@ pub fn read_line<R: Source>(reader: &mut R, line: &mut Vec<u8>) -> Result<bool, 
     }
 }
 
+/// Asks for the end behind the last line that may be.
+pub fn read_end<R: Source>(reader: &mut R) -> Result<(), RunError>
+    ensures end { IsTrue R.tells → ReadsEnd (R.left reader.old) result (R.left reader.new) }
+    ensures reading { IfErr result (λ e. e ≢ RunError.Write) }
+    ensures reader { R.failed reader.new ≡ reader_failed result (R.failed reader.old) }
+{
+    match read_byte(reader) {
+        Ok(None) => Ok(()),
+        Ok(Some(_)) => Err(RunError::TooManyLines),
+        Err(Failed) => Err(RunError::Read),
+    }
+}
+
 /// A line as it is written: in UTF-8, with its line feed.
 fn encode_line(alloc: Global, line: &OutLine) -> Result<Vec<u8>, AllocError>
     ensures { IfOk result (λ v. v.items ≡ bytes line.now.text ++ 10 ∷ []) }
@@ -63,12 +74,8 @@ fn encode_line(alloc: Global, line: &OutLine) -> Result<Vec<u8>, AllocError>
 /// Writes a line. After an error a front of it is written.
 #[tactic(auto, using(crate::proofs::Writing::writing))]
 fn write_line<W: Sink>(alloc: Global, writer: &mut W, line: &OutLine) -> Result<(), RunError>
-    ensures ok { IsTrue W.tells → OnOk result (W.written writer.new ≡ W.written writer.old ++ (bytes line.now.text ++ 10 ∷ [])) }
-    ensures prefix { IsTrue W.tells → OnErr result (Extends (W.written writer.old) (W.written writer.new) (bytes line.now.text ++ 10 ∷ [])) }
-    ensures writing { IfErr result StopsWriting }
-    ensures failed { IsErrOf result RunError.Write → W.failed writer.new ≡ true }
-    ensures fine { OnOk result (W.failed writer.new ≡ W.failed writer.old) }
-    ensures other { IfErr result (λ e. e ≢ RunError.Write → W.failed writer.new ≡ W.failed writer.old) }
+    ensures wrote { Writes result (bytes line.now.text ++ 10 ∷ []) W.tells (W.written writer.old) (W.written writer.new) }
+    ensures writer { W.failed writer.new ≡ writer_failed result (W.failed writer.old) }
 {
     let text = encode_line(alloc, line)?;
     match write_all(writer, &text) {
@@ -84,18 +91,11 @@ pub fn write_lines<W: Sink>(
     writer: &mut W,
     lines: &[OutLine],
 ) -> Result<(), RunError>
-    ensures ok { IsTrue W.tells → OnOk result (W.written writer.new ≡ W.written writer.old ++ written lines.now) }
-    ensures prefix { IsTrue W.tells → OnErr result (Extends (W.written writer.old) (W.written writer.new) (written lines.now)) }
-    ensures writing { IfErr result StopsWriting }
-    ensures failed { IsErrOf result RunError.Write → W.failed writer.new ≡ true }
-    ensures fine { OnOk result (W.failed writer.new ≡ W.failed writer.old) }
-    ensures other { IfErr result (λ e. e ≢ RunError.Write → W.failed writer.new ≡ W.failed writer.old) }
+    ensures wrote { Writes result (written lines.now) W.tells (W.written writer.old) (W.written writer.new) }
+    ensures writer { W.failed writer.new ≡ writer_failed result (W.failed writer.old) }
 {
     for line in lines {
-        match write_line(alloc, writer, line) {
-            Ok(()) => {}
-            Err(error) => return Err(error),
-        }
+        write_line(alloc, writer, line)?;
     }
     Ok(())
 }

@@ -1,9 +1,10 @@
 // A machine that is typed to.
 ghost use Rattle.std.specs.Prelude.{◌≡◌, ◌↔◌, [], ◌∷◌, ℕ, ◌<◌, take, slice_get, not, ◌==◌, find, true, Some, None, IfErr, IfOk, OnOk, OnErr, IsErrOf, IsFalse};
-ghost use Rattle.apl_machine_state.specs.State.{is_idle, steps, steps_progress, interrupt};
+ghost use Rattle.apl_machine_state.specs.State.{is_idle, standing, steps, steps_progress, interrupt};
 ghost use Rattle.apl_session.specs.Commands.{commanded};
 ghost use Rattle.apl_session.specs.Defining.{refused, closed, typed_behind_del};
 ghost use Rattle.apl_session.specs.Events as model;
+ghost use Rattle.apl_session.specs.Refusals.{feed_number};
 ghost use Rattle.apl_session.specs.Views.{event as event_view, event_list};
 
 use crate::commands::obey;
@@ -58,10 +59,21 @@ pub enum Event {
 /// Why a line was not taken. The session is as before.
 #[derive(Clone, Copy, Debug, PartialEq, Eq, Error)]
 pub enum FeedError {
+    /// A statement runs. The line may be typed once it has ended or is interrupted.
     #[error("the session runs")]
-    Busy,
+    Busy = 1,
+    /// There was no memory for the line. It may be typed again.
     #[error("out of memory")]
     Memory,
+}
+
+impl FeedError {
+    /// Its number, 1 or 2.
+    pub fn number(self) -> u8
+        ensures { result ≡ feed_number self }
+    {
+        self as u8
+    }
 }
 
 impl From<AllocError> for FeedError {
@@ -107,6 +119,17 @@ fn first_mark(text: &[Ch]) -> Option<Ch>
     text.iter().copied().find(|c| *c != Ch::default())
 }
 
+/// What a machine answers that has made no step.
+fn standing(machine: &Machine) -> Progress
+    ensures { result ≡ standing machine.now }
+{
+    if machine.is_idle() {
+        Progress::Idle
+    } else {
+        Progress::Running
+    }
+}
+
 /// At most `count` steps, and where the machine stands after them. Want of memory gives the number
 /// of those that are done.
 #[tactic(auto, using(crate::proofs::Steps::many_steps))]
@@ -116,11 +139,7 @@ fn advance(machine: &mut Machine, count: u64) -> Result<Progress, u64>
     ensures err { IfErr result (λ done. machine.new ≡ steps done machine.old) }
     ensures part { IfErr result (λ done. done < count) }
 {
-    let mut progress = if machine.is_idle() {
-        Progress::Idle
-    } else {
-        Progress::Running
-    };
+    let mut progress = standing(machine);
     for done in 0..count {
         if machine.is_idle() {
             return Ok(progress);
@@ -147,16 +166,18 @@ impl Session {
 
     /// The machine, as it stands. An open definition is left out.
     pub fn into_machine(self) -> Machine
-        ensures { closed result ≡ closed self }
+        ensures { result ≡ closed self }
     {
         let Session { machine, .. } = self;
+        machine.opens_no_definition();
         machine
     }
 
     /// The machine, as it stands. An open definition is left out.
     pub fn machine(&self) -> &Machine
-        ensures { closed result.now ≡ closed self.now }
+        ensures { result.now ≡ closed self.now }
     {
+        self.machine.opens_no_definition();
         &self.machine
     }
 
@@ -279,7 +300,8 @@ impl Session {
         }
     }
 
-    /// Abandons what runs, with a report; an idle session stays.
+    /// Abandons what runs, with a report; an idle session stays. After an error, which is want of
+    /// memory, the session is as before and still runs.
     pub fn interrupt(&mut self) -> Result<(), AllocError>
         ensures ok { OnOk result (self.new ≡ interrupt self.old) }
         ensures err { OnErr result (self.new ≡ self.old) }

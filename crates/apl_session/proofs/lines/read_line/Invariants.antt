@@ -7,7 +7,7 @@ abbrev pub invariant-loop-line : goal.invariant-loop-line
 invariant-loop-line g l = record {
   is_piece : IsPiece l.line.items;
   read : IsTrue g.R.Source.tells → g.R.Source.left l.fn.reader ≡ l.line.items ++ g.R.Source.left l.reader;
-  fine : g.R.Source.failed l.reader ≡ g.R.Source.failed l.fn.reader;
+  reader : g.R.Source.failed l.reader ≡ g.R.Source.failed l.fn.reader;
 }
 
 abbrev pub decreases-loop-line : goal.decreases-loop-line

@@ -7,5 +7,5 @@ use Rattle.apl_session.proofs.lines.write_lines.Given as goal
 abbrev pub invariant-loop-line : goal.invariant-loop-line
 invariant-loop-line g l = record {
   bytes : IsTrue g.W.Sink.tells → Wrote (g.W.Sink.written l.fn.writer) (g.W.Sink.written l.writer) (written l.lines) (written (drop l.line-index l.lines));
-  fine : g.W.Sink.failed l.writer ≡ g.W.Sink.failed l.fn.writer;
+  writer : g.W.Sink.failed l.writer ≡ g.W.Sink.failed l.fn.writer;
 }
