@@ -1,68 +1,138 @@
-// The words of the command line, and how the program ends.
-use super::{Ended, RunError, steps_in};
+// What the program writes, and how it ends.
+use super::{Ended, run_as};
+use apl_session::{RunError, Tape};
 use std::alloc::{AllocError, Global};
 use std::test::Fail;
 
 /// The program's name and these words.
-fn words(alloc: Global, given: &[&str]) -> Result<Vec<String>, AllocError> {
-    let mut words = Vec::new(alloc);
-    words
-        .push(String::from_str(alloc, "apl")?)
-        .map_err(|_| AllocError)?;
-    for word in given {
-        words
-            .push(String::from_str(alloc, *word)?)
-            .map_err(|_| AllocError)?;
+fn called(alloc: Global, words: &[&str]) -> Result<Vec<String>, AllocError> {
+    let mut called = Vec::with_capacity(alloc, words.len() + 1)?;
+    called.push(String::from_str(alloc, "apl")?)?;
+    for word in words {
+        called.push(String::from_str(alloc, *word)?)?;
     }
-    Ok(words)
+    Ok(called)
 }
 
+/// The status and the text of a run's end.
+fn told(alloc: Global, ended: Result<(), Ended>) -> Result<(u8, String), AllocError> {
+    match ended {
+        Ok(()) => Ok((0, String::new(alloc))),
+        Err(ended) => Ok((ended.status(), format!(in alloc; "{ended}")?)),
+    }
+}
+
+/// Whether a run of this line ends with the status, writes the output and tells the text.
+fn ends(
+    alloc: Global,
+    words: &[&str],
+    (status, output, text): (u8, &str, &str),
+) -> Result<bool, AllocError> {
+    let mut reader = Tape::new(Vec::from_slice(alloc, "2+3×4\n".as_bytes())?);
+    let mut writer = Tape::new(Vec::new(alloc));
+    let words = called(alloc, words)?;
+    let ended = run_as(alloc, words.as_slice(), &mut reader, &mut writer);
+    let (number, said) = told(alloc, ended)?;
+    Ok(number == status && said.as_str() == text && writer.bytes() == output.as_bytes())
+}
+
+const HELP: &str = "Usage: apl [OPTIONS]
+
+Options:
+      --steps <N>  The most steps of a line, 1 to 1000000000, else 1000000
+  -h, --help       Print help
+";
+
 #[test]
-fn right_words(rt: HostRuntime) -> Result<(), Fail> {
+fn words(rt: HostRuntime) -> Result<(), Fail> {
     let rows = [
-        ([].as_slice(), 1_000_000),
-        (&["--steps", "1"], 1),
-        (&["--steps=1000000000"], 1_000_000_000),
+        ([].as_slice(), (0, "14\n", "")),
+        (&["--steps", "3"], (0, "14\n", "")),
+        (&["--steps=2"], (0, "INTERRUPT\n      2+3×4\n      ^\n", "")),
+        (&["--steps", "1000000000"], (0, "14\n", "")),
+        (&["--help"], (0, "", HELP)),
+        (
+            &["--steps", "0"],
+            (
+                1,
+                "",
+                "error: invalid value '0' for '--steps <N>': 0 is not in 1..=1000000000\n\nFor more information, try '--help'.\n",
+            ),
+        ),
+        (
+            &["--steps", "1000000001"],
+            (
+                1,
+                "",
+                "error: invalid value '1000000001' for '--steps <N>': 1000000001 is not in 1..=1000000000\n\nFor more information, try '--help'.\n",
+            ),
+        ),
+        (
+            &["--steps", "many"],
+            (
+                1,
+                "",
+                "error: invalid value 'many' for '--steps <N>': invalid digit found in string\n\nFor more information, try '--help'.\n",
+            ),
+        ),
+        (
+            &["--steps", "-1"],
+            (
+                1,
+                "",
+                "error: unexpected argument '-1' found\n\nUsage: apl [OPTIONS]\n\nFor more information, try '--help'.\n",
+            ),
+        ),
+        (
+            &["--steps"],
+            (
+                1,
+                "",
+                "error: a value is required for '--steps <N>' but none was supplied\n\nFor more information, try '--help'.\n",
+            ),
+        ),
+        (
+            &["--steps", "5", "--steps", "6"],
+            (
+                1,
+                "",
+                "error: the argument '--steps <N>' cannot be used multiple times\n\nUsage: apl [OPTIONS]\n\nFor more information, try '--help'.\n",
+            ),
+        ),
+        (
+            &["WS"],
+            (
+                1,
+                "",
+                "error: unexpected argument 'WS' found\n\nUsage: apl [OPTIONS]\n\nFor more information, try '--help'.\n",
+            ),
+        ),
+        (
+            &["--step", "5"],
+            (
+                1,
+                "",
+                "error: unexpected argument '--step' found\n\n  tip: a similar argument exists: '--steps'\n\nUsage: apl --steps <N>\n\nFor more information, try '--help'.\n",
+            ),
+        ),
     ];
-    for (given, want) in rows {
-        let words = words(rt.alloc(), given)?;
-        assert_eq!(rt; steps_in(rt.alloc(), words.as_slice()).ok(), Some(want));
+    for (words, end) in rows {
+        assert!(rt; ends(rt.alloc(), words, end)?, "{words:?}");
     }
     Ok(())
 }
 
 #[test]
-fn wrong_words(rt: HostRuntime) -> Result<(), Fail> {
-    let rows = [
-        (["--steps", "0"].as_slice(), true),
-        (&["--steps", "1000000001"], true),
-        (&["--steps", "-1"], true),
-        (&["--steps", "many"], true),
-        (&["--steps"], true),
-        (&["--steps", "5", "--steps", "6"], true),
-        (&["WS"], true),
-        (&["--step", "5"], true),
-        (&["--help"], false),
-    ];
-    for (given, is_wrong) in rows {
-        let words = words(rt.alloc(), given)?;
-        match steps_in(rt.alloc(), words.as_slice()) {
-            Ok(_) => assert!(rt; false),
-            Err(error) => assert_eq!(rt; error.use_stderr(), is_wrong),
-        }
-    }
-    Ok(())
-}
-
-#[test]
-fn statuses(rt: HostRuntime) {
-    for (ended, status) in [
-        (Ended::Helped, 0),
-        (Ended::Words, 1),
-        (Ended::from(RunError::Memory), 3),
-        (Ended::from(RunError::Write), 4),
-        (Ended::from(RunError::TooManyLines), 4),
+fn runs_that_fail(rt: HostRuntime) -> Result<(), Fail> {
+    for (error, status, text) in [
+        (RunError::Read, 4, "apl: run: 1\n"),
+        (RunError::Write, 4, "apl: run: 2\n"),
+        (RunError::Memory, 3, "apl: memory\n"),
+        (RunError::LineTooLong, 4, "apl: run: 4\n"),
+        (RunError::TooManyLines, 4, "apl: run: 5\n"),
     ] {
-        assert_eq!(rt; ended.status(), status);
+        let (number, said) = told(rt.alloc(), Err(Ended::from(error)))?;
+        assert_eq!(rt; (number, said.as_str()), (status, text));
     }
+    Ok(())
 }

@@ -3,6 +3,7 @@ ghost use Rattle.std.specs.Prelude.{◌≡◌, [], map, take, reverse, IfOk, OnO
 ghost use Rattle.std.specs.List.{count_by};
 ghost use Rattle.apl_listing.specs.Kinds.{is_stacked, is_empty, after, kinds};
 
+use crate::writing::instruction;
 use apl_code::{Action, Code, Instr, Source};
 use std::alloc::{AllocError, Global};
 use std::marker::Model;
@@ -81,10 +82,7 @@ pub fn kinds(alloc: Global, code: &Code, count: usize) -> Result<Vec<Kind>, Allo
 {
     let mut stack = Vec::new(alloc);
     for k in 0..count.min(code.len()) {
-        let Some(instr) = code.instr(k) else {
-            unreachable!()
-        };
-        step(alloc, &mut stack, instr)?;
+        step(alloc, &mut stack, instruction(code, k))?;
     }
     stack.reverse();
     Ok(stack)

@@ -1,5 +1,5 @@
 //! Listings, written.
-ghost use Rattle.std.specs.Prelude.{◌≡◌, ◌++◌, ◌∷◌, [], map, decimal, true, IfOk, OnOk};
+ghost use Rattle.std.specs.Prelude.{◌≡◌, ◌<◌, ◌++◌, ◌∷◌, [], length, slice_get, map, decimal, Some, true, IfOk, OnOk};
 ghost use Rattle.std.specs.Int.{is_in_range};
 ghost use Rattle.std.specs.List.{list_all};
 ghost use Rattle.apl_charset.specs.Text.{bytes};
@@ -259,6 +259,33 @@ fn push_text(out: &mut Vec<u8>, text: &[Ch]) -> Result<(), AllocError>
     Ok(())
 }
 
+/// The instruction of this number.
+pub(crate) fn instruction(code: &Code, number: usize) -> &Instr
+    requires { number < length code.now }
+    ensures { slice_get code.now number ≡ Some result.now }
+{
+    let Some(instr) = code.instr(number) else {
+        unreachable!()
+    };
+    instr
+}
+
+/// Adds a line in UTF-8; `text` is room for its characters.
+fn push_line(
+    out: &mut Vec<u8>,
+    text: &mut Vec<Ch>,
+    number: usize,
+    instr: &Instr,
+) -> Result<(), AllocError>
+    ensures { OnOk result (out.new.items ≡ out.old.items ++ line number instr.now) }
+{
+    text.clear();
+    push_body(text, number, instr)?;
+    push_text(out, text.as_slice())?;
+    out.push(b'\n')?;
+    Ok(())
+}
+
 /// The listing of a code, in UTF-8: a line for each instruction, with its number from 0, a blank,
 /// what it does and with what operands, a blank, `@` and its place, and a line feed.
 pub fn listing(alloc: Global, code: &Code) -> Result<Vec<u8>, AllocError>
@@ -267,13 +294,7 @@ pub fn listing(alloc: Global, code: &Code) -> Result<Vec<u8>, AllocError>
     let mut out = Vec::new(alloc);
     let mut text = Vec::new(alloc);
     for number in 0..code.len() {
-        let Some(instr) = code.instr(number) else {
-            unreachable!()
-        };
-        text.clear();
-        push_body(&mut text, number, instr)?;
-        push_text(&mut out, text.as_slice())?;
-        out.push(b'\n')?;
+        push_line(&mut out, &mut text, number, instruction(code, number))?;
     }
     Ok(out)
 }

@@ -14,4 +14,4 @@ kinds_more code count k i stack next all lt got e all_is =
     ∙ all_is
 
 pub loop-k-preserved : goal.loop-k-preserved
-loop-k-preserved c = kinds_more c.args.code.now c.args.count c.loop-k.k c.in-Some.instr.now (reverse c.loop-k.stack.items) (reverse c.step.new.stack.items) (kinds [] (take c.args.count c.args.code.now)) (omega arith) (sym c.in-Some.ensures) c.in_ok-step.ensures c.loop-k.invariant
+loop-k-preserved c = kinds_more c.args.code.now c.args.count c.loop-k.k c.instruction.result.now (reverse c.loop-k.stack.items) (reverse c.step.new.stack.items) (kinds [] (take c.args.count c.args.code.now)) (omega arith) c.instruction.ensures c.in_ok-step.ensures c.loop-k.invariant

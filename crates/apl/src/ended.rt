@@ -1,0 +1,71 @@
+//! How the program ends where it does not run all its input.
+
+use apl_session::RunError;
+use apl_words::WordsError;
+use std::alloc::{AllocError, Global};
+use std::io;
+use thiserror::Error;
+
+/// Why the program ends before all its input is run. Its `Display` is the text for the user, with
+/// its last line feed.
+#[derive(Debug, Drop, Error)]
+pub(crate) enum Ended {
+    /// The help is asked for: its text.
+    #[error("{0}")]
+    Helped(String),
+    /// The words of the command line are wrong: what is.
+    #[error("{0}")]
+    Words(String),
+    #[error("apl: memory\n")]
+    Memory,
+    /// The run ended with the error of this number.
+    #[error("apl: run: {0}\n")]
+    Run(u8),
+}
+
+impl From<WordsError> for Ended {
+    fn from(error: WordsError) -> Ended {
+        match error {
+            WordsError::Help(text) => Ended::Helped(text),
+            WordsError::Wrong(text) => Ended::Words(text),
+            WordsError::Memory => Ended::Memory,
+        }
+    }
+}
+
+impl From<RunError> for Ended {
+    fn from(error: RunError) -> Ended {
+        match error {
+            RunError::Memory => Ended::Memory,
+            _ => Ended::Run(error.number()),
+        }
+    }
+}
+
+impl Ended {
+    /// A word is no UTF-8.
+    pub(crate) fn no_text(alloc: Global) -> Ended {
+        match String::from_str(alloc, "apl: a word is no text\n") {
+            Ok(text) => Ended::Words(text),
+            Err(AllocError) => Ended::Memory,
+        }
+    }
+
+    /// The exit status.
+    pub(crate) fn status(&self) -> u8 {
+        match self {
+            Ended::Helped(_) => 0,
+            Ended::Words(_) => 1,
+            Ended::Memory => 3,
+            Ended::Run(_) => 4,
+        }
+    }
+
+    /// Writes the text: the help on standard output, the others on standard error.
+    pub(crate) fn print<R: Print + Eprint>(&self, rt: &R) -> io::Result<()> {
+        match self {
+            Ended::Helped(_) => rt.print(self),
+            _ => rt.eprint(self),
+        }
+    }
+}
