@@ -7,18 +7,14 @@
 ghost use Rattle.std.specs.Prelude.{IfOk, ◌≤◌, length};
 
 mod comparing;
-mod names;
 mod player;
+mod same;
 mod shown;
-#[cfg(test)]
-mod tests;
 
 use crate::comparing::{Difference, compare};
-use crate::names::names_in;
 use crate::player::Player;
 use crate::shown::Shown;
 use apl_machine::OutLine;
-use apl_symbols::Name;
 use std::alloc::{AllocError, Global};
 use std::io::{self, Read};
 use std::process::ExitCode;
@@ -104,20 +100,16 @@ fn has_output(player: &mut Player<'_>) -> bool {
 
 /// Looks at a session whose next call was refused its memory, and makes that call again. Beside it stands another to
 /// which the same calls were made, and nothing was refused.
-fn go_on_beside(
-    player: &mut Player<'_>,
-    other: &mut Player<'_>,
-    names: &[Name],
-) -> Result<(), Wrong> {
+fn go_on_beside(player: &mut Player<'_>, other: &mut Player<'_>) -> Result<(), Wrong> {
     if has_output(player) {
         return Err(Wrong::Changed(Difference::Output));
     }
-    if let Some(what) = compare(player.machine(), other.machine(), names)? {
+    if let Some(what) = compare(player.machine(), other.machine())? {
         return Err(Wrong::Changed(what));
     }
     player.play()?;
     other.play()?;
-    match compare(player.machine(), other.machine(), names)? {
+    match compare(player.machine(), other.machine())? {
         Some(what) => Err(Wrong::Strayed(what)),
         None => Ok(()),
     }
@@ -125,26 +117,14 @@ fn go_on_beside(
 
 /// Looks at a session whose next call was refused its memory, and makes that call again.
 fn go_on(alloc: Global, input: &[u8], player: &mut Player<'_>) -> Result<(), Wrong> {
-    let names = names_in(alloc, input)?;
     let mut other = Player::after(alloc, input, player.calls())?;
-    go_on_beside(player, &mut other, &names)
-}
-
-/// What tells a session from one to which the same calls were made, and nothing was refused.
-fn told(
-    alloc: Global,
-    input: &[u8],
-    player: &Player<'_>,
-    names: &[Name],
-) -> Result<Option<Difference>, AllocError> {
-    let other = Player::after(alloc, input, player.calls())?;
-    compare(player.machine(), other.machine(), names)
+    go_on_beside(player, &mut other)
 }
 
 /// Looks at a session at its end, some call of which was refused its memory, as `go_on` does.
 fn compare_end(alloc: Global, input: &[u8], player: &Player<'_>) -> Result<(), Wrong> {
-    let names = names_in(alloc, input)?;
-    match told(alloc, input, player, &names)? {
+    let other = Player::after(alloc, input, player.calls())?;
+    match compare(player.machine(), other.machine())? {
         Some(what) => Err(Wrong::Strayed(what)),
         None => Ok(()),
     }

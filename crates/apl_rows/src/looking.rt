@@ -1,0 +1,140 @@
+//! Looks at a machine.
+
+use crate::codes::{bound_line, write_code};
+use crate::words::{count, name};
+use crate::writing::{
+    write_characters, write_class, write_counts, write_line, write_operands, write_value,
+};
+use apl_debug::{state_indicator, stops, traces};
+use apl_machine::{Level, Machine};
+use apl_symbols::Name;
+use std::alloc::{AllocError, Global};
+
+/// Writes what the context of this number is doing, from 0 for the newest: its code, how many of its instructions are
+/// done, and its operands.
+pub fn write_frame(
+    alloc: Global,
+    out: &mut String,
+    machine: &Machine,
+    text: &str,
+) -> Result<(), AllocError> {
+    match machine.frame(count(text)) {
+        Some(frame) => {
+            write_code(alloc, out, frame.code)?;
+            writeln!(out, "{} done", frame.done)?;
+            write_operands(out, frame.operands)
+        }
+        None => write_line(out, "no frame"),
+    }
+}
+
+/// Writes the value of a name.
+pub fn write_value_of(
+    alloc: Global,
+    out: &mut String,
+    machine: &Machine,
+    text: &str,
+) -> Result<(), AllocError> {
+    match name(alloc, text)? {
+        Some(name) => write_value(out, machine.value(&name)),
+        None => write_line(out, "no name"),
+    }
+}
+
+/// Writes the class of a name, whether it is that of a global variable, and whether of a global function.
+pub fn write_class_of(
+    alloc: Global,
+    out: &mut String,
+    machine: &Machine,
+    text: &str,
+) -> Result<(), AllocError> {
+    let Some(name) = name(alloc, text)? else {
+        return write_line(out, "no name");
+    };
+    write_class(out, machine.class_of(&name))?;
+    if machine.is_variable(&name) {
+        out.push_str(", a global variable")?;
+    }
+    if machine.definition(&name).is_some() {
+        out.push_str(", a global function")?;
+    }
+    out.push('\n')
+}
+
+/// Writes a vector of lines, if there is one.
+fn write_vector(out: &mut String, word: &str, lines: Option<&[usize]>) -> Result<(), AllocError> {
+    out.push_str(word)?;
+    match lines {
+        Some(lines) => write_counts(out, lines)?,
+        None => out.push_str("none")?,
+    }
+    out.push('\n')
+}
+
+/// Writes the stop and trace vectors of a function.
+pub fn write_watched(
+    alloc: Global,
+    out: &mut String,
+    machine: &Machine,
+    text: &str,
+) -> Result<(), AllocError> {
+    let Some(name) = name(alloc, text)? else {
+        return write_line(out, "no name");
+    };
+    write_vector(out, "stops: ", stops(machine, &name))?;
+    write_vector(out, "traces: ", traces(machine, &name))
+}
+
+/// Writes standing calls, a line each.
+fn write_calls(out: &mut String, levels: &[Level]) -> Result<(), AllocError> {
+    for level in levels {
+        write_characters(out, level.name.as_slice())?;
+        write!(out, " at {}", level.line)?;
+        write_line(out, if level.suspended { ", suspended" } else { "" })?;
+    }
+    Ok(())
+}
+
+/// Writes the standing calls, newest first.
+pub fn write_levels(out: &mut String, machine: &Machine) -> Result<(), AllocError> {
+    let levels = state_indicator(machine)?;
+    write_calls(out, &levels)
+}
+
+/// Writes names, each with what it is.
+fn write_objects(out: &mut String, names: &[(Name, bool)]) -> Result<(), AllocError> {
+    for (name, is_function) in names {
+        write_characters(out, name.as_slice())?;
+        write_line(
+            out,
+            if *is_function {
+                " function"
+            } else {
+                " variable"
+            },
+        )?;
+    }
+    Ok(())
+}
+
+/// Writes the global names.
+pub fn write_globals(out: &mut String, machine: &Machine) -> Result<(), AllocError> {
+    let names = machine.globals()?;
+    write_objects(out, &names)
+}
+
+/// Writes whether the cache has the code of a line, where its names have these classes.
+pub fn write_cached(
+    alloc: Global,
+    out: &mut String,
+    machine: &Machine,
+    text: &str,
+) -> Result<(), AllocError> {
+    let Some(bound) = bound_line(alloc, text)? else {
+        return write_line(out, "no line");
+    };
+    match machine.cache().cached(&bound) {
+        Some(code) => write_code(alloc, out, code),
+        None => write_line(out, "not kept"),
+    }
+}
