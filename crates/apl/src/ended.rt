@@ -1,6 +1,6 @@
 //! How the program ends where it does not run all its input.
 
-use apl_session::RunError;
+use apl_runs::RunError;
 use apl_words::WordsError;
 use std::alloc::{AllocError, Global};
 use std::io;
@@ -10,7 +10,7 @@ use thiserror::Error;
 /// its last line feed.
 #[derive(Debug, Drop, Error)]
 pub(crate) enum Ended {
-    /// The help is asked for: its text.
+    /// The help or the version is asked for: its text.
     #[error("{0}")]
     Helped(String),
     /// The words of the command line are wrong: what is.

@@ -7,8 +7,8 @@ mod ended;
 mod tests;
 
 use apl_machine::Machine;
-use apl_session::{Device, Sink, Source, run};
-use apl_words::planned;
+use apl_runs::{Device, Sink, Source, run, run_resumed};
+use apl_words::{Way, planned};
 use ended::Ended;
 use std::alloc::Global;
 use std::env;
@@ -33,7 +33,11 @@ fn run_as<R: Source, W: Sink>(
     output: &mut W,
 ) -> Result<(), Ended> {
     let plan = planned(alloc, words)?;
-    run(alloc, Machine::new(alloc), input, output, plan.steps)?;
+    let ws = Machine::new(alloc);
+    match plan.way {
+        Way::Plain => run(alloc, ws, input, output, plan.steps)?,
+        Way::Resumed => run_resumed(alloc, ws, input, output, plan.steps)?,
+    };
     Ok(())
 }
 

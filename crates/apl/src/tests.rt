@@ -1,6 +1,6 @@
 // What the program writes, and how it ends.
 use super::{Ended, run_as};
-use apl_session::{RunError, Tape};
+use apl_runs::{RunError, Tape};
 use std::alloc::{AllocError, Global};
 use std::test::Fail;
 
@@ -40,8 +40,17 @@ const HELP: &str = "Usage: apl [OPTIONS]
 
 Options:
       --steps <N>  The most steps of a line, 1 to 1000000000, else 1000000
+      --resume     Answer each stop by the line →⎕LC
   -h, --help       Print help
+  -V, --version    Print version
+
+Examples:
+  apl <lines               Run the lines of a file
+  apl --steps 5000 <lines  Interrupt each line that has made 5000 steps
+  apl --resume <lines      Go on at each stop
 ";
+
+const VERSION: &str = "apl 2026-11-25 (rattle-kit-13f logic dac8208d650f15bf)\n";
 
 #[test]
 fn words(rt: HostRuntime) -> Result<(), Fail> {
@@ -50,7 +59,10 @@ fn words(rt: HostRuntime) -> Result<(), Fail> {
         (&["--steps", "3"], (0, "14\n", "")),
         (&["--steps=2"], (0, "INTERRUPT\n      2+3×4\n      ^\n", "")),
         (&["--steps", "1000000000"], (0, "14\n", "")),
+        (&["--resume"], (0, "14\n", "")),
+        (&["--resume", "--steps", "3"], (0, "14\n", "")),
         (&["--help"], (0, "", HELP)),
+        (&["--version"], (0, "", VERSION)),
         (
             &["--steps", "0"],
             (
@@ -105,6 +117,14 @@ fn words(rt: HostRuntime) -> Result<(), Fail> {
                 1,
                 "",
                 "error: unexpected argument 'WS' found\n\nUsage: apl [OPTIONS]\n\nFor more information, try '--help'.\n",
+            ),
+        ),
+        (
+            &["--resume", "--resume"],
+            (
+                1,
+                "",
+                "error: the argument '--resume' cannot be used multiple times\n\nUsage: apl [OPTIONS]\n\nFor more information, try '--help'.\n",
             ),
         ),
         (

@@ -105,6 +105,17 @@ goes_on : (b : Bool) (s : State) → (b ≡ true → IsResumed s) → (if b then
 goes_on true s r = (r refl).begins
 goes_on false s r = refl
 
+-- a step keeps the open definition
+applied-opens : (s : State) (c : Change) → (going (applied s c)).definition ≡ s.definition
+applied-opens s Rests = refl
+applied-opens s (Moves w contexts lines ended) = refl
+applied-opens s (AsksStops w name lines given) = refl
+applied-opens s (Arrives w d n locals below lines ended) = (arrived-keeps (is_line d n) s w d n locals below lines ended).0
+
+pub ready-next : (s : State) → IsReady s → IsReady (after_stop (turn s))
+ready-next s (inl none) = inl (ap (λ (t : State). t.definition) (goes_on (turn s).stopped (turn s).state (turn-resumed s (inl none))) ∙ applied-opens s (change s.world s.contexts) ∙ none)
+ready-next s (inr idle) = inr (ap is_idle (ap after_stop (turn-idle s idle)) ∙ idle)
+
 -- what one step of the cut run is to the other run
 pub record StepMatches (s : State) : Type 0 where
   pub same : free (after_stop (turn s)) ≡ step (free s)

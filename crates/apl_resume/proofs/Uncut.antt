@@ -7,10 +7,10 @@ use Rattle.apl_machine_state.specs.Changes.{Change, Rests, Moves, AsksStops, Arr
 use Rattle.apl_machine_state.specs.State.{State, turn, step, steps, is_idle, interrupt}
 use Rattle.apl_session.specs.Events.{typed}
 use Rattle.apl_resume.specs.Cut.{free, unstopped, resumed, after_stop, cut_steps, stops_in, IsQuietRun, is_named_by, named_in, moves, cut_moves, count}
-use Rattle.apl_resume.specs.Law.{CutIsUncut}
+use Rattle.apl_resume.specs.Law.{CutIsUncut, CutInSingleSteps}
 use Rattle.apl_resume.proofs.Typing.{IsLine, IsSettled, settled_line, typed_line}
 use Rattle.apl_resume.proofs.Stops.{IsReady, StepMatches, matches, cut-free, stops-named, moves-cut, stops-most, interrupt-free, applied-stops, idle-rests, step-idle}
-use Rattle.apl_resume.proofs.Single.{single-steps, single-stops}
+use Rattle.apl_resume.proofs.Single.{single-steps, single-stops, budget-lasts}
 
 -- in a run without stop vectors nothing stops
 never : (b : Bool) → (b && false) ≡ false
@@ -75,6 +75,34 @@ named-vectors : (v w : Vectors) (n : ℕ) (s u : State) → (is_idle s ≡ true)
 named-vectors v w n s u (inl idle) e = idle-names w n u (e ∙ idle) ∙ sym (idle-names v n u (e ∙ idle))
 named-vectors v w n s u (inr same) e = ap (λ (a : Vectors). named_in a n u) same
 
+-- an idle state stays
+steps-idle : (n : ℕ) (s : State) → is_idle s ≡ true → steps n s ≡ s
+steps-idle zero s idle = refl
+steps-idle (suc n) s idle = ap (steps n) (step-idle s idle) ∙ steps-idle n s idle
+
+-- a state that runs after n steps has made all of them
+all-but : (b : Bool) (n : ℕ) (s : State) → is_idle s ≡ b → is_idle (steps n (step s)) ≡ false → moves n (step s) ≡ n → count (not b) + moves n (step s) ≡ suc n
+all-but false n s idle runs later = let one : 1 + moves n (step s) ≡ suc n = omega arith in one
+all-but true n s idle runs later = let stays : is_idle (steps n (step s)) ≡ true = ap is_idle (ap (steps n) (step-idle s idle) ∙ steps-idle n s idle) ∙ idle in cc
+
+all-moves : (n : ℕ) (s : State) → is_idle (steps n s) ≡ false → moves n s ≡ n
+all-moves zero s runs = refl
+all-moves (suc n) s runs = all-but (is_idle s) n s refl runs (all-moves n (step s) runs)
+
+-- IN SINGLE STEPS
+pub cut_in_single_steps : CutInSingleSteps
+cut_in_single_steps x line n idle =
+    let s : State = typed x line in
+    let known : IsLine x s (typed (free x) line) = settled_line x line idle (typed_line x line idle) in
+    let ready : IsReady s = ready-line x s known.settled in
+    record {
+      made = n + 2 * stops_in n s;
+      spent = ap (λ (k : ℕ). n + 2 * k) (sym (single-stops n s ready));
+      lasts = budget-lasts n s ready;
+      state = ap interrupt (sym (single-steps n s ready));
+      stops = sym (single-stops n s ready);
+    }
+
 -- THE LAW
 pub cut_is_uncut : CutIsUncut
 cut_is_uncut x line n idle quiet =
@@ -91,8 +119,11 @@ cut_is_uncut x line n idle quiet =
     record {
       at_the_end = interrupt-free (cut_steps n s) ∙ ap interrupt (way n all) ∙ sym (interrupt-free (steps n u));
       on_the_way = way;
-      in_single_steps = λ k le. single-steps k s ready (quiet_s k le);
-      stops_in_single_steps = λ k le. single-stops k s ready (quiet_s k le);
+      interrupted = λ runs.
+          let made : moves n u ≡ n = all-moves n u runs in
+          let a : cut_moves n s ≡ moves n (free s) + 2 * stops_in n s = moves-cut n s ready (quiet_s n all) in
+          let b : moves n (free s) ≡ moves n u = ap (moves n) both ∙ sym (freed n all).taken in
+          (made, omega arith, way n all);
       stops = λ k le. stops-named k s ready (quiet_s k le) ∙ ap (named_in s.stops k) both ∙ sym ((freed k le).lines s.stops) ∙ named-vectors x.stops s.stops k s u (stops-line x s known.settled) (sym (ap is_idle both));
       steps_taken = λ k le.
           let a : cut_moves k s ≡ moves k (free s) + 2 * stops_in k s = moves-cut k s ready (quiet_s k le) in

@@ -5,5 +5,5 @@
 mod law;
 mod resume;
 
-pub use law::{always_in_order, cut_is_uncut, quiet_where_clean};
+pub use law::{always_in_order, cut_in_single_steps, cut_is_uncut, quiet_where_clean};
 pub use resume::resume_all;

@@ -3,10 +3,10 @@ ghost use Rattle.std.specs.Prelude.{◌≡◌, ◌↔◌, ◌≤◌, ℕ, true, 
 ghost use Rattle.apl_machine_state.specs.State.{is_idle, steps, turn};
 ghost use Rattle.apl_session.specs.Events.{typed};
 ghost use Rattle.apl_resume.specs.Cut.{IsQuietRun, after_stop, cut, cut_steps, resume_line, resumed, stops_in, unstopped};
-ghost use Rattle.apl_resume.specs.Law.{IsSameRun};
+ghost use Rattle.apl_resume.specs.Law.{IsCut, IsSameRun};
 ghost use Rattle.apl_resume.specs.UnderWay.{IsAnswering, IsPartOfRun, IsUnderWay, IsWithin};
 
-use crate::law::cut_is_uncut;
+use crate::law::{cut_in_single_steps, cut_is_uncut};
 use apl_machine::Progress;
 use apl_session::{FeedError, Session};
 use std::alloc::AllocError;
@@ -71,7 +71,8 @@ fn steps_on(session: &mut Session, count: u64) -> Result<u64, AllocError>
 }
 
 /// Types a line and gives it `count` steps and two more for each stop, answers each stop by the line
-/// `→⎕LC`, interrupts what still runs then, and tells how many stops there were. Busy exactly where
+/// `→⎕LC`, interrupts what still runs then, and tells how many stops there were. It is the run in
+/// single steps, whatever the session's state (clause `single_steps`). Busy exactly where
 /// the session runs; it is as before then. After want of memory it stands after the steps that are
 /// done.
 pub fn resume_all(session: &mut Session, line: &[u8], count: u64) -> Result<u64, FeedError>
@@ -79,10 +80,12 @@ pub fn resume_all(session: &mut Session, line: &[u8], count: u64) -> Result<u64,
     ensures ok { OnOk result (session.new ≡ cut session.old line.now count) }
     ensures stops { IfOk result (λ s. s ≡ stops_in count (typed session.old line.now)) }
     ensures err { OnErr result (IsUnderWay session.old line.now count session.new) }
+    ensures single_steps { IfOk result (λ s. IsCut session.old line.now count session.new s) }
     ensures unchanged { IsErrOf result FeedError.Busy → session.new ≡ session.old }
     ensures law { is_idle session.old ≡ true → IsQuietRun count (typed (unstopped session.old) line.now) → IsSameRun session.old line.now count }
 {
     cut_is_uncut();
+    cut_in_single_steps();
     session.feed(line)?;
     let stops = steps_on(session, count)?;
     session.interrupt()?;

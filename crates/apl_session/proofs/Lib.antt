@@ -1,9 +1,5 @@
 pub mod Steps
 pub mod Opened
 pub mod Events
-pub mod Writing
-pub mod Reading
-pub mod Transcripts
-pub mod Reached
 pub mod Blanks
 pub mod Obeyed

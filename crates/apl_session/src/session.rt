@@ -309,8 +309,10 @@ impl Session {
         self.machine.interrupt()
     }
 
-    /// One event. Want of memory gives the number of its steps that are done.
-    fn apply(&mut self, event: &Event) -> Result<(), u64>
+    /// One event: a line is typed, which changes nothing in a session that runs, at most so many
+    /// steps are made, or what runs is abandoned. Want of memory gives the number of the event's
+    /// steps that are done, 0 for a line and for an interrupt; the session stands after those steps.
+    pub fn apply(&mut self, event: &Event) -> Result<(), u64>
         ensures ok { OnOk result (self.new ≡ model.after_event self.old (event_view event.now)) }
         ensures err { IfErr result (λ done. self.new ≡ steps done self.old) }
         ensures part { IfErr result (λ done. model.IsPart done (Some (event_view event.now))) }

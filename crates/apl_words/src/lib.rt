@@ -2,13 +2,23 @@
 #![tactic(auto)]
 
 use clap::error::ErrorKind;
-use clap::{Arg, Command, value_parser};
+use clap::{Arg, ArgAction, ArgMatches, Command, value_parser};
 use std::alloc::{AllocError, Global};
 use thiserror::Error;
+
+/// How the input is run.
+#[derive(Clone, Copy, PartialEq, Eq, Debug)]
+pub enum Way {
+    /// Line by line, each to its end or for as many steps as it is given.
+    Plain,
+    /// The same, and each stop is answered by the line `→⎕LC`.
+    Resumed,
+}
 
 /// What the words ask for.
 #[derive(Clone, Copy, PartialEq, Eq, Debug)]
 pub struct Plan {
+    pub way: Way,
     /// The most steps of a line: 1 to 1,000,000,000; 1,000,000 where the words don't say.
     pub steps: u64,
 }
@@ -16,7 +26,7 @@ pub struct Plan {
 /// Why the words ask for no run.
 #[derive(Debug, Drop, Error)]
 pub enum WordsError {
-    /// The help is asked for; this is its text.
+    /// The help or the version is asked for; this is its text.
     #[error("{0}")]
     Help(String),
     /// The words are wrong; this tells what is.
@@ -32,20 +42,56 @@ impl From<AllocError> for WordsError {
     }
 }
 
-/// The command line: one option.
-fn command<'a>(alloc: Global) -> Result<Command<'a>, AllocError> {
-    let steps = Arg::new(alloc, "steps")
+/// The option `--steps`.
+fn steps<'a>(alloc: Global) -> Arg<'a> {
+    Arg::new(alloc, "steps")
         .long("steps")
         .value_name("N")
         .help("The most steps of a line, 1 to 1000000000, else 1000000")
-        .value_parser(value_parser!(u64).range(1..=1_000_000_000));
-    Command::new(alloc, "apl").arg(steps)
+        .value_parser(value_parser!(u64).range(1..=1_000_000_000))
+}
+
+/// The flag `--resume`.
+fn resume<'a>(alloc: Global) -> Arg<'a> {
+    Arg::new(alloc, "resume")
+        .long("resume")
+        .help("Answer each stop by the line →⎕LC")
+        .action(ArgAction::SetTrue)
+}
+
+/// The day of the newest changes that CHANGELOG.md tells of, and the kit that the program is proved
+/// with.
+const VERSION: &str = "2026-11-25 (rattle-kit-13f logic dac8208d650f15bf)";
+
+/// An example of each word.
+const EXAMPLES: &str = "Examples:
+  apl <lines               Run the lines of a file
+  apl --steps 5000 <lines  Interrupt each line that has made 5000 steps
+  apl --resume <lines      Go on at each stop";
+
+/// The command line.
+fn command<'a>(alloc: Global) -> Result<Command<'a>, AllocError> {
+    Command::new(alloc, "apl")
+        .version(VERSION)
+        .after_help(EXAMPLES)
+        .arg(steps(alloc))?
+        .arg(resume(alloc))
+}
+
+fn way_of(matches: &ArgMatches<'_>) -> Way {
+    if matches.get_flag("resume") {
+        Way::Resumed
+    } else {
+        Way::Plain
+    }
 }
 
 fn parsed<'a>(alloc: Global, words: &'a [String]) -> Result<Plan, clap::Error> {
     let matches = command(alloc)?.try_get_matches_from(words)?;
-    let steps = matches.get_one::<u64>("steps").unwrap_or(1_000_000);
-    Ok(Plan { steps })
+    Ok(Plan {
+        way: way_of(&matches),
+        steps: matches.get_one::<u64>("steps").unwrap_or(1_000_000),
+    })
 }
 
 /// What the parser has to say.

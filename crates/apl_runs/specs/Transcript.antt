@@ -1,0 +1,63 @@
+-- The lines of an input, and what a run over them writes.
+use Rattle.std.specs.Prelude.{ℕ, List, [], ◌∷◌, ◌++◌, ◌-◌, ◌==◌, if◌then◌else◌, length, map, take, slice_index}
+use Rattle.apl_charset.specs.Text.{bytes}
+use Rattle.apl_machine_state.specs.declared.output.OutLine.{OutLine}
+use Rattle.apl_machine_state.specs.State.{State}
+use Rattle.apl_runs.specs.Ways.{Way}
+
+-- the pieces of the input that a line feed ends, behind a front of the first
+abbrev pub ended_behind : List ℕ → List ℕ → List (List ℕ)
+ended_behind front [] = []
+ended_behind front (b ∷ input) = if b == 10 then front ∷ ended_behind [] input else ended_behind (front ++ b ∷ []) input
+
+-- what follows the last line feed
+abbrev pub unfinished_behind : List ℕ → List ℕ → List ℕ
+unfinished_behind front [] = front
+unfinished_behind front (b ∷ input) = if b == 10 then unfinished_behind [] input else unfinished_behind (front ++ b ∷ []) input
+
+-- the bytes before each line feed, from the one before on
+abbrev pub ended : List ℕ → List (List ℕ)
+ended input = ended_behind [] input
+
+-- the bytes behind the last line feed
+abbrev pub unfinished : List ℕ → List ℕ
+unfinished input = unfinished_behind [] input
+
+-- without a carriage return at the end
+abbrev pub without_return : List ℕ → List ℕ
+without_return line = if slice_index line (length line - 1) == 13 then take (length line - 1) line else line
+
+-- the lines that a line feed ends, or a carriage return and a line feed
+abbrev pub complete_lines : List ℕ → List (List ℕ)
+complete_lines input = map without_return (ended input)
+
+-- bytes behind the last line feed are a line if there are any
+abbrev pub last_line : List ℕ → List (List ℕ)
+last_line [] = []
+last_line (b ∷ rest) = (b ∷ rest) ∷ []
+
+-- the lines of an input
+abbrev pub lines_of : List ℕ → List (List ℕ)
+lines_of input = complete_lines input ++ last_line (unfinished input)
+
+-- output in UTF-8, each line with its line feed
+abbrev pub written : List OutLine → List ℕ
+written [] = []
+written (line ∷ lines) = bytes line.text ++ 10 ∷ written lines
+
+-- the state after lines that are done in a way, the first of them first
+abbrev pub after_lines : Way → State → List (List ℕ) → State
+after_lines way s [] = s
+after_lines way s (line ∷ lines) = after_lines way (way s line) lines
+
+-- what lines write
+abbrev pub transcript_of : Way → State → List (List ℕ) → List ℕ
+transcript_of way s lines = written (after_lines way s lines).output
+
+-- what an input writes
+abbrev pub transcript : Way → State → List ℕ → List ℕ
+transcript way s input = transcript_of way s (lines_of input)
+
+-- with its output taken
+abbrev pub silent : State → State
+silent s = record s { output = [] }

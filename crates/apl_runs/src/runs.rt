@@ -1,0 +1,221 @@
+// A run over the lines of an input.
+ghost use Rattle.std.specs.Prelude.{◌≡◌, [], ◌∷◌, ◌++◌, IfOk, IfErr, OnOk, IsTrue};
+ghost use Rattle.apl_machine_state.specs.State.{is_idle};
+ghost use Rattle.apl_session.specs.Defining.{closed};
+ghost use Rattle.apl_runs.specs.Manners.{way};
+ghost use Rattle.apl_runs.specs.Refusals.{run_number};
+ghost use Rattle.apl_runs.specs.Runs.{EndsRun, IsWithinLimits, StoppedAt, Writes, reader_failed, writer_failed};
+ghost use Rattle.apl_runs.specs.Transcript.{last_line, lines_of, after_lines, transcript_of, transcript, silent};
+ghost use Rattle.apl_runs.specs.Ways.{plain, answered};
+
+use crate::lines::{read_end, read_line, write_lines};
+use crate::manner::{Manner, do_line};
+use apl_devices::{Sink, Source};
+use apl_machine::Machine;
+use apl_session::Session;
+use std::alloc::{AllocError, AllocFailed, Global};
+use thiserror::Error;
+
+/// Why a run ended early. The machine is dropped then.
+#[derive(Clone, Copy, Debug, PartialEq, Eq, Error)]
+pub enum RunError {
+    /// The reader failed. All that the complete lines before write is written.
+    #[error("the reader failed")]
+    Read = 1,
+    /// The writer failed, or took no byte of some. A front of what the lines read write is written.
+    #[error("the writer failed, or took no byte")]
+    Write,
+    /// A growth was refused, in reading a line, in running it or in writing its output. A front of
+    /// what the lines read write is written.
+    #[error("out of memory")]
+    Memory,
+    /// A line has over 2,000 bytes before its line feed, and is read up to the 2,001st. All that the
+    /// lines before it write is written.
+    #[error("a line has over 2,000 bytes")]
+    LineTooLong,
+    /// A byte stands behind 1,000,000 lines, and is read. All that the lines write is written.
+    #[error("there are over 1,000,000 lines")]
+    TooManyLines,
+}
+
+impl RunError {
+    /// Its number, from 1 to 5.
+    pub fn number(self) -> u8
+        ensures { result ≡ run_number self }
+    {
+        self as u8
+    }
+}
+
+impl From<AllocError> for RunError {
+    ghost use Rattle.std.specs.Prelude.{◌≡◌};
+    ghost use Rattle.apl_runs.specs.declared.runs.RunError.TheVariants.{Memory};
+
+    ghost from_gives = { λ _ e. e ≡ Memory };
+
+    fn from(_error: AllocError) -> RunError {
+        RunError::Memory
+    }
+}
+
+impl<T: Drop> From<AllocFailed<T>> for RunError {
+    ghost use Rattle.std.specs.Prelude.{◌≡◌};
+    ghost use Rattle.apl_runs.specs.declared.runs.RunError.TheVariants.{Memory};
+
+    ghost from_gives = { λ _ e. e ≡ Memory };
+
+    fn from(_error: AllocFailed<T>) -> RunError {
+        RunError::Memory
+    }
+}
+
+/// The most lines of a run.
+const MAX_LINES: u32 = 1_000_000;
+
+/// Does a line, and writes what came of it. After an error a front of that is written.
+fn run_line<W: Sink>(
+    alloc: Global,
+    session: &mut Session,
+    line: &[u8],
+    manner: Manner,
+    writer: &mut W,
+) -> Result<(), RunError>
+    ensures state { OnOk result (session.new ≡ silent (after_lines (way manner) session.old (line.now ∷ []))) }
+    ensures wrote { Writes result (transcript_of (way manner) session.old (line.now ∷ [])) W.tells (W.written writer.old) (W.written writer.new) }
+    ensures writer { W.failed writer.new ≡ writer_failed result (W.failed writer.old) }
+{
+    do_line(session, line, manner)?;
+    let lines = session.take_output();
+    write_lines(alloc, writer, &lines)
+}
+
+/// Runs what follows the last line feed, if there is anything.
+fn run_last<W: Sink>(
+    alloc: Global,
+    session: &mut Session,
+    line: &[u8],
+    manner: Manner,
+    writer: &mut W,
+) -> Result<(), RunError>
+    requires { session.old.output ≡ [] }
+    ensures state { OnOk result (session.new ≡ silent (after_lines (way manner) session.old (last_line line.now))) }
+    ensures wrote { Writes result (transcript_of (way manner) session.old (last_line line.now)) W.tells (W.written writer.old) (W.written writer.new) }
+    ensures writer { W.failed writer.new ≡ writer_failed result (W.failed writer.old) }
+{
+    if line.is_empty() {
+        return Ok(());
+    }
+    run_line(alloc, session, line, manner, writer)
+}
+
+/// Runs all lines of the input, each read into the buffer.
+fn run_lines<R: Source, W: Sink>(
+    alloc: Global,
+    session: &mut Session,
+    line: &mut Vec<u8>,
+    reader: &mut R,
+    writer: &mut W,
+    manner: Manner,
+) -> Result<(), RunError>
+    requires { session.old.output ≡ [] }
+    ensures ran { IsTrue R.tells → EndsRun result (way manner) session.old session.new (R.left reader.old) (R.left reader.new) W.tells (W.written writer.old) (W.written writer.new) }
+    ensures reader { R.failed reader.new ≡ reader_failed result (R.failed reader.old) }
+    ensures writer { W.failed writer.new ≡ writer_failed result (W.failed writer.old) }
+{
+    for _ in 0..MAX_LINES {
+        if !read_line(reader, line)? {
+            return run_last(alloc, session, line, manner, writer);
+        }
+        run_line(alloc, session, line, manner, writer)?;
+    }
+    read_end(reader)
+}
+
+/// Runs the lines of an input on a machine, which is dropped after an error.
+fn run_in<R: Source, W: Sink>(
+    alloc: Global,
+    ws: Machine,
+    reader: &mut R,
+    writer: &mut W,
+    manner: Manner,
+) -> Result<Machine, RunError>
+    requires idle { IsTrue (is_idle ws) }
+    requires quiet { ws.output ≡ [] }
+    ensures transcript { IsTrue R.tells → IsTrue W.tells → OnOk result (W.written writer.new ≡ W.written writer.old ++ transcript (way manner) (closed ws) (R.left reader.old)) }
+    ensures state { IsTrue R.tells → IfOk result (λ m. m ≡ closed (silent (after_lines (way manner) (closed ws) (lines_of (R.left reader.old))))) }
+    ensures read_to_end { IsTrue R.tells → OnOk result (R.left reader.new ≡ []) }
+    ensures within { IsTrue R.tells → OnOk result (IsWithinLimits (R.left reader.old)) }
+    ensures stopped { IsTrue R.tells → IfErr result (λ e. StoppedAt e (way manner) (closed ws) (R.left reader.old) (R.left reader.new) W.tells (W.written writer.old) (W.written writer.new)) }
+    ensures reader { R.failed reader.new ≡ reader_failed result (R.failed reader.old) }
+    ensures writer { W.failed writer.new ≡ writer_failed result (W.failed writer.old) }
+{
+    let mut session = Session::new(alloc, ws);
+    let mut line = Vec::new(alloc);
+    match run_lines(alloc, &mut session, &mut line, reader, writer, manner) {
+        Ok(()) => Ok(session.into_machine()),
+        Err(error) => Err(error),
+    }
+}
+
+/// Types each line of the input, gives it at most `steps` steps, interrupts what still runs, and
+/// writes the output. A line that comes to a stop ends there. Lines end with a line feed, and a
+/// carriage return before it is dropped; what follows the last line feed is a line if it isn't
+/// empty. A definition that is open at the end is left out. The machine is idle and has no output,
+/// by the caller's care. It is dropped after an error:
+///
+/// - Read where the reader failed. All that the complete lines write is written.
+/// - Write where the writer failed or took no byte, Memory where a growth was refused. A front of what
+///   the lines read write is written. What follows the last line feed is one of them only where the
+///   input is at its end.
+/// - LineTooLong at the 2,001st byte of a line, TooManyLines at the first byte behind 1,000,000 lines.
+///   All that the lines before write is written, and nothing further is read.
+pub fn run<R: Source, W: Sink>(
+    alloc: Global,
+    ws: Machine,
+    reader: &mut R,
+    writer: &mut W,
+    steps: u64,
+) -> Result<Machine, RunError>
+    requires idle { IsTrue (is_idle ws) }
+    requires quiet { ws.output ≡ [] }
+    ensures transcript { IsTrue R.tells → IsTrue W.tells → OnOk result (W.written writer.new ≡ W.written writer.old ++ transcript (plain steps) (closed ws) (R.left reader.old)) }
+    ensures state { IsTrue R.tells → IfOk result (λ m. m ≡ closed (silent (after_lines (plain steps) (closed ws) (lines_of (R.left reader.old))))) }
+    ensures read_to_end { IsTrue R.tells → OnOk result (R.left reader.new ≡ []) }
+    ensures within { IsTrue R.tells → OnOk result (IsWithinLimits (R.left reader.old)) }
+    ensures stopped { IsTrue R.tells → IfErr result (λ e. StoppedAt e (plain steps) (closed ws) (R.left reader.old) (R.left reader.new) W.tells (W.written writer.old) (W.written writer.new)) }
+    ensures reader { R.failed reader.new ≡ reader_failed result (R.failed reader.old) }
+    ensures writer { W.failed writer.new ≡ writer_failed result (W.failed writer.old) }
+{
+    run_in(alloc, ws, reader, writer, Manner::Plain(steps))
+}
+
+/// Types each line of the input, gives it at most `steps` steps and two more for each stop, answers
+/// each stop by the line `→⎕LC`, interrupts what still runs, and writes the output, with the reports
+/// of the stops. Where nothing stops, this is what [`run`] does. The lines, what the caller owes and
+/// what is left are as there. The machine is dropped after an error:
+///
+/// - Read where the reader failed. All that the complete lines write is written.
+/// - Write where the writer failed or took no byte, Memory where a growth was refused. A front of what
+///   the lines read write is written. What follows the last line feed is one of them only where the
+///   input is at its end.
+/// - LineTooLong at the 2,001st byte of a line, TooManyLines at the first byte behind 1,000,000 lines.
+///   All that the lines before write is written, and nothing further is read.
+pub fn run_resumed<R: Source, W: Sink>(
+    alloc: Global,
+    ws: Machine,
+    reader: &mut R,
+    writer: &mut W,
+    steps: u64,
+) -> Result<Machine, RunError>
+    requires idle { IsTrue (is_idle ws) }
+    requires quiet { ws.output ≡ [] }
+    ensures transcript { IsTrue R.tells → IsTrue W.tells → OnOk result (W.written writer.new ≡ W.written writer.old ++ transcript (answered steps) (closed ws) (R.left reader.old)) }
+    ensures state { IsTrue R.tells → IfOk result (λ m. m ≡ closed (silent (after_lines (answered steps) (closed ws) (lines_of (R.left reader.old))))) }
+    ensures read_to_end { IsTrue R.tells → OnOk result (R.left reader.new ≡ []) }
+    ensures within { IsTrue R.tells → OnOk result (IsWithinLimits (R.left reader.old)) }
+    ensures stopped { IsTrue R.tells → IfErr result (λ e. StoppedAt e (answered steps) (closed ws) (R.left reader.old) (R.left reader.new) W.tells (W.written writer.old) (W.written writer.new)) }
+    ensures reader { R.failed reader.new ≡ reader_failed result (R.failed reader.old) }
+    ensures writer { W.failed writer.new ≡ writer_failed result (W.failed writer.old) }
+{
+    run_in(alloc, ws, reader, writer, Manner::Answered(steps))
+}

@@ -1,0 +1,5 @@
+pub mod Refusals
+pub mod Trees
+pub mod Fitting
+pub mod Json
+pub mod Reading
