@@ -167,5 +167,5 @@ pub record AreRuled (p : Pieces) : Type 0 where
   pub functions_ascend : Ascend (function_names p.functions)
   pub variables : All IsName (variable_names p.variables)
   pub variables_ascend : Ascend (variable_names p.variables)
-  pub apart : All (λ name. ¬ Contains name (function_names p.functions)) (variable_names p.variables)
+  pub apart : All (λ name. ¬ Contains (function_names p.functions) name) (variable_names p.variables)
   pub contexts : AreContexts None 0 p.contexts
