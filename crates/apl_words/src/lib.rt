@@ -15,12 +15,33 @@ pub enum Way {
     Resumed,
 }
 
-/// What the words ask for.
-#[derive(Clone, Copy, PartialEq, Eq, Debug)]
-pub struct Plan {
+/// A run of the input.
+#[derive(Debug, Drop)]
+pub struct Running {
+    /// The file of the workspace to begin with; without one that is clear.
+    pub workspace: Option<String>,
+    /// The file that the workspace is saved in at the end.
+    pub save: Option<String>,
     pub way: Way,
     /// The most steps of a line: 1 to 1,000,000,000; 1,000,000 where the words don't say.
     pub steps: u64,
+}
+
+/// A function whose code is shown.
+#[derive(Debug, Drop)]
+pub struct Shown {
+    /// The file of the workspace.
+    pub workspace: String,
+    pub function: String,
+}
+
+/// What the words ask for.
+#[derive(Debug, Drop)]
+pub enum Plan {
+    Run(Running),
+    Show(Shown),
+    /// A run of the input on a desk of clear sessions, with at most so many steps a line.
+    Desk(u64),
 }
 
 /// Why the words ask for no run.
@@ -42,6 +63,21 @@ impl From<AllocError> for WordsError {
     }
 }
 
+/// The file of the workspace.
+fn workspace<'a>(alloc: Global) -> Arg<'a> {
+    Arg::new(alloc, "WS")
+        .index(1)
+        .help("The file of the workspace to begin with, else a clear one")
+}
+
+/// The option `--save`.
+fn save<'a>(alloc: Global) -> Arg<'a> {
+    Arg::new(alloc, "save")
+        .long("save")
+        .value_name("FILE")
+        .help("Save the workspace in FILE at the end")
+}
+
 /// The option `--steps`.
 fn steps<'a>(alloc: Global) -> Arg<'a> {
     Arg::new(alloc, "steps")
@@ -49,6 +85,17 @@ fn steps<'a>(alloc: Global) -> Arg<'a> {
         .value_name("N")
         .help("The most steps of a line, 1 to 1000000000, else 1000000")
         .value_parser(value_parser!(u64).range(1..=1_000_000_000))
+}
+
+/// The option `--code`.
+fn code<'a>(alloc: Global) -> Result<Arg<'a>, AllocError> {
+    Arg::new(alloc, "code")
+        .long("code")
+        .value_name("F")
+        .help("Show the code of the function F of WS, and read no input")
+        .requires_arg("WS")?
+        .conflicts_with("save")?
+        .conflicts_with("resume")
 }
 
 /// The flag `--resume`.
@@ -59,23 +106,54 @@ fn resume<'a>(alloc: Global) -> Arg<'a> {
         .action(ArgAction::SetTrue)
 }
 
+/// The flag `--desk`.
+fn desk<'a>(alloc: Global) -> Result<Arg<'a>, AllocError> {
+    Arg::new(alloc, "desk")
+        .long("desk")
+        .help("Run 64 clear sessions: each line begins with a number from 0 to 63 and a blank")
+        .action(ArgAction::SetTrue)
+        .conflicts_with("WS")?
+        .conflicts_with("save")?
+        .conflicts_with("code")?
+        .conflicts_with("resume")
+}
+
 /// The day of the newest changes that CHANGELOG.md tells of, and the kit that the program is proved
 /// with.
 const VERSION: &str = "2026-11-25 (rattle-kit-13f logic dac8208d650f15bf)";
 
 /// An example of each word.
 const EXAMPLES: &str = "Examples:
-  apl <lines               Run the lines of a file
-  apl --steps 5000 <lines  Interrupt each line that has made 5000 steps
-  apl --resume <lines      Go on at each stop";
+  apl <lines                        Run the lines of a file
+  apl ledger --save ledger <lines   Go on with a workspace, and keep it
+  apl --steps 5000 <lines           Interrupt each line that has made 5000 steps
+  apl ledger --code SUM             Show what each line of SUM was translated to
+  apl --resume <lines               Go on at each stop
+  apl --desk <lines                 Run sessions side by side";
 
 /// The command line.
 fn command<'a>(alloc: Global) -> Result<Command<'a>, AllocError> {
     Command::new(alloc, "apl")
         .version(VERSION)
         .after_help(EXAMPLES)
+        .arg(workspace(alloc))?
+        .arg(save(alloc))?
         .arg(steps(alloc))?
-        .arg(resume(alloc))
+        .arg(code(alloc)?)?
+        .arg(resume(alloc))?
+        .arg(desk(alloc)?)
+}
+
+/// The value of an argument, if it has one.
+fn given(
+    alloc: Global,
+    matches: &ArgMatches<'_>,
+    name: &str,
+) -> Result<Option<String>, AllocError> {
+    match matches.get_str(name) {
+        Some(value) => Ok(Some(String::from_str(alloc, value)?)),
+        None => Ok(None),
+    }
 }
 
 fn way_of(matches: &ArgMatches<'_>) -> Way {
@@ -86,12 +164,38 @@ fn way_of(matches: &ArgMatches<'_>) -> Way {
     }
 }
 
+/// What the words ask for whose workspace and function these are. A function stands beside a
+/// workspace alone.
+fn plan_of(
+    alloc: Global,
+    matches: &ArgMatches<'_>,
+    workspace: Option<String>,
+    function: Option<String>,
+) -> Result<Plan, AllocError> {
+    let steps = matches.get_one::<u64>("steps").unwrap_or(1_000_000);
+    match (workspace, function) {
+        (Some(workspace), Some(function)) => Ok(Plan::Show(Shown {
+            workspace,
+            function,
+        })),
+        (workspace, _) => Ok(Plan::Run(Running {
+            workspace,
+            save: given(alloc, matches, "save")?,
+            way: way_of(matches),
+            steps,
+        })),
+    }
+}
+
 fn parsed<'a>(alloc: Global, words: &'a [String]) -> Result<Plan, clap::Error> {
     let matches = command(alloc)?.try_get_matches_from(words)?;
-    Ok(Plan {
-        way: way_of(&matches),
-        steps: matches.get_one::<u64>("steps").unwrap_or(1_000_000),
-    })
+    if matches.get_flag("desk") {
+        let steps = matches.get_one::<u64>("steps").unwrap_or(1_000_000);
+        return Ok(Plan::Desk(steps));
+    }
+    let workspace = given(alloc, &matches, "WS")?;
+    let function = given(alloc, &matches, "code")?;
+    Ok(plan_of(alloc, &matches, workspace, function)?)
 }
 
 /// What the parser has to say.
