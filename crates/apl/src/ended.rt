@@ -2,6 +2,7 @@
 
 use apl_runs::RunError;
 use apl_words::WordsError;
+use apl_workspace::{LoadError, SaveError};
 use std::alloc::{AllocError, Global};
 use std::io;
 use thiserror::Error;
@@ -16,11 +17,20 @@ pub(crate) enum Ended {
     /// The words of the command line are wrong: what is.
     #[error("{0}")]
     Words(String),
+    /// The workspace to begin with is refused, for the reason of this number.
+    #[error("apl: load: {0}\n")]
+    Load(u8),
+    /// Its file can't be read.
+    #[error("apl: load: file\n")]
+    LoadFile,
     #[error("apl: memory\n")]
     Memory,
     /// The run ended with the error of this number.
     #[error("apl: run: {0}\n")]
     Run(u8),
+    /// The workspace can't be saved.
+    #[error("apl: save\n")]
+    Save,
 }
 
 impl From<WordsError> for Ended {
@@ -30,6 +40,30 @@ impl From<WordsError> for Ended {
             WordsError::Wrong(text) => Ended::Words(text),
             WordsError::Memory => Ended::Memory,
         }
+    }
+}
+
+impl From<LoadError> for Ended {
+    fn from(error: LoadError) -> Ended {
+        match error {
+            LoadError::Memory => Ended::Memory,
+            _ => Ended::Load(error.number()),
+        }
+    }
+}
+
+impl From<SaveError> for Ended {
+    fn from(error: SaveError) -> Ended {
+        match error {
+            SaveError::Memory => Ended::Memory,
+            SaveError::Running => Ended::Save,
+        }
+    }
+}
+
+impl From<AllocError> for Ended {
+    fn from(_error: AllocError) -> Ended {
+        Ended::Memory
     }
 }
 
@@ -43,11 +77,11 @@ impl From<RunError> for Ended {
 }
 
 impl Ended {
-    /// A word is no UTF-8.
-    pub(crate) fn no_text(alloc: Global) -> Ended {
-        match String::from_str(alloc, "apl: a word is no text\n") {
+    /// What is wrong with the words.
+    pub(crate) fn words(alloc: Global, wrong: &str) -> Ended {
+        match format!(in alloc; "apl: {wrong}\n") {
             Ok(text) => Ended::Words(text),
-            Err(AllocError) => Ended::Memory,
+            Err(_) => Ended::Memory,
         }
     }
 
@@ -56,8 +90,9 @@ impl Ended {
         match self {
             Ended::Helped(_) => 0,
             Ended::Words(_) => 1,
+            Ended::Load(_) | Ended::LoadFile => 2,
             Ended::Memory => 3,
-            Ended::Run(_) => 4,
+            Ended::Run(_) | Ended::Save => 4,
         }
     }
 

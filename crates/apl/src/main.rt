@@ -1,16 +1,22 @@
-//! The APL interpreter as a program: it runs the lines of standard input on a clear workspace, and
-//! writes what they give.
+//! The APL interpreter as a program: it runs the lines of standard input on a workspace, which it may
+//! begin with and keep, and writes what they give; or it shows the code of a function; or it runs many
+//! sessions side by side.
 #![tactic(auto)]
 
 mod ended;
+mod files;
+mod sessions;
+mod shown;
 #[cfg(test)]
 mod tests;
 
 use apl_machine::Machine;
 use apl_runs::{Device, Sink, Source, run, run_resumed};
-use apl_words::{Way, planned};
+use apl_words::{Plan, Running, Way, planned};
 use ended::Ended;
-use std::alloc::Global;
+use files::{load_file, save_file};
+use sessions::run_sessions;
+use shown::show;
 use std::env;
 use std::io::{self, BufReader};
 use std::process::ExitCode;
@@ -21,24 +27,57 @@ fn words<R: Env + AllocGlobal>(rt: &R) -> Result<Vec<String>, Ended> {
     match env::args(rt) {
         Ok(words) => words.collect(rt.alloc()).map_err(|_| Ended::Memory),
         Err(error) if error.kind() == io::ErrorKind::OutOfMemory => Err(Ended::Memory),
-        Err(_) => Err(Ended::no_text(rt.alloc())),
+        Err(_) => Err(Ended::words(rt.alloc(), "a word is no text")),
     }
 }
 
-/// Runs the input on a clear workspace as the words ask for.
+/// Runs the input on a workspace.
+fn run_on<R: Source, W: Sink>(
+    rt: &HostRuntime,
+    running: &Running,
+    input: &mut R,
+    output: &mut W,
+) -> Result<Machine, Ended> {
+    let ws = match &running.workspace {
+        Some(path) => load_file(rt, path.as_str())?,
+        None => Machine::new(rt.alloc()),
+    };
+    let ran = match running.way {
+        Way::Plain => run(rt.alloc(), ws, input, output, running.steps)?,
+        Way::Resumed => run_resumed(rt.alloc(), ws, input, output, running.steps)?,
+    };
+    Ok(ran)
+}
+
+/// Runs the input on a workspace, and saves that where it is asked for.
+fn run_workspace<R: Source, W: Sink>(
+    rt: &HostRuntime,
+    running: &Running,
+    input: &mut R,
+    output: &mut W,
+) -> Result<(), Ended> {
+    let ws = run_on(rt, running, input, output)?;
+    match &running.save {
+        Some(path) => save_file(rt, path.as_str(), &ws),
+        None => Ok(()),
+    }
+}
+
+/// Does what the words ask for.
 fn run_as<R: Source, W: Sink>(
-    alloc: Global,
+    rt: &HostRuntime,
     words: &[String],
     input: &mut R,
     output: &mut W,
 ) -> Result<(), Ended> {
-    let plan = planned(alloc, words)?;
-    let ws = Machine::new(alloc);
-    match plan.way {
-        Way::Plain => run(alloc, ws, input, output, plan.steps)?,
-        Way::Resumed => run_resumed(alloc, ws, input, output, plan.steps)?,
-    };
-    Ok(())
+    match planned(rt.alloc(), words)? {
+        Plan::Run(running) => run_workspace(rt, &running, input, output),
+        Plan::Show(shown) => {
+            let ws = load_file(rt, shown.workspace.as_str())?;
+            show(rt.alloc(), &ws, shown.function.as_str(), output)
+        }
+        Plan::Desk(steps) => run_sessions(rt.alloc(), input, output, steps),
+    }
 }
 
 /// Runs standard input.
@@ -46,7 +85,7 @@ fn run_program(rt: &HostRuntime) -> Result<(), Ended> {
     let words = words(rt)?;
     let reader = BufReader::new(rt.alloc(), rt.stdin()).map_err(|_| Ended::Memory)?;
     let (mut input, mut output) = (Device::new(reader), Device::new(rt.stdout()));
-    run_as(rt.alloc(), words.as_slice(), &mut input, &mut output)
+    run_as(rt, words.as_slice(), &mut input, &mut output)
 }
 
 fn main(rt: HostRuntime) -> ExitCode {
