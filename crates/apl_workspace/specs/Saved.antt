@@ -15,8 +15,11 @@ use Rattle.apl_saved.specs.Spelled.{IsFileOf}
 use Rattle.apl_saved.specs.Rules.{AreRuled}
 use Rattle.apl_loading.specs.Refusals.{IsRefused}
 use Rattle.apl_loading.specs.declared.error.LoadFault.{LoadFault}
+use Rattle.apl_loading.specs.declared.error.LoadFault.TheVariants as fault
+use Rattle.apl_workspace_file.specs.declared.error.ReadError.{ReadError}
+use Rattle.apl_workspace_file.specs.declared.error.ReadError.TheVariants as read
 use Rattle.apl_workspace.specs.declared.error.LoadError.{LoadError}
-use Rattle.apl_workspace.specs.declared.error.LoadError.TheVariants.{NotJson, Form, Fault, Memory}
+use Rattle.apl_workspace.specs.declared.error.LoadError.TheVariants.{NotJson, Form, Array, Definition, Context, Code, Limit, Memory}
 
 -- A tree stands for a state: it is that of a file whose fields hold parts that keep to the rules, and the state is that of these parts.
 pub record IsSaved (tree : Data) (s : State) : Type 0 where
@@ -50,5 +53,23 @@ pub record IsRefusedFor (bytes : List ℕ) (fault : LoadFault) : Type 0 where
 abbrev pub IsUnloaded : List ℕ → LoadError → Type 0
 IsUnloaded bytes NotJson = (tree : Data) → ¬ IsJson bytes tree
 IsUnloaded bytes Form = (tree : Data) × IsJson bytes tree × ((file : File) → Fits file → ¬ (tree_of file ≡ tree))
-IsUnloaded bytes (Fault fault) = IsRefusedFor bytes fault
+IsUnloaded bytes Array = IsRefusedFor bytes fault.Array
+IsUnloaded bytes Definition = IsRefusedFor bytes fault.Definition
+IsUnloaded bytes Context = IsRefusedFor bytes fault.Context
+IsUnloaded bytes Code = IsRefusedFor bytes fault.Code
+IsUnloaded bytes Limit = IsRefusedFor bytes fault.Limit
 IsUnloaded bytes Memory = Unit {0}
+
+-- the refusal for what reading answers, and for what the parts are refused for
+abbrev pub error_of_read : ReadError → LoadError
+error_of_read read.NotJson = NotJson
+error_of_read read.Form = Form
+error_of_read read.Memory = Memory
+
+abbrev pub error_of_fault : LoadFault → LoadError
+error_of_fault fault.Array = Array
+error_of_fault fault.Definition = Definition
+error_of_fault fault.Context = Context
+error_of_fault fault.Code = Code
+error_of_fault fault.Limit = Limit
+error_of_fault fault.Memory = Memory
