@@ -1,0 +1,7 @@
+//! Which states a workspace file can hold, and the laws that a machine comes to such states alone, and that a state which is saved and
+//! loaded again is the same state.
+#![tactic(auto)]
+
+mod laws;
+
+pub use laws::clear_is_savable;
