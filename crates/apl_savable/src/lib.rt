@@ -4,4 +4,4 @@
 
 mod laws;
 
-pub use laws::clear_is_savable;
+pub use laws::{clear_is_savable, parts_are_ruled, saved_is_the_same};
