@@ -44,13 +44,13 @@ rest-in-again : (text : Text) (o : Option Rest) → IsUnderWayIn text o → IsAw
 rest-in-again text None u h = refl
 rest-in-again text (Some rest) u h = ap Some (rest-again text rest u (pendent-line text rest u h))
 
-names-again : (m : Map) (ns : List Text) → map (λ (l : Text × Option Arr). (l.0, bound_to l.1)) (values_in m ns) ≡ map (λ name. (name, bound_to (value_in (said m name)))) ns
+names-again : (m : Map) (ns : List Text) → map {B = Text × Binding} (λ (l : Text × Option Arr). (l.0, bound_to l.1)) (values_in m ns) ≡ map {B = Text × Binding} (λ name. (name, bound_to (value_in (said m name)))) ns
 names-again m [] = refl
 names-again m (n ∷ ns) = ap (λ (es : List (Text × Binding)). (n, bound_to (value_in (said m n))) ∷ es) (names-again m ns)
 
-map-again : (d : Definition) (m : Map) → IsCallMap d m → map_of (map (λ (l : Text × Option Arr). (l.0, bound_to l.1)) (values_in m (names_in d.header)) ++ map label_of d.labels) ≡ m
+map-again : (d : Definition) (m : Map) → IsCallMap d m → map_of (map {B = Text × Binding} (λ (l : Text × Option Arr). (l.0, bound_to l.1)) (values_in m (names_in d.header)) ++ map label_of d.labels) ≡ m
 map-again d m h =
-    ap (λ (es : List (Text × Binding)). map_of (es ++ map label_of d.labels)) (names-again m (names_in d.header) ∙ ap (map (λ name. (name, bound_to (value_in (said m name))))) (same-names d.header)) ∙ h
+    ap (λ (es : List (Text × Binding)). map_of (es ++ map label_of d.labels)) (names-again m (names_in d.header) ∙ ap (map {B = Text × Binding} (λ name. (name, bound_to (value_in (said m name))))) (same-names d.header)) ∙ h
 
 context-again : (c : Context) → IsSavableContext c → IsKeptContext c → IsAwaiting (rest_of c) → context_of (part_of c) ≡ c
 context-again (Statement text rest) s k h = ap (Statement text) (rest-again text rest s.1 (pendent-line text rest s.1 h))
