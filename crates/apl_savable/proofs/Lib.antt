@@ -6,3 +6,5 @@ pub mod Objects
 pub mod Origins
 pub mod Ruled
 pub mod Same
+pub mod Fits
+pub mod Loaded

@@ -4,4 +4,4 @@
 
 mod laws;
 
-pub use laws::{clear_is_savable, parts_are_ruled, saved_is_the_same};
+pub use laws::{clear_is_savable, loaded_is_savable, parts_are_ruled, saved_is_the_same};
