@@ -8,3 +8,6 @@ pub mod Ruled
 pub mod Same
 pub mod Fits
 pub mod Loaded
+pub mod UnderWay
+pub mod Spelling
+pub mod IndexLists
