@@ -11,3 +11,7 @@ pub mod Loaded
 pub mod UnderWay
 pub mod Spelling
 pub mod IndexLists
+pub mod Rights
+pub mod Likes
+pub mod Maps
+pub mod Keeping
