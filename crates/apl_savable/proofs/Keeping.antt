@@ -52,7 +52,7 @@ use Rattle.apl_order.specs.Kept.{AreGlobals, AreKept, IsKept, Keeps}
 use Rattle.apl_operands.specs.Operands.{fetched}
 use Rattle.apl_order.proofs.Keeping as kept
 use Rattle.apl_order.proofs.Holes.{holes-replaced}
-use Rattle.apl_order.proofs.Standing.{AreIdle, ArePendent, below-call, below-execute, below-statement, pendent-with, rest-above}
+use Rattle.apl_order.proofs.Standing.{AreIdle, ArePendent, below-call, below-execute, below-statement, pendent-with}
 use Rattle.apl_frames.specs.declared.frame.Stage.{Stage}
 use Rattle.apl_frames.specs.declared.frame.Stage.TheVariants.{Ready, Pendent, Emptied}
 use Rattle.apl_frames.specs.Flat.{Flat, HasKinds, Stands, flat_rest, items_at}
