@@ -1,6 +1,5 @@
 -- The classes with which the names of a line were bound stand in its items.
-use Rattle.std.proofs.Common.{◌≡◌, ℕ, zero, suc, ◌+◌, ◌<◌, Bool, true, List, [], ◌∷◌, ◌++◌, length, length-append, drop, Option, Some, None, option_map, refl, sym, ap, ◌∙◌, arith, zero-add}
-use Rattle.std.specs.Prelude.{slice_get, unwrap_or}
+use Rattle.std.proofs.Common.{◌≡◌, ℕ, zero, suc, ◌+◌, ◌<◌, Bool, true, List, [], ◌∷◌, ◌++◌, length, drop, Option, Some, None, option_map, refl, sym, ap, ◌∙◌, arith, zero-add}
 use Rattle.std.specs.List.{flat_map}
 use Rattle.apl_symbols.specs.Primitives.{operator_of}
 use Rattle.apl_symbols.specs.declared.class.Class.{Class}
@@ -15,10 +14,8 @@ use Rattle.apl_tokens.specs.declared.token.Kind.{Kind}
 use Rattle.apl_tokens.specs.declared.token.Kind.TheVariants as tokens
 use Rattle.apl_tokens.specs.declared.token.Token.{Token}
 use Rattle.apl_translate.specs.declared.form.Word.{Word}
-use Rattle.apl_translate.specs.declared.form.Form.{Form}
 use Rattle.apl_translate.specs.declared.form.Form.TheVariants as forms
-use Rattle.apl_translate.specs.declared.form.Placed.{Placed}
-use Rattle.apl_translate.specs.Binding.{Left, nothing_left, class_at, name_word, system_word, primitive_word, closing, symbol_word, word_of, form_of, with_item, placed, items_from, name_in, names_of, without_label, bound_of}
+use Rattle.apl_translate.specs.Binding.{Left, nothing_left, class_at, name_word, system_word, primitive_word, closing, symbol_word, form_of, with_item, placed, items_from, name_in, names_of, without_label, bound_of}
 use Rattle.apl_parts.specs.Taken.{class_in, classes_of}
 
 -- how many names tokens have

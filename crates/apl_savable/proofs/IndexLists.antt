@@ -1,6 +1,6 @@
 -- What an index list is made of: values alone.
-use Rattle.std.proofs.Common.{◌≡◌, ℕ, zero, suc, Bool, true, false, List, [], ◌∷◌, take, drop, map, Option, Some, None, refl, sym, ap, ◌∙◌, subst}
-use Rattle.std.specs.Prelude.{is_none, ◌&&◌, if◌then◌else◌}
+use Rattle.std.proofs.Common.{◌≡◌, ℕ, suc, Bool, true, false, List, [], ◌∷◌, take, drop, map, Option, Some, None, refl, sym, ap, ◌∙◌, subst}
+use Rattle.std.specs.Prelude.{is_none, if◌then◌else◌}
 use Rattle.std.proofs.lemmas.List.{drop-map, take-map}
 use Rattle.apl_arrays.specs.Cells.{Arr}
 use Rattle.apl_code.specs.declared.instr.Source.{Source}
@@ -9,10 +9,9 @@ use Rattle.apl_code.specs.declared.row.Variable.{Variable as AnyVariable}
 use Rattle.apl_code.specs.declared.row.Row.{Row}
 use Rattle.apl_code.specs.declared.row.Row.TheVariants.{Group, Index, Read, Call, Select, Monadic, MonadicAxis, Reduce, ReduceAxis, Dyadic, DyadicAxis, Inner, Outer, Assign, AssignIndexed, Show}
 use Rattle.apl_listing.specs.Kinds.{is_empty}
-use Rattle.apl_translate.specs.declared.form.Word.{Word}
 use Rattle.apl_translate.specs.declared.form.Word.TheVariants.{Variable, Niladic, Function, Operator, Dot, Jot, LeftArrow, OpenParenthesis, CloseParenthesis, OpenBracket, CloseBracket, CloseAxis, Semicolon, Quad}
 use Rattle.apl_translate.specs.Phrase.{Kind, B, K, W, when, ends, opens, more, slots_width, index_list, at_value, at_variable, at_niladic, at_function, at_open, at_quad, row, phrase}
-use Rattle.apl_translate.specs.Translation.{Cell, arguments, closed, slots}
+use Rattle.apl_translate.specs.Translation.{arguments, closed, slots}
 use Rattle.apl_translate.specs.Scan.{last_kind}
 use Rattle.apl_translate.proofs.Settled.{found_at}
 use Rattle.apl_machine_state.specs.declared.operand.Operand.{Operand}

@@ -1,10 +1,8 @@
 -- A machine comes to savable states alone.
-use Rattle.std.proofs.Common.{◌≡◌, ◌⊎◌, inl, inr, ℕ, zero, suc, ◌+◌, ◌-◌, ◌<◌, ◌≤◌, Bool, true, false, cond, List, [], ◌∷◌, ◌++◌, drop, length, map, take, reverse, Option, Some, None, refl, sym, ap, subst, ◌∙◌, arith, true≢false, add-one}
-use Rattle.std.specs.Prelude.{Result, Ok, Err, if◌then◌else◌, is_none, slice_get}
+use Rattle.std.proofs.Common.{◌≡◌, ◌⊎◌, inl, inr, ℕ, zero, suc, ◌-◌, ◌<◌, ◌≤◌, Bool, true, false, cond, List, [], ◌∷◌, drop, length, take, reverse, Option, Some, None, refl, sym, ap, subst, ◌∙◌, arith, true≢false}
+use Rattle.std.specs.Prelude.{Result, Ok, Err, if◌then◌else◌, slice_get}
 use Rattle.std.specs.Str.{bytes_eq}
 use Rattle.apl_arrays.specs.Cells.{Arr}
-use Rattle.apl_code.specs.declared.instr.Action.{Action}
-use Rattle.apl_code.specs.declared.instr.Action.TheVariants.{Box, End, Phrase}
 use Rattle.apl_code.specs.declared.instr.Instr.{Instr}
 use Rattle.apl_code.specs.declared.instr.Source.{Source}
 use Rattle.apl_code.specs.declared.row.Row.{Row}
@@ -17,7 +15,7 @@ use Rattle.apl_tokens.specs.declared.token.Token.{Token}
 use Rattle.apl_tokens.specs.declared.line.TokenError.{TokenError}
 use Rattle.apl_tokens.specs.Tokens.{tokens_of}
 use Rattle.apl_listing.specs.declared.stack.Kind.TheVariants as stacked
-use Rattle.apl_listing.specs.Kinds.{is_empty, puts}
+use Rattle.apl_listing.specs.Kinds.{puts}
 use Rattle.apl_translate.specs.declared.form.Form.TheVariants as forms
 use Rattle.apl_translate.specs.declared.form.Placed.{Placed}
 use Rattle.apl_translate.specs.Binding.{bound_of}
@@ -27,35 +25,34 @@ use Rattle.apl_translate.specs.Phrase.{phrase, width}
 use Rattle.apl_translate.specs.Translation.{Translates, action_of, arguments, ending, held, kind_of, result_of}
 use Rattle.apl_translate.proofs.Made.{line_good, translated_each}
 use Rattle.apl_defn.specs.Definitions.{Text, Definition, is_line, line_of}
-use Rattle.apl_defn.specs.Defining.{IsDefined}
 use Rattle.apl_names.specs.declared.binding.Binding.{Binding}
 use Rattle.apl_names.specs.declared.binding.Binding.TheVariants as bindings
-use Rattle.apl_names.specs.Maps.{Map, assigned, found, said, with_entry, without_entry}
+use Rattle.apl_names.specs.Maps.{Map, assigned, found, said}
 use Rattle.apl_names.proofs.Maps.{said_with}
 use Rattle.apl_order.proofs.Maps.{said-without}
-use Rattle.apl_vectors.specs.Vectors.{Vectors, after_asking, has_line, vector_of}
+use Rattle.apl_vectors.specs.Vectors.{has_line, vector_of}
 use Rattle.apl_machine_state.specs.declared.operand.Operand.{Operand}
 use Rattle.apl_machine_state.specs.declared.operand.Operand.TheVariants.{Slots, Value}
 use Rattle.apl_machine_state.specs.declared.watch.Watch.TheVariants.{Stop, Trace}
 use Rattle.apl_machine_state.specs.Items.{Awaited, Content, Given, Item, Rest, answered, cells, filled, kind_of_operand, kinds, reduced}
 use Rattle.apl_machine_state.specs.Environment.{World, Context, Statement, Call, Execute, behind_statement, environment, is_idle_in, is_suspended, origin_name, rest_of, scene, with_rest}
 use Rattle.apl_machine_state.specs.Reports.{abandoned}
-use Rattle.apl_machine_state.specs.Calls.{answered_by, answered_in, begun_line, begun_of, call_map, given_to, line_begun, result_of as answer_of, returned}
-use Rattle.apl_machine_state.specs.Outcomes.{Outcome, Becomes, Makes, Writes, Assigns, SetsOrigin, Enters, Watches, Executes, Faults, outcome, value_in}
+use Rattle.apl_machine_state.specs.Calls.{answered_by, answered_in, begun_line, begun_of, given_to, line_begun, result_of as answer_of, returned}
+use Rattle.apl_machine_state.specs.Outcomes.{Outcome, Becomes, Makes, Writes, Assigns, SetsOrigin, Enters, Watches, Executes, Faults}
 use Rattle.apl_machine_state.specs.Watching.{arrow, lines_array, traced}
 use Rattle.apl_machine_state.specs.Changes.{Change, Rests, Moves, AsksStops, Arrives, aim, branch, branch_to, change, change_at_end, change_by, change_in, change_of, escape_to, leads_nowhere, line_end, resumed}
 use Rattle.apl_machine_state.specs.Texts.{colon_of}
 use Rattle.apl_machine_state.specs.State.{State, applied, arrived, comes_to, interrupted, is_idle}
 use Rattle.apl_machine_state.specs.Beginning.{begun_by, started}
-use Rattle.apl_order.specs.Order.{AreInOrder, HasHoles, HasNoHole, IsAtLine, IsBelow, IsSuspended, holes}
-use Rattle.apl_order.specs.Kept.{AreGlobals, AreKept, IsKept, Keeps}
+use Rattle.apl_order.specs.Order.{AreInOrder, HasHoles, HasNoHole, IsAtLine, IsBelow, holes}
+use Rattle.apl_order.specs.Kept.{AreGlobals, AreKept, IsKept}
 use Rattle.apl_operands.specs.Operands.{fetched}
 use Rattle.apl_order.proofs.Keeping as kept
 use Rattle.apl_order.proofs.Holes.{holes-replaced}
 use Rattle.apl_order.proofs.Standing.{AreIdle, ArePendent, below-call, below-execute, below-statement, pendent-with}
 use Rattle.apl_frames.specs.declared.frame.Stage.{Stage}
 use Rattle.apl_frames.specs.declared.frame.Stage.TheVariants.{Ready, Pendent, Emptied}
-use Rattle.apl_frames.specs.Flat.{Flat, HasKinds, Stands, flat_rest, items_at}
+use Rattle.apl_frames.specs.Flat.{HasKinds, flat_rest, items_at}
 use Rattle.apl_frames.proofs.Standing.{AtPhrase, AtEnd, acts}
 use Rattle.apl_saved.specs.Rules as rules
 use Rattle.apl_saved.specs.Rules.{Calls, HasNoLabel}
@@ -67,7 +64,7 @@ use Rattle.apl_savable.proofs.Fits.{line-fits}
 use Rattle.apl_savable.proofs.Likes.{called-like, rest-like}
 use Rattle.apl_savable.proofs.Lines.{one-holed, pendent-line}
 use Rattle.apl_savable.proofs.Maps.{AreNamed, SavesWith, all-own, assigned-saves, begun-origin}
-use Rattle.apl_savable.proofs.Rights.{AreOwn, AreSlots, IsRight, IsTarget, no-label, outcome-right}
+use Rattle.apl_savable.proofs.Rights.{AreSlots, IsRight, IsTarget, no-label, outcome-right}
 use Rattle.apl_savable.proofs.UnderWay.{answered-under-way, awaits-under-way, begun-in-under-way, begun-under-way, emptied-under-way, given-under-way}
 
 -- ---- contexts that are dropped

@@ -12,7 +12,7 @@ use Rattle.apl_machine_state.specs.Items.{Rest}
 use Rattle.apl_machine_state.specs.Environment.{Context, Statement, Call, Execute, rest_of, with_rest}
 use Rattle.apl_parts.specs.Taken.{part_of}
 use Rattle.apl_saved.specs.Rules.{Calls}
-use Rattle.apl_savable.specs.Savable.{HasCalled, HasCalledIn, IsCalledBy}
+use Rattle.apl_savable.specs.Savable.{HasCalledIn, IsCalledBy}
 
 -- a context of the same kind, a call of the same function
 abbrev pub IsLike : Context → Context → Type 0

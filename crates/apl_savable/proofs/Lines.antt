@@ -1,10 +1,8 @@
 -- A line that awaits an answer, in parts and put together again.
-use Rattle.std.proofs.Common.{◌≡◌, ℕ, zero, suc, ◌+◌, ◌≤◌, false, List, [], ◌∷◌, ◌++◌, map, take, reverse, Option, Some, None, refl, sym, ap, subst, ◌∙◌, arith}
-use Rattle.std.specs.Option.{option_map}
+use Rattle.std.proofs.Common.{◌≡◌, ℕ, zero, suc, ◌≤◌, false, List, [], ◌∷◌, ◌++◌, map, take, reverse, refl, sym, ap, subst, ◌∙◌, arith}
 use Rattle.apl_arrays.specs.Cells.{Arr}
 use Rattle.apl_listing.specs.Kinds.{kinds}
 use Rattle.apl_defn.specs.Definitions.{Text}
-use Rattle.apl_tokens.specs.Tokens.{tokens_of}
 use Rattle.apl_translate.specs.declared.form.Form.{Form}
 use Rattle.apl_translate.specs.declared.form.Form.TheVariants as forms
 use Rattle.apl_translate.specs.declared.form.Placed.{Placed}
@@ -16,17 +14,17 @@ use Rattle.apl_translate.specs.Translation.{Translates}
 use Rattle.apl_machine_state.specs.declared.operand.Operand.{Operand}
 use Rattle.apl_machine_state.specs.Items.{Rest, kind_of_operand, operand_stack}
 use Rattle.apl_machine_state.specs.Environment.{Context}
-use Rattle.apl_order.specs.Order.{HasHoles, hole, holes}
+use Rattle.apl_order.specs.Order.{hole, holes}
 use Rattle.apl_frames.specs.declared.frame.Stage.{Stage}
 use Rattle.apl_frames.specs.declared.frame.Stage.TheVariants.{Ready, Pendent, Emptied}
-use Rattle.apl_frames.specs.Flat.{HasKinds, content_at, filled, flat_rest, holed, items_at, rest_with, stack_after}
+use Rattle.apl_frames.specs.Flat.{content_at, filled, flat_rest, holed, items_at, rest_with, stack_after}
 use Rattle.apl_frames.proofs.Pendent.{kinds_awaited}
 use Rattle.apl_frames.proofs.Standing.{stack_of_line}
 use Rattle.apl_parts.specs.Pieces.{Waiting}
 use Rattle.apl_parts.specs.Taken.{classes_of, part_of, waiting_of}
 use Rattle.apl_parts.specs.Restored as restored
-use Rattle.apl_saved.specs.Rules.{Awaits, IsPendent, IsPendentIn}
-use Rattle.apl_savable.specs.Savable.{AreLeft, HasCalled, IsUnderWay, IsUnderWayIn}
+use Rattle.apl_saved.specs.Rules.{Awaits, IsPendent}
+use Rattle.apl_savable.specs.Savable.{AreLeft, HasCalled, IsUnderWay}
 use Rattle.apl_savable.proofs.Classes.{classes-again}
 
 -- ---- holes

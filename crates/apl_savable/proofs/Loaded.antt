@@ -1,11 +1,10 @@
 -- What is loaded can be saved.
-use Rattle.std.proofs.Common.{◌≡◌, ◌⊎◌, inl, inr, ℕ, suc, ◌+◌, ◌<◌, ◌≤◌, All, Bool, true, false, cond, List, [], ◌∷◌, ◌++◌, length, map, take, reverse, Option, Some, None, Ok, refl, sym, ap, subst, ◌∙◌, true≢false, arith, append_assoc}
-use Rattle.std.specs.Prelude.{slice_get, ◌-◌}
-use Rattle.std.specs.Option.{option_map, option_or}
+use Rattle.std.proofs.Common.{◌≡◌, ℕ, ◌+◌, ◌<◌, ◌≤◌, All, Bool, true, false, cond, List, [], ◌∷◌, ◌++◌, length, map, reverse, Option, Some, None, refl, sym, ap, subst, ◌∙◌, arith, append_assoc}
+use Rattle.std.specs.Option.{option_map}
 use Rattle.std.specs.List.{AllByRecursion}
 use Rattle.std.specs.Str.{bytes_eq}
 use Rattle.std.proofs.lemmas.List.{append-nil, reverse-append, reverse-reverse}
-use Rattle.std.proofs.lemmas.List.Elements.{All-append, All-cons, All-from_recursion, All-head, All-nil, All-tail}
+use Rattle.std.proofs.lemmas.List.Elements.{All-cons, All-from_recursion, All-head, All-nil, All-tail}
 use Rattle.apl_arrays.specs.Cells.{Arr}
 use Rattle.apl_symbols.specs.declared.primitive.Primitive.TheVariants as primitives
 use Rattle.apl_code.specs.declared.instr.Action.{Action}
@@ -15,25 +14,20 @@ use Rattle.apl_code.specs.declared.row.Row.TheVariants as rows
 use Rattle.apl_code.specs.declared.row.Function.TheVariants as functions
 use Rattle.apl_code.specs.declared.row.Variable.TheVariants as variables
 use Rattle.apl_tokens.specs.Spelling.{IsName}
-use Rattle.apl_tokens.specs.Tokens.{tokens_of}
-use Rattle.apl_defn.specs.Definitions.{Text, Definition, line_of}
-use Rattle.apl_defn.specs.Defining.{IsDefined}
+use Rattle.apl_defn.specs.Definitions.{Text, line_of}
 use Rattle.apl_defn.proofs.Limits.{few_lines}
 use Rattle.apl_translate.specs.Binding.{bound_of}
 use Rattle.apl_translate.specs.Forms.{forms_after}
-use Rattle.apl_translate.specs.Lines.{Line}
 use Rattle.apl_translate.specs.Translation.{Translates}
-use Rattle.apl_names.specs.declared.binding.Binding.{Binding}
 use Rattle.apl_names.specs.declared.binding.Binding.TheVariants.{Value, Function}
 use Rattle.apl_names.specs.Maps.{map_of, said}
 use Rattle.apl_names.proofs.Texts.{same}
-use Rattle.apl_machine_state.specs.Items.{Rest}
 use Rattle.apl_machine_state.specs.Environment as model
 use Rattle.apl_machine_state.specs.Environment.{origin_name, scalar}
 use Rattle.apl_machine_state.specs.Calls.{bound_to, label_of}
-use Rattle.apl_order.specs.Kept.{AreAtMost, AreLines, Ascend as AscendFrom}
+use Rattle.apl_order.specs.Kept.{AreAtMost, Ascend as AscendFrom}
 use Rattle.apl_order.proofs.Defined.{labels-said}
-use Rattle.apl_order.proofs.Maps.{said-append, said-listed}
+use Rattle.apl_order.proofs.Maps.{said-listed}
 use Rattle.apl_frames.specs.declared.frame.Stage.TheVariants.{Pendent}
 use Rattle.apl_frames.specs.Flat.{HasKinds, pendent_flat, rest_with}
 use Rattle.apl_contexts.specs.Contexts.{Newest, Beneath, Idle}
@@ -46,8 +40,8 @@ use Rattle.apl_parts.specs.Restored.{AreFew, AreStanding, AreWhole, FitsWaiting,
 use Rattle.apl_parts.specs.Restored as restored
 use Rattle.apl_parts.proofs.Added.{all_reverse, map_reverse}
 use Rattle.apl_parts.proofs.Kept.{whole-kept}
-use Rattle.apl_saved.specs.Rules.{AreContexts, AreRuled, Awaits, Calls, Ends, Follows, HasNoLabel, IsCall, IsContext, IsLocal, IsOrigin, IsPendent, IsPendentIn, IsStatement, StandsOn, counted, text_of, variable_names}
-use Rattle.apl_savable.specs.Savable.{AreSavable, HasCalled, HasCalledIn, IsCalledBy, IsNamed, IsOriginBy, IsSavable, IsSavableContext, IsUnderWay, IsUnderWayIn}
+use Rattle.apl_saved.specs.Rules.{AreContexts, AreRuled, Awaits, Calls, Ends, Follows, IsCall, IsContext, IsLocal, IsOrigin, IsPendent, IsPendentIn, IsStatement, StandsOn, counted, text_of, variable_names}
+use Rattle.apl_savable.specs.Savable.{AreSavable, HasCalled, HasCalledIn, IsCalledBy, IsNamed, IsOriginBy, IsSavableContext, IsUnderWay, IsUnderWayIn}
 use Rattle.apl_savable.specs.Promises.{LoadedIsSavable}
 use Rattle.apl_savable.proofs.Fits.{code-few, line-fits}
 use Rattle.apl_savable.proofs.StackKinds.{one_code, pendent_kinds}

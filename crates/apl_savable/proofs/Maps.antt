@@ -1,32 +1,30 @@
 -- The names of savable states as calls begin and names are given values.
-use Rattle.std.proofs.Common.{◌≡◌, ◌⊎◌, inl, inr, ℕ, zero, suc, ◌≤◌, Bool, true, false, cond, List, [], ◌∷◌, ◌++◌, drop, map, Option, Some, None, refl, sym, ap, subst, ◌∙◌, arith, true≢false}
-use Rattle.std.specs.Prelude.{ℤ, pos, is_some, if◌then◌else◌}
+use Rattle.std.proofs.Common.{◌≡◌, inl, inr, ℕ, zero, ◌≤◌, Bool, true, false, cond, List, [], ◌∷◌, ◌++◌, map, Option, Some, None, refl, sym, ap, subst, ◌∙◌, arith, true≢false}
+use Rattle.std.specs.Prelude.{pos, is_some, if◌then◌else◌}
 use Rattle.std.specs.List.{AllByRecursion}
 use Rattle.std.specs.Option.{option_or, option_to_list}
 use Rattle.std.specs.Str.{bytes_eq}
 use Rattle.apl_arrays.specs.Cells.{Arr, Items, Numbers}
 use Rattle.apl_tokens.specs.Spelling.{IsName}
 use Rattle.apl_tokens.proofs.Answered.{answer_spells, spelled_answer}
-use Rattle.apl_defn.specs.Definitions.{Text, Definition, Header, line_of}
+use Rattle.apl_defn.specs.Definitions.{Text, Definition}
 use Rattle.apl_defn.specs.Defining.{IsDefined}
 use Rattle.apl_defn.specs.Headers.{Heads, user_names}
 use Rattle.apl_defn.proofs.Headings.{TokenLaws, head_heads}
 use Rattle.apl_defn.proofs.Limits.{defined_made}
 use Rattle.apl_names.specs.declared.binding.Binding.{Binding}
-use Rattle.apl_names.specs.declared.binding.Binding.TheVariants as bindings
 use Rattle.apl_names.specs.declared.binding.Binding.TheVariants.{Unset, Label, Value, Function}
-use Rattle.apl_names.specs.Maps.{Map, assigned, found, said, with_entry, without_entry}
-use Rattle.apl_names.proofs.Texts.{differ, flip, itself, same}
+use Rattle.apl_names.specs.Maps.{Map, assigned, found, said, with_entry}
+use Rattle.apl_names.proofs.Texts.{differ, same}
 use Rattle.apl_names.proofs.Maps.{said_with}
-use Rattle.apl_machine_state.specs.Items.{Rest}
-use Rattle.apl_machine_state.specs.Environment.{Context, Statement, Call, Execute, Scene, World, environment, index_origin, left_over, origin_by, origin_in, origin_name, rest_of, scalar, scene, with_maps}
+use Rattle.apl_machine_state.specs.Environment.{Context, Statement, Call, Execute, Scene, World, environment, index_origin, left_over, origin_by, origin_in, origin_name, scalar, scene, with_maps}
 use Rattle.apl_machine_state.specs.Calls.{bound_to, call_map, label_of, local_of, named, names_of_call}
 use Rattle.apl_order.specs.Kept.{AreGlobals, AreKept, IsObject}
-use Rattle.apl_order.proofs.Assigned.{IsFilled, filled}
+use Rattle.apl_order.proofs.Assigned.{filled}
 use Rattle.apl_order.proofs.CallMaps.{IsNoFunction, call-function}
 use Rattle.apl_order.proofs.Defined.{labels-said, own-said}
-use Rattle.apl_order.proofs.Maps.{said-append, said-listed}
-use Rattle.apl_savable.specs.Savable.{AreSavable, IsCalledBy, IsNamed, IsOriginBy, IsSavableContext}
+use Rattle.apl_order.proofs.Maps.{said-listed}
+use Rattle.apl_savable.specs.Savable.{AreSavable, IsCalledBy, IsNamed, IsOriginBy}
 use Rattle.apl_savable.proofs.Likes.{called-like}
 use Rattle.apl_savable.proofs.Spelling.{no-origin}
 use Rattle.apl_savable.proofs.Rights.{AreOwn, IsOwn, IsTarget, bit-scalar}

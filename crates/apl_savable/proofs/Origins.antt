@@ -1,5 +1,5 @@
 -- A call's own ⎕IO, in parts.
-use Rattle.std.proofs.Common.{◌≡◌, ◌⊎◌, ℕ, Bool, true, false, cond, ◌||◌, List, [], ◌∷◌, ◌++◌, map, All, Option, Some, None, refl, sym, ap, subst, ◌∙◌, true≢false}
+use Rattle.std.proofs.Common.{◌≡◌, Bool, true, false, cond, ◌||◌, List, [], ◌∷◌, ◌++◌, map, All, Option, Some, None, refl, sym, ap, subst, ◌∙◌, true≢false}
 use Rattle.std.specs.Prelude.{is_some}
 use Rattle.std.specs.Str.{bytes_eq}
 use Rattle.std.proofs.lemmas.List.Elements.{All-cons, All-nil}
@@ -9,7 +9,7 @@ use Rattle.apl_names.specs.declared.binding.Binding.{Binding}
 use Rattle.apl_names.specs.declared.binding.Binding.TheVariants.{Unset, Label, Value, Function}
 use Rattle.apl_names.specs.Maps.{Map, said, value_in}
 use Rattle.apl_names.specs.Slots.{has}
-use Rattle.apl_names.proofs.Texts.{flip, itself, same}
+use Rattle.apl_names.proofs.Texts.{flip, itself}
 use Rattle.apl_machine_state.specs.Environment.{origin_name}
 use Rattle.apl_machine_state.specs.Calls.{bound_to, label_of}
 use Rattle.apl_order.specs.Kept.{IsCallMap, names_by}

@@ -1,7 +1,7 @@
 -- What phrases come to: which names are given a value, what is called, which index origins are set.
-use Rattle.std.proofs.Common.{◌≡◌, ◌⊎◌, inl, inr, ℕ, zero, suc, ◌≤◌, ◌&&◌, Bool, true, false, List, [], ◌∷◌, map, Option, Some, None, refl, sym, ap, subst, ◌∙◌, arith, true≢false}
-use Rattle.std.specs.Prelude.{ℤ, pos, is_none, is_some, nat_le, nat_lt, Result, Ok, Err, if◌then◌else◌}
-use Rattle.std.specs.Cmp.{first_so, second_so}
+use Rattle.std.proofs.Common.{◌≡◌, ◌⊎◌, inl, inr, ℕ, zero, suc, ◌≤◌, ◌&&◌, Bool, true, false, List, [], ◌∷◌, map, Option, Some, None, refl, sym, ap, arith, true≢false}
+use Rattle.std.specs.Prelude.{ℤ, pos, is_none, is_some, nat_lt, Result, Ok, Err, if◌then◌else◌}
+use Rattle.std.specs.Cmp.{first_so}
 use Rattle.apl_arrays.specs.Cells.{Arr, Items, Numbers, Characters}
 use Rattle.apl_faults.specs.declared.fault.Fault.{Fault}
 use Rattle.apl_faults.specs.declared.fault.Fault.TheVariants.{Syntax, Rank, Limit}
@@ -16,8 +16,7 @@ use Rattle.apl_tokens.specs.declared.line.TokenError.{TokenError}
 use Rattle.apl_tokens.specs.Spelling.{IsName}
 use Rattle.apl_tokens.specs.Tokens.{tokens_of}
 use Rattle.apl_code.specs.Instr.{IsAction, IsVariable}
-use Rattle.apl_code.specs.declared.instr.Action.{Action}
-use Rattle.apl_code.specs.declared.instr.Action.TheVariants.{Box, Phrase}
+use Rattle.apl_code.specs.declared.instr.Action.TheVariants.{Box}
 use Rattle.apl_code.specs.declared.instr.Source.{Source}
 use Rattle.apl_code.specs.declared.row.Row.{Row}
 use Rattle.apl_code.specs.declared.row.Row.TheVariants.{Index, Read, Call as CallRow, Monadic, Dyadic, Assign, AssignIndexed, Show}

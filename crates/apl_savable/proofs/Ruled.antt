@@ -1,21 +1,18 @@
 -- The parts of an idle state keep to the rules of a file.
-use Rattle.std.proofs.Common.{◌≡◌, ℕ, suc, ◌+◌, ◌≤◌, true, List, [], ◌∷◌, ◌++◌, map, reverse, Option, Some, None, refl, sym, ap, subst, ◌∙◌, arith, append_assoc}
+use Rattle.std.proofs.Common.{◌≡◌, ◌+◌, ◌≤◌, List, [], ◌∷◌, ◌++◌, map, reverse, Option, Some, None, refl, sym, ap, subst, ◌∙◌, arith, append_assoc}
 use Rattle.std.specs.Option.{option_map}
 use Rattle.std.proofs.lemmas.List.{append-nil, reverse-append}
-use Rattle.apl_defn.specs.Definitions.{Text, Definition, line_of}
-use Rattle.apl_names.specs.Maps.{Map}
+use Rattle.apl_defn.specs.Definitions.{Text, line_of}
 use Rattle.apl_machine_state.specs.Items.{Rest}
-use Rattle.apl_machine_state.specs.Environment.{Context, Statement, Call, Execute, is_suspended, rest_of, standing}
-use Rattle.apl_machine_state.specs.State.{State, is_idle}
+use Rattle.apl_machine_state.specs.Environment.{Context, Statement, Call, Execute, rest_of, standing}
 use Rattle.apl_order.specs.Order.{HasHoles, IsAtLine, IsBelow, IsSuspended}
 use Rattle.apl_order.specs.Kept.{AreKept, IsKeptContext}
-use Rattle.apl_order.specs.Kept as kept
 use Rattle.apl_order.proofs.Standing.{AreIdle, order-idle}
 use Rattle.apl_parts.specs.declared.parts.ContextPart.{ContextPart}
-use Rattle.apl_parts.specs.Taken.{parts_of, part_of, waiting_of, names_in}
+use Rattle.apl_parts.specs.Taken.{part_of, waiting_of, names_in}
 use Rattle.apl_parts.specs.Restored.{waiting_in}
-use Rattle.apl_saved.specs.Rules.{AreContexts, Ends, Follows, IsContext, IsPendentIn, IsStatement, StandsOn, counted, text_of}
-use Rattle.apl_savable.specs.Savable.{AreSavable, HasCalledIn, IsSavableContext, IsUnderWay, IsUnderWayIn}
+use Rattle.apl_saved.specs.Rules.{AreContexts, Follows, IsContext, IsPendentIn, IsStatement, StandsOn, counted, text_of}
+use Rattle.apl_savable.specs.Savable.{AreSavable, HasCalledIn, IsSavableContext, IsUnderWayIn}
 use Rattle.apl_savable.specs.Promises.{PartsAreRuled}
 use Rattle.apl_savable.proofs.Lines.{awaits-part, pendent-line, pendent-part}
 use Rattle.apl_savable.proofs.Origins.{all-local, same-names, values-names}

@@ -2,7 +2,6 @@
 use Rattle.std.proofs.Common.{◌≡◌, ℕ, Bool, true, false, cond, List, [], ◌∷◌, ◌++◌, map, reverse, Option, Some, None, refl, sym, ap, subst, ◌∙◌, true≢false}
 use Rattle.std.specs.Option.{option_map, option_or}
 use Rattle.std.specs.List.{AllByRecursion, flat_map}
-use Rattle.std.specs.Map.{lookup}
 use Rattle.std.specs.Str.{bytes_eq}
 use Rattle.std.specs.Prelude.{unwrap_or}
 use Rattle.std.proofs.lemmas.List.{reverse-reverse}
@@ -11,17 +10,15 @@ use Rattle.apl_defn.specs.Definitions.{Text, Definition, line_of}
 use Rattle.apl_names.specs.declared.binding.Binding.{Binding}
 use Rattle.apl_names.specs.declared.binding.Binding.TheVariants.{Unset, Label, Value, Function}
 use Rattle.apl_names.specs.Maps.{IsMap, Map, function_in as function_of, map_of, said, value_in}
-use Rattle.apl_names.proofs.Texts.{flip, itself, same}
+use Rattle.apl_names.proofs.Texts.{flip, same}
 use Rattle.apl_names.proofs.Maps.{none_above, same_map}
 use Rattle.apl_vectors.specs.Vectors.{Vectors, vector_of}
 use Rattle.apl_machine_state.specs.Items.{Rest}
-use Rattle.apl_machine_state.specs.Environment as model
-use Rattle.apl_machine_state.specs.Environment.{World, Context, Statement, Call, Execute, rest_of}
+use Rattle.apl_machine_state.specs.Environment.{Context, Statement, Call, Execute, rest_of}
 use Rattle.apl_machine_state.specs.Calls.{bound_to, label_of}
-use Rattle.apl_machine_state.specs.State.{State, clear, is_idle}
-use Rattle.apl_order.specs.Order.{HasHoles, IsAtLine, IsBelow, IsSuspended}
+use Rattle.apl_machine_state.specs.State.{clear}
+use Rattle.apl_order.specs.Order.{IsBelow}
 use Rattle.apl_order.specs.Kept.{AreGlobals, AreKept, AreVectors, IsCallMap, IsKeptContext, IsObject, IsVectorOf}
-use Rattle.apl_order.specs.Kept as kept
 use Rattle.apl_order.proofs.Maps.{listed-map, said-append, said-listed}
 use Rattle.apl_order.proofs.Standing.{AreIdle, order-idle}
 use Rattle.apl_order.proofs.Vectors.{listed, listed-with, same-vectors, unless_empty, with-ascends}
@@ -31,7 +28,7 @@ use Rattle.apl_parts.specs.Taken.{function_in, names_in, part_of, parts_of, valu
 use Rattle.apl_parts.specs.Restored.{context_of, function_entry, globals_of, names_of, state_of, variable_entry, vectors_of}
 use Rattle.apl_parts.specs.Restored as restored
 use Rattle.apl_parts.proofs.Added.{map_reverse}
-use Rattle.apl_savable.specs.Savable.{AreSavable, IsSavable, IsSavableContext, IsUnderWayIn}
+use Rattle.apl_savable.specs.Savable.{AreSavable, IsSavableContext, IsUnderWayIn}
 use Rattle.apl_savable.specs.Promises.{SavedIsTheSame}
 use Rattle.apl_savable.proofs.Lines.{pendent-line, rest-again}
 use Rattle.apl_savable.proofs.Objects.{later-map, of-entries}

@@ -27,10 +27,10 @@ use Rattle.apl_machine_state.specs.Items as items
 use Rattle.apl_machine_state.specs.Items.{Rest, Awaited, Given, kind_of_operand}
 use Rattle.apl_machine_state.specs.Environment.{World, Context, class_of}
 use Rattle.apl_machine_state.specs.Calls.{begun_of, line_begun}
-use Rattle.apl_operands.specs.Operands.{below, unfetched, unfetched_one}
+use Rattle.apl_operands.specs.Operands.{below, unfetched}
 use Rattle.apl_frames.specs.declared.frame.Stage.{Stage}
 use Rattle.apl_frames.specs.declared.frame.Stage.TheVariants.{Ready, Pendent}
-use Rattle.apl_frames.specs.Flat.{Flat, Stands, answered, begun_flat, emptied, flat_rest, rest_with}
+use Rattle.apl_frames.specs.Flat.{Flat, answered, begun_flat, emptied, rest_with}
 use Rattle.apl_frames.proofs.Standing.{AtPhrase, begins_fresh}
 use Rattle.apl_frames.proofs.Pendent.{answers, answers_rest, empties}
 use Rattle.apl_parts.proofs.Added.{map_reverse}

@@ -1,5 +1,5 @@
 -- Which states a workspace file can hold: those that a machine comes to.
-use Rattle.std.specs.Prelude.{◌≡◌, ◌⊎◌, ℕ, ◌-◌, ◌≤◌, false, List, [], ◌∷◌, map, take, length, reverse, Option, Some, None, Ok, slice_get}
+use Rattle.std.specs.Prelude.{◌≡◌, ◌⊎◌, ◌-◌, ◌≤◌, false, List, [], ◌∷◌, map, take, length, reverse, Option, Some, None, Ok, slice_get}
 use Rattle.apl_symbols.specs.declared.class.Class.{Class}
 use Rattle.apl_tokens.specs.declared.token.Token.{Token}
 use Rattle.apl_tokens.specs.Spelling.{IsName}
