@@ -1,0 +1,17 @@
+pub mod Clear
+pub mod Classes
+pub mod StackKinds
+pub mod Lines
+pub mod Objects
+pub mod Origins
+pub mod Ruled
+pub mod Same
+pub mod Fits
+pub mod Loaded
+pub mod UnderWay
+pub mod Spelling
+pub mod IndexLists
+pub mod Rights
+pub mod Likes
+pub mod Maps
+pub mod Keeping

@@ -1,0 +1,2 @@
+pub mod Savable
+pub mod Promises
