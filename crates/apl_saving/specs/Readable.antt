@@ -1,0 +1,12 @@
+-- Contexts whose lines have tokens.
+use Rattle.std.specs.Prelude.{◌≡◌, true, is_ok}
+use Rattle.apl_tokens.specs.Tokens.{tokens_of}
+use Rattle.apl_defn.specs.Definitions.{is_line}
+use Rattle.apl_parts.specs.declared.parts.ContextPart.{ContextPart}
+use Rattle.apl_parts.specs.declared.parts.ContextPart.TheVariants.{Statement, Call, Execute}
+
+-- The text of a statement has tokens, and so has that of an execute; a call stands at a line of its function.
+abbrev pub IsReadable : ContextPart → Type 0
+IsReadable (Statement s) = is_ok (tokens_of s.text) ≡ true
+IsReadable (Call c) = is_line c.definition c.at ≡ true
+IsReadable (Execute s) = is_ok (tokens_of s.text) ≡ true
