@@ -11,10 +11,11 @@ ascii Variable = omega arith
 ascii Niladic = omega arith
 ascii Function = omega arith
 
-pub letters_more : (letters new : List ℕ) (classes : List Class) (i c : ℕ) (class : Class) → letters ≡ letters_of (take i classes) → new ≡ letters ++ encode_utf8 c → (c < 128 → encode_utf8 c ≡ c ∷ []) → c ≡ letter_of class
-    → i < length classes → class ≡ get_or classes i class → new ≡ letters_of (take (i + 1) classes)
-letters_more letters new classes i c class so_far grown byte same lt at =
-    let more : take (i + 1) classes ≡ take i classes ++ class ∷ [] = take_more classes i class lt ∙ ap (λ z. take i classes ++ z ∷ []) (sym at) in
+pub letters_more : (letters new : List ℕ) (classes : List Class) (i c : ℕ) → letters ≡ letters_of (take i classes) → new ≡ letters ++ encode_utf8 c → (c < 128 → encode_utf8 c ≡ c ∷ []) → c ≡ letter_of (get_or classes i Variable)
+    → i < length classes → new ≡ letters_of (take (i + 1) classes)
+letters_more letters new classes i c so_far grown byte same lt =
+    let class = get_or classes i Variable in
+    let more : take (i + 1) classes ≡ take i classes ++ class ∷ [] = take_more classes i Variable lt in
     let small : c < 128 = subst (λ (n : ℕ). n < 128) (sym same) (ascii class) in
     grown
     ∙ ap (λ bs. bs ++ encode_utf8 c) so_far
