@@ -1,15 +1,13 @@
 -- The lines of a machine's contexts have tokens.
-use Rattle.std.proofs.Common.{◌≡◌, All, List, [], ◌∷◌, map, reverse, sym, ap, subst}
+use Rattle.std.proofs.Common.{◌≡◌, All, List, [], ◌∷◌, map, ap}
 use Rattle.std.specs.Prelude.{is_ok}
 use Rattle.std.proofs.lemmas.List.Elements.{All-cons, All-nil}
 use Rattle.apl_machine_state.specs.Environment.{Context, Statement, Call, Execute}
-use Rattle.apl_machine_state.specs.State.{State}
 use Rattle.apl_order.specs.Order.{AreInOrder, IsAtLine, IsBelow}
-use Rattle.apl_order.specs.Kept.{AreKept, IsKept, IsKeptContext}
-use Rattle.apl_parts.specs.Workspaces.{Pieces}
-use Rattle.apl_parts.specs.Taken.{part_of, parts_of}
+use Rattle.apl_order.specs.Kept.{AreKept, IsKeptContext}
+use Rattle.apl_parts.specs.Taken.{part_of}
 use Rattle.apl_parts.proofs.Added.{all_reverse}
-use Rattle.apl_saving.specs.Readable.{IsReadable}
+use Rattle.apl_saving.specs.Readable.{IsReadable, KeptPartsAreReadable}
 
 abbrev AreAtLines : List Context → Type 0
 AreAtLines [] = Unit {0}
@@ -34,7 +32,5 @@ parts_read : (cs : List Context) → AreAtLines cs → AreKept cs → All IsRead
 parts_read [] at h = All-nil IsReadable
 parts_read (c ∷ cs) at h = All-cons IsReadable (part_of c) (map part_of cs) (part_read c at.0 h.0) (parts_read cs at.1 h.1)
 
-pub kept_read : (p : Pieces) (s : State) → IsKept s → p ≡ parts_of s → All IsReadable p.contexts
-kept_read p s kept e =
-    let read = all_reverse IsReadable (map part_of s.contexts) (parts_read s.contexts (at_lines s.contexts kept.order) kept.keeps.kept) in
-    subst (λ (q : Pieces). All IsReadable q.contexts) (sym e) read
+pub kept_read : KeptPartsAreReadable
+kept_read s kept = all_reverse IsReadable (map part_of s.contexts) (parts_read s.contexts (at_lines s.contexts kept.order) kept.keeps.kept)

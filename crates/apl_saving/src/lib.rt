@@ -4,9 +4,11 @@
 mod arrays;
 mod contexts;
 mod functions;
+mod laws;
 mod lines;
 mod saved;
 mod texts;
 mod whole;
 
+pub use laws::kept_parts_are_readable;
 pub use whole::file_of;

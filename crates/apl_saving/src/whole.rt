@@ -1,10 +1,8 @@
 //! The file.
 ghost use Rattle.std.specs.Prelude.{◌≡◌, IfOk};
-ghost use Rattle.apl_machine_state.specs.State.{State};
-ghost use Rattle.apl_order.specs.Kept.{IsKept};
-ghost use Rattle.apl_parts.specs.Taken.{parts_of};
 ghost use Rattle.apl_workspace_file.specs.declared.fields.Version.TheVariants.{Two};
 ghost use Rattle.apl_saved.specs.Spelled.{IsFileOf, IsVariableOf};
+ghost use Rattle.apl_saving.specs.Readable.{AreReadable};
 
 use crate::contexts::contexts_field;
 use crate::saved::{Saved, list_field};
@@ -29,9 +27,10 @@ impl Saved for (Name, Array) {
     }
 }
 
-/// The workspace file, of version 2, of the parts of a machine. The error is that memory has run out.
+/// The workspace file, of version 2, of parts whose lines have tokens, as those of a machine
+/// ([`crate::kept_parts_are_readable`]). The error is that memory has run out.
 pub fn file_of(alloc: Global, parts: &Parts) -> Result<File, AllocError>
-    requires { (s : State) × IsKept s × (parts.now ≡ parts_of s) }
+    requires { AreReadable parts.now }
     ensures holds { IfOk result (λ f. IsFileOf f parts.now) }
     ensures version { IfOk result (λ f. f.version ≡ Two) }
 {
