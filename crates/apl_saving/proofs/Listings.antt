@@ -1,8 +1,9 @@
 -- The listing of a code is UTF-8.
-use Rattle.std.proofs.Common.{◌≡◌, ℕ, ◌+◌, ◌≤◌, true, List, [], ◌∷◌, ◌++◌, length, refl, arith}
+use Rattle.std.proofs.Common.{◌≡◌, ℕ, ◌+◌, ◌≤◌, List, [], ◌∷◌, ◌++◌, length, subst, arith}
 use Rattle.std.specs.Str.{IsUtf8}
 use Rattle.std.specs.Prelude.{encode_utf8}
-use Rattle.std.proofs.lemmas.Str.{IsUtf8-append, IsUtf8-encode, IsUtf8-nil, encodes-IsAscii}
+use Rattle.std.proofs.lemmas.Str.{IsUtf8-append, IsUtf8-encode, IsUtf8-nil, encode_ascii}
+use Rattle.std.proofs.Math.Utf8.{low_scalar}
 use Rattle.apl_charset.specs.Set.{is_member}
 use Rattle.apl_charset.specs.Text.{IsText, bytes}
 use Rattle.apl_charset.proofs.Members.{and_left, and_right, member_scalar}
@@ -17,8 +18,7 @@ text_utf8 [] h = IsUtf8-nil
 text_utf8 (c ∷ cs) h = IsUtf8-append (encode_utf8 c) (bytes cs) (IsUtf8-encode c (member_scalar c (and_left _ _ h))) (text_utf8 cs (and_right (is_member c) _ h))
 
 feed_utf8 : IsUtf8 (10 ∷ [])
-unfolding encode_utf8
-feed_utf8 = (10 ∷ [], (refl, refl))
+feed_utf8 = subst IsUtf8 (encode_ascii 10 (omega arith)) (IsUtf8-encode 10 (low_scalar 10 (omega arith)))
 
 lines_utf8 : (n : ℕ) (code : List Instr) → n + length code ≤ 1000 → AreInstrs code → IsUtf8 (listed n code)
 lines_utf8 n [] few h = IsUtf8-nil
