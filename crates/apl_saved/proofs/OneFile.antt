@@ -1,9 +1,8 @@
 -- A workspace has one file of each version.
-use Rattle.std.proofs.Common.{◌≡◌, ℕ, Bool, false, List, [], ◌∷◌, ◌++◌, take, drop, map, Option, Some, None, Ok, refl, sym, ap, ◌∙◌}
+use Rattle.std.proofs.Common.{◌≡◌, ℕ, Bool, false, List, [], ◌∷◌, ◌++◌, take, drop, Option, Some, None, Ok, sym, ap, ◌∙◌}
 use Rattle.apl_charset.specs.Text.{IsLine}
 use Rattle.apl_symbols.specs.declared.class.Class.{Class}
 use Rattle.apl_tokens.specs.declared.token.Token.{Token}
-use Rattle.apl_tokens.specs.declared.line.TokenError.{TokenError}
 use Rattle.apl_tokens.specs.Tokens.{tokens_of}
 use Rattle.apl_arrays.specs.Cells.{Arr, Items}
 use Rattle.apl_arrays.specs.Cells as cells
@@ -14,7 +13,7 @@ use Rattle.apl_translate.specs.declared.form.Placed.{Placed}
 use Rattle.apl_translate.specs.Binding.{bound_of}
 use Rattle.apl_translate.specs.Phrase.{assigns, phrase}
 use Rattle.apl_translate.specs.Translation.{Follows, Translates, kinds, reduced}
-use Rattle.apl_defn.specs.Definitions.{Text, Definition, line_of}
+use Rattle.apl_defn.specs.Definitions.{Text, line_of}
 use Rattle.apl_machine_state.specs.declared.operand.Operand.{Operand}
 use Rattle.apl_machine_state.specs.declared.operand.Operand.TheVariants as operands
 use Rattle.apl_parts.specs.declared.parts.ContextPart.{ContextPart}
@@ -35,8 +34,8 @@ use Rattle.apl_workspace_file.specs.declared.fields.CallField.{CallField}
 use Rattle.apl_workspace_file.specs.declared.fields.LocalField.{LocalField}
 use Rattle.apl_workspace_file.specs.declared.fields.RestField.{RestField}
 use Rattle.apl_workspace_file.specs.declared.fields.OperandField.{OperandField}
-use Rattle.apl_workspace_file.specs.declared.fields.OperandField.TheVariants as fields
-use Rattle.apl_saved.specs.Spelled.{AreElements, BothOrNeither, IsArrayOf, IsCallOf, IsContextOf, IsDefinitionOf, IsFileOf, IsFunctionOf, IsListingOf, IsLocalOf, IsOperandOf, IsRestOf, IsStatementOf, IsVariableOf, Pairwise}
+use Rattle.apl_workspace_file.specs.declared.fields.OperandField.TheVariants as stacked
+use Rattle.apl_saved.specs.Spelled.{AreElements, BothOrNeither, IsArrayOf, IsCallOf, IsContextOf, IsFileOf, IsFunctionOf, IsListingOf, IsLocalOf, IsOperandOf, IsRestOf, IsStatementOf, IsVariableOf, Pairwise}
 use Rattle.apl_saved.proofs.Pairs.{both_cons, both_same, both_turned, pairs_same, pairs_turned, turned}
 
 -- two lists of fields of the same items are one, and two fields that may be missing
@@ -65,24 +64,25 @@ array_one a f g h k =
     ∙ ap (λ e. record { shape = g.shape; elements = e }) (elements_one a.items f.elements g.elements h.elements k.elements)
 
 operand_one : (a : Operand) (f g : OperandField) → IsOperandOf f a → IsOperandOf g a → f ≡ g
-operand_one (operands.Value a) (fields.Array f) (fields.Array g) h k = ap fields.Array (array_one a f g h k)
-operand_one (operands.Value a) (fields.Array f) (fields.Slots gs) h k = absurd k
-operand_one (operands.Value a) (fields.Slots fs) g h k = absurd h
-operand_one (operands.Slots ss) (fields.Array f) g h k = absurd h
-operand_one (operands.Slots ss) (fields.Slots fs) (fields.Array g) h k = absurd k
-operand_one (operands.Slots ss) (fields.Slots fs) (fields.Slots gs) h k = ap fields.Slots (fields_same (BothOrNeither IsArrayOf) (field_same IsArrayOf array_one) fs gs ss h k)
+operand_one (operands.Value a) (stacked.Array f) (stacked.Array g) h k = ap stacked.Array (array_one a f g h k)
+operand_one (operands.Value a) (stacked.Array f) (stacked.Slots gs) h k = absurd k
+operand_one (operands.Value a) (stacked.Slots fs) g h k = absurd h
+operand_one (operands.Slots ss) (stacked.Array f) g h k = absurd h
+operand_one (operands.Slots ss) (stacked.Slots fs) (stacked.Array g) h k = absurd k
+operand_one (operands.Slots ss) (stacked.Slots fs) (stacked.Slots gs) h k = ap stacked.Slots (fields_same (BothOrNeither IsArrayOf) (field_same IsArrayOf array_one) fs gs ss h k)
 
 -- ---- lines that await an answer
 
 -- items have one code
+one_step : (i j : Instr) (is js : List Instr) (assigned : Bool) (items : List Placed) (found : Option (ℕ × Row)) → ((after : Bool) (left : List Placed) → Translates is after left → Translates js after left → is ≡ js)
+    → Follows assigned items i is (Translates is) found → Follows assigned items j js (Translates js) found → i ∷ is ≡ j ∷ js
+one_step i j is js assigned items None others h k = both_cons i j is js (h.0 ∙ sym k.0) (h.1 ∙ sym k.1)
+one_step i j is js assigned items (Some p) others h k = both_cons i j is js (h.0 ∙ sym k.0) (others (assigns p.1) (take p.0 items ++ reduced p.1 (drop p.0 items)) h.1 k.1)
+
 one_code : (code kin : List Instr) (assigned : Bool) (items : List Placed) → Translates code assigned items → Translates kin assigned items → code ≡ kin
 one_code [] kin assigned items h k = absurd h
 one_code (i ∷ is) [] assigned items h k = absurd k
-one_code (i ∷ is) (j ∷ js) assigned items h k = by (phrase None (kinds items)) h k
-  where
-    by : (found : Option (ℕ × Row)) → Follows assigned items i is (Translates is) found → Follows assigned items j js (Translates js) found → i ∷ is ≡ j ∷ js
-    by None h k = both_cons i j is js (h.0 ∙ sym k.0) (h.1 ∙ sym k.1)
-    by (Some p) h k = both_cons i j is js (h.0 ∙ sym k.0) (one_code is js (assigns p.1) (take p.0 items ++ reduced p.1 (drop p.0 items)) h.1 k.1)
+one_code (i ∷ is) (j ∷ js) assigned items h k = one_step i j is js assigned items (phrase None (kinds items)) (one_code is js) h k
 
 one_reading : (text : Text) (ts us : List Token) → tokens_of text ≡ Ok ts → tokens_of text ≡ Ok us → ts ≡ us
 one_reading text ts us h k = let both = sym h ∙ k in cc

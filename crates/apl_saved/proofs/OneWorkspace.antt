@@ -1,5 +1,5 @@
 -- A file holds one workspace that keeps to the rules.
-use Rattle.std.proofs.Common.{◌≡◌, ℕ, ◌+◌, List, [], ◌∷◌, ◌++◌, map, All, Option, Some, None, Ok, refl, sym, ap, ◌∙◌, arith}
+use Rattle.std.proofs.Common.{◌≡◌, ℕ, ◌+◌, List, [], ◌∷◌, All, Option, Some, None, Ok, refl, sym, ap, ◌∙◌, arith}
 use Rattle.std.proofs.lemmas.List.Elements.{All-cons, All-nil}
 use Rattle.apl_charset.specs.Text.{IsLine}
 use Rattle.apl_charset.proofs.Unique.{one_text}
@@ -31,8 +31,8 @@ use Rattle.apl_workspace_file.specs.declared.fields.CallField.{CallField}
 use Rattle.apl_workspace_file.specs.declared.fields.LocalField.{LocalField}
 use Rattle.apl_workspace_file.specs.declared.fields.RestField.{RestField}
 use Rattle.apl_workspace_file.specs.declared.fields.OperandField.{OperandField}
-use Rattle.apl_workspace_file.specs.declared.fields.OperandField.TheVariants as fields
-use Rattle.apl_saved.specs.Spelled.{AreElements, BothOrNeither, IsArrayOf, IsCallOf, IsContextOf, IsDefinitionOf, IsFileOf, IsFunctionOf, IsLocalOf, IsOperandOf, IsRestOf, IsStatementOf, IsVariableOf, Pairwise, letter_of, letters_of}
+use Rattle.apl_workspace_file.specs.declared.fields.OperandField.TheVariants as stacked
+use Rattle.apl_saved.specs.Spelled.{AreElements, BothOrNeither, IsArrayOf, IsCallOf, IsContextOf, IsDefinitionOf, IsFileOf, IsFunctionOf, IsLocalOf, IsOperandOf, IsRestOf, IsStatementOf, IsVariableOf, letter_of, letters_of}
 use Rattle.apl_saved.specs.Rules.{AreContexts, AreRuled, IsContext, counted}
 use Rattle.apl_saved.proofs.Pairs.{both_cons, both_same, pairs_one, pairs_same}
 
@@ -56,12 +56,12 @@ one_array f a b h k =
     ∙ ap (λ i. record { shape = b.shape; items = i }) (one_elements f.elements a.items b.items h.elements k.elements)
 
 one_operand : (f : OperandField) (a b : Operand) → IsOperandOf f a → IsOperandOf f b → a ≡ b
-one_operand (fields.Array f) (operands.Value a) (operands.Value b) h k = ap operands.Value (one_array f a b h k)
-one_operand (fields.Array f) (operands.Value a) (operands.Slots ts) h k = absurd k
-one_operand (fields.Array f) (operands.Slots ss) b h k = absurd h
-one_operand (fields.Slots fs) (operands.Value a) b h k = absurd h
-one_operand (fields.Slots fs) (operands.Slots ss) (operands.Value b) h k = absurd k
-one_operand (fields.Slots fs) (operands.Slots ss) (operands.Slots ts) h k = ap operands.Slots (pairs_same (BothOrNeither IsArrayOf) (both_same IsArrayOf one_array) fs ss ts h k)
+one_operand (stacked.Array f) (operands.Value a) (operands.Value b) h k = ap operands.Value (one_array f a b h k)
+one_operand (stacked.Array f) (operands.Value a) (operands.Slots ts) h k = absurd k
+one_operand (stacked.Array f) (operands.Slots ss) b h k = absurd h
+one_operand (stacked.Slots fs) (operands.Value a) b h k = absurd h
+one_operand (stacked.Slots fs) (operands.Slots ss) (operands.Value b) h k = absurd k
+one_operand (stacked.Slots fs) (operands.Slots ss) (operands.Slots ts) h k = ap operands.Slots (pairs_same (BothOrNeither IsArrayOf) (both_same IsArrayOf one_array) fs ss ts h k)
 
 -- ---- lines that await an answer
 
@@ -76,14 +76,14 @@ one_letter Function Variable e = absurd (omega arith)
 one_letter Function Niladic e = absurd (omega arith)
 one_letter Function Function e = refl
 
-one_spelling : (as bs : List Class) → letters_of as ≡ letters_of bs → as ≡ bs
+one_spelling : (cs ds : List Class) → letters_of cs ≡ letters_of ds → cs ≡ ds
 one_spelling [] [] e = refl
-one_spelling [] (b ∷ bs) e = absurd cc
-one_spelling (a ∷ as) [] e = absurd cc
-one_spelling (a ∷ as) (b ∷ bs) e =
-    let first : letter_of a ≡ letter_of b = cc in
-    let others : letters_of as ≡ letters_of bs = cc in
-    both_cons a b as bs (one_letter a b first) (one_spelling as bs others)
+one_spelling [] (d ∷ ds) e = absurd cc
+one_spelling (c ∷ cs) [] e = absurd cc
+one_spelling (c ∷ cs) (d ∷ ds) e =
+    let first : letter_of c ≡ letter_of d = cc in
+    let others : letters_of cs ≡ letters_of ds = cc in
+    both_cons c d cs ds (one_letter c d first) (one_spelling cs ds others)
 
 one_rest : (f : RestField) (s t : Text) (v w : Waiting) → IsRestOf f s v → IsRestOf f t w → v ≡ w
 one_rest f s t v w h k =
