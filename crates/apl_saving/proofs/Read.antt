@@ -1,5 +1,5 @@
 -- The lines of a machine's contexts have tokens.
-use Rattle.std.proofs.Common.{◌≡◌, All, List, [], ◌∷◌, map, ap}
+use Rattle.std.proofs.Common.{All, List, [], ◌∷◌, map, ap}
 use Rattle.std.specs.Prelude.{is_ok}
 use Rattle.std.proofs.lemmas.List.Elements.{All-cons, All-nil}
 use Rattle.apl_machine_state.specs.Environment.{Context, Statement, Call, Execute}

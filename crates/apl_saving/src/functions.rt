@@ -31,10 +31,7 @@ fn line_behind(definition: &Definition, n: usize) -> &[Ch]
 }
 
 /// The lines of a definition.
-fn lines_field(
-    alloc: Global,
-    definition: &Definition,
-) -> Result<ListField<TextField>, AllocError>
+fn lines_field(alloc: Global, definition: &Definition) -> Result<ListField<TextField>, AllocError>
     ensures { IfOk result (λ l. Pairwise IsLine l definition.now.lines) }
 {
     let mut lines = Vec::with_capacity(alloc, definition.len())?;
@@ -63,8 +60,10 @@ impl Saved for FunctionPart {
     ghost is_field = { IsFunctionOf };
 
     fn field(&self, alloc: Global) -> Result<FunctionField, AllocError> {
-        let DefinitionField { header, lines } =
-            definition_field(alloc, self.function().definition())?;
+        let DefinitionField { header, lines } = definition_field(
+            alloc,
+            self.function().definition(),
+        )?;
         let stop = Vec::from_slice(alloc, self.stops())?;
         let trace = Vec::from_slice(alloc, self.traces())?;
         Ok(FunctionField {

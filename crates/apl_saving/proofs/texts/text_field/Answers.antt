@@ -1,4 +1,3 @@
-use Rattle.std.proofs.Common.{◌≡◌, ℕ, List, sym, ◌∙◌, get_or, subst}
 use Rattle.std.specs.Prelude.{string_bytes}
 use Rattle.apl_saving.proofs.InSet.{line_more}
 use Rattle.apl_saving.proofs.texts.text_field.Goals as goal
