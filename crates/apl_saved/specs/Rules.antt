@@ -26,7 +26,6 @@ use Rattle.apl_machine_state.specs.declared.operand.Operand.TheVariants.{Value, 
 use Rattle.apl_order.specs.Kept.{names_in}
 use Rattle.apl_parts.specs.declared.parts.ContextPart.{ContextPart}
 use Rattle.apl_parts.specs.declared.parts.ContextPart.TheVariants as parts
-use Rattle.apl_parts.specs.declared.parts.StatementPart.{StatementPart}
 use Rattle.apl_parts.specs.Pieces.{Waiting, Standing, Watched}
 use Rattle.apl_parts.specs.Restored.{IsWatched, waiting_in}
 use Rattle.apl_parts.specs.Workspaces.{Pieces}
