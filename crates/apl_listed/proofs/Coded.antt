@@ -10,7 +10,7 @@ use Rattle.apl_translate.specs.Phrase.{assigns, phrase}
 use Rattle.apl_translate.specs.Translation.{Follows, Translates, kinds, reduced}
 use Rattle.apl_defn.specs.Definitions.{Text, Definition}
 use Rattle.apl_machine_state.specs.State.{State}
-use Rattle.apl_listed.specs.Listings.{AreCode, IsListing, Lists, bound_now}
+use Rattle.apl_listed.specs.Listings.{AreListings, IsListing, Lists, bound_now}
 
 one_next : (is js : List Instr) (i j : Instr) (a : Bool) (ps : List Placed) (o : Option (ℕ × Row)) → ((b : Bool) (qs : List Placed) → Translates is b qs → Translates js b qs → is ≡ js) → Follows a ps i is (Translates is) o → Follows a ps j js (Translates js) o → i ∷ is ≡ j ∷ js
 one_next is js i j a ps None same x y =
@@ -47,10 +47,10 @@ one_each s (t ∷ ts) (a ∷ us) (b ∷ bs) x y =
     let rest : us ≡ bs = one_each s ts us bs x.1 y.1 in
     λ k. first k ∷ rest k
 
-pub one_code : (s : State) (function : Option Definition) (some others : Option (List (List ℕ))) → AreCode s function some → AreCode s function others → some ≡ others
-one_code s None None None x y = refl
-one_code s None None (Some b) x y = absurd y
-one_code s None (Some a) b x y = absurd x
-one_code s (Some d) None b x y = absurd x
-one_code s (Some d) (Some a) None x y = absurd y
-one_code s (Some d) (Some a) (Some b) x y = ap Some (one_each s d.lines a b x y)
+pub one_list : (s : State) (function : Option Definition) (some others : Option (List (List ℕ))) → AreListings s function some → AreListings s function others → some ≡ others
+one_list s None None None x y = refl
+one_list s None None (Some b) x y = absurd y
+one_list s None (Some a) b x y = absurd x
+one_list s (Some d) None b x y = absurd x
+one_list s (Some d) (Some a) None x y = absurd y
+one_list s (Some d) (Some a) (Some b) x y = ap Some (one_each s d.lines a b x y)

@@ -32,8 +32,8 @@ abbrev pub function_named : State → Text → Option Definition
 function_named s text = if nat_le (length text) 32 then definition_of s text else None
 
 -- a function has a listing of each of its lines, in their order; what is no function has none
-abbrev pub AreCode : State → Option Definition → Option (List (List ℕ)) → Type 0
-AreCode s None None = Unit {0}
-AreCode s None (Some listings) = ⊥
-AreCode s (Some d) None = ⊥
-AreCode s (Some d) (Some listings) = AllZip (Lists s) d.lines listings
+abbrev pub AreListings : State → Option Definition → Option (List (List ℕ)) → Type 0
+AreListings s None None = Unit {0}
+AreListings s None (Some listings) = ⊥
+AreListings s (Some d) None = ⊥
+AreListings s (Some d) (Some listings) = AllZip (Lists s) d.lines listings

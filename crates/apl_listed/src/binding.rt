@@ -39,11 +39,7 @@ fn without_label(tokens: &[Token]) -> &[Token]
 }
 
 /// The classes that the names among these tokens have now.
-fn classes_of(
-    alloc: Global,
-    machine: &Machine,
-    tokens: &[Token],
-) -> Result<Vec<Class>, AllocError>
+fn classes_of(alloc: Global, machine: &Machine, tokens: &[Token]) -> Result<Vec<Class>, AllocError>
     ensures { IfOk result (λ classes. classes.items ≡ map (class_of machine.now.world machine.now.contexts) (flat_map (λ t. name_in t.kind) tokens.now)) }
 {
     let mut classes = Vec::new(alloc);
@@ -56,11 +52,7 @@ fn classes_of(
 }
 
 /// The line of these tokens, a text's, whose names have the classes that they have now.
-pub fn bound_now(
-    alloc: Global,
-    machine: &Machine,
-    tokens: &[Token],
-) -> Result<Bound, AllocError>
+pub fn bound_now(alloc: Global, machine: &Machine, tokens: &[Token]) -> Result<Bound, AllocError>
     requires { (text : List ℕ) × (tokens_of text ≡ Ok tokens.now) }
     ensures { IfOk result (λ bound. bound ≡ bound_now machine.now tokens.now) }
 {

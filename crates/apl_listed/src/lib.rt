@@ -8,5 +8,5 @@ mod listings;
 #[cfg(test)]
 mod tests;
 
-pub use laws::one_code;
+pub use laws::one_list;
 pub use listings::code_of;

@@ -1,9 +1,9 @@
 //! The listings of a function's lines.
-ghost use Rattle.std.specs.Prelude.{◌≡◌, ◌<◌, ◌+◌, ℕ, List, Ok, length, map, option_map, IfOk};
+ghost use Rattle.std.specs.Prelude.{◌≡◌, ◌≤◌, ℕ, List, Ok, length, map, option_map, IfOk};
 ghost use Rattle.std.specs.List.{AllZip};
 ghost use Rattle.apl_tokens.specs.Tokens.{tokens_of};
 ghost use Rattle.apl_defn.specs.Definitions.{line_of};
-ghost use Rattle.apl_listed.specs.Listings.{AreCode, IsListing, Lists, bound_now, function_named};
+ghost use Rattle.apl_listed.specs.Listings.{AreListings, IsListing, Lists, bound_now, function_named};
 
 use crate::binding::bound_now;
 use apl_charset::Ch;
@@ -16,11 +16,7 @@ use apl_translate::translate;
 use std::alloc::{AllocError, Global};
 
 /// The listing of the line of these tokens, a text's, as it would begin now.
-fn line_listing(
-    alloc: Global,
-    machine: &Machine,
-    tokens: &[Token],
-) -> Result<Vec<u8>, AllocError>
+fn line_listing(alloc: Global, machine: &Machine, tokens: &[Token]) -> Result<Vec<u8>, AllocError>
     requires { (text : List ℕ) × (tokens_of text ≡ Ok tokens.now) }
     ensures { IfOk result (λ bytes. IsListing (bound_now machine.now tokens.now) bytes.items) }
 {
@@ -30,12 +26,12 @@ fn line_listing(
     Ok(bytes)
 }
 
-/// The tokens of a line, counted from 0.
-fn tokens_at(definition: &Definition, i: usize) -> &[Token]
-    requires { i < length definition.now.lines }
-    ensures { tokens_of (line_of definition.now (i + 1)) ≡ Ok result.now }
+/// The tokens of the line of that number, from 1.
+fn tokens_at(definition: &Definition, number: usize) -> &[Token]
+    requires { (1 ≤ number) × (number ≤ length definition.now.lines) }
+    ensures { tokens_of (line_of definition.now number) ≡ Ok result.now }
 {
-    let Some(tokens) = definition.tokens(i + 1) else {
+    let Some(tokens) = definition.tokens(number) else {
         unreachable!()
     };
     tokens
@@ -51,7 +47,7 @@ fn listings(
 {
     let mut found = Vec::with_capacity(alloc, definition.len())?;
     for i in 0..definition.len() {
-        found.push(line_listing(alloc, machine, tokens_at(definition, i))?)?;
+        found.push(line_listing(alloc, machine, tokens_at(definition, i + 1))?)?;
     }
     Ok(found)
 }
@@ -65,7 +61,7 @@ pub fn code_of(
     machine: &Machine,
     name: &[Ch],
 ) -> Result<Option<Vec<Vec<u8>>>, AllocError>
-    ensures { IfOk result (λ found. AreCode machine.now (function_named machine.now name.now) (option_map (λ listings. map (λ bytes. bytes.items) listings.items) found)) }
+    ensures { IfOk result (λ found. AreListings machine.now (function_named machine.now name.now) (option_map (λ listings. map (λ bytes. bytes.items) listings.items) found)) }
 {
     let Some(name) = Name::new(name) else {
         return Ok(None);
