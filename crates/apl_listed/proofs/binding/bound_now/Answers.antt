@@ -1,4 +1,4 @@
-use Rattle.std.proofs.Common.{ap, ◌∙◌, map}
+use Rattle.std.proofs.Common.{List, ap, ◌∙◌, map}
 use Rattle.std.specs.List.{flat_map}
 use Rattle.apl_tokens.specs.declared.token.Token.{Token}
 use Rattle.apl_tokens.proofs.Answered.{answer_spells}
