@@ -1,6 +1,6 @@
 // The listing of a function.
 use crate::code_of;
-use apl_charset::{Text, decode_line};
+use apl_charset::{Ch, Text, decode_line};
 use apl_defn::{Definition, define};
 use apl_machine::Machine;
 use std::alloc::Global;
@@ -35,14 +35,23 @@ fn is_listed(code: &[Vec<u8>]) -> bool {
     }
 }
 
+/// The listings of the function in a workspace that has no other.
+fn listed(alloc: Global, function: Definition) -> Result<Option<Vec<Vec<u8>>>, Fail> {
+    let name = [
+        Ch::ascii(b'F'),
+        Ch::ascii(b'A'),
+        Ch::ascii(b'C'),
+        Ch::ascii(b'T'),
+    ];
+    let mut machine = Machine::new(alloc);
+    machine.define(function)?;
+    Ok(code_of(alloc, &machine, &name)?)
+}
+
 #[test]
 fn lists(rt: HostRuntime) -> Result<(), Fail> {
     let alloc = rt.alloc();
-    let name = decode_line(alloc, "FACT".as_bytes())?;
-    let function = function(alloc)?;
-    let mut machine = Machine::new(alloc);
-    machine.define(function)?;
-    match code_of(alloc, &machine, &name)? {
+    match listed(alloc, function(alloc)?)? {
         Some(code) => assert!(rt; is_listed(&code)),
         None => return Err(Fail::from("no function")),
     }
