@@ -187,9 +187,9 @@ module _ {S : Type 0} (way : Way S) (order : IsInOrder way) where
       let before_it : List ℕ = transcript_of way ws (complete_lines r.taken) in
       stopped-writing e ws before left' k.all tells old new k.read (within-whole k.all (count + 1) k.whole k.short k.counted (omega arith)) x.0
       (λ t. extends-whole ws k.all left' old new k.whole
-          (subst (λ (xs : List (List ℕ)). Extends old new (transcript_of way ws xs)) (sym k.lines)
-          (subst (λ (text : List ℕ). Extends old new text) (sym (transcript-append way order ws s (complete_lines r.taken) (shown ∷ []) r.state))
-          (extends-second old mid new before_it (transcript_of way s (shown ∷ [])) (r.wrote t) (x.1 t)))))
+      (subst (λ (xs : List (List ℕ)). Extends old new (transcript_of way ws xs)) (sym k.lines)
+      (subst (λ (text : List ℕ). Extends old new text) (sym (transcript-append way order ws s (complete_lines r.taken) (shown ∷ []) r.state))
+      (extends-second old mid new before_it (transcript_of way s (shown ∷ [])) (r.wrote t) (x.1 t)))))
 
   -- Nothing is left, and these are the lines behind the complete ones.
 
@@ -220,9 +220,9 @@ module _ {S : Type 0} (way : Way S) (order : IsInOrder way) where
       let first : List (List ℕ) = complete_lines r.taken in
       stopped-writing e ws before left' before tells old new (sym (append-nil before) ∙ ap (λ (b : List ℕ). before ++ b) (sym end)) fits x.0
       (λ t. subst (λ (after : List ℕ). Extends old new (text_taken way ws before after)) (sym end)
-          (subst (λ (xs : List (List ℕ)). Extends old new (way.unwritten (way.at_end (after_lines way ws xs)))) (sym all)
-          (subst (λ (text : List ℕ). Extends old new text) (sym (transcript-end way order ws s first lines r.state))
-          (extends-second old mid new (transcript_of way ws first) (way.unwritten (way.at_end (after_lines way s lines))) (r.wrote t) (x.1 t)))))
+      (subst (λ (xs : List (List ℕ)). Extends old new (way.unwritten (way.at_end (after_lines way ws xs)))) (sym all)
+      (subst (λ (text : List ℕ). Extends old new text) (sym (transcript-end way order ws s first lines r.state))
+      (extends-second old mid new (transcript_of way ws first) (way.unwritten (way.at_end (after_lines way s lines))) (r.wrote t) (x.1 t)))))
 
   finishes : (result : Result (Unit {0}) RunError) (ws : S) (before left left' : List ℕ) (tells : Bool) (old mid new : List ℕ) (s s' : S) (count : ℕ) (lines : List (List ℕ))
       (r : Reached way ws before left tells old mid s count) → lines_of before ≡ complete_lines r.taken ++ lines → IsWithinLimits before → left' ≡ [] →

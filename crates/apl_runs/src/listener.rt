@@ -31,12 +31,7 @@ pub trait Listener {
 
     /// Does what the end of the input asks for, and writes what stands to be written then. After an
     /// error a front of that is written.
-    fn end<W: Sink>(
-        &self,
-        alloc: Global,
-        on: &mut Self::On,
-        writer: &mut W,
-    ) -> Result<(), RunError>
+    fn end<W: Sink>(&self, alloc: Global, on: &mut Self::On, writer: &mut W) -> Result<(), RunError>
         ensures state { OnOk result (on.new ≡ (way self.now).quiet ((way self.now).at_end on.old)) }
         ensures wrote { Writes result ((way self.now).unwritten ((way self.now).at_end on.old)) W.tells (W.written writer.old) (W.written writer.new) }
         ensures writer { W.failed writer.new ≡ writer_failed result (W.failed writer.old) };
