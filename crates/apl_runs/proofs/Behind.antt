@@ -1,6 +1,7 @@
 -- What was written before stays in front, and changes nothing else.
-use Rattle.std.proofs.Common.{◌≡◌, ℕ, zero, suc, List, [], ◌∷◌, ◌++◌, Option, Some, None, Result, Ok, Err, Bool, true, false, cond, ap, ◌∙◌, sym, refl, append_assoc, ◌==◌, if◌then◌else◌}
+use Rattle.std.proofs.Common.{◌≡◌, ℕ, zero, suc, List, [], ◌∷◌, ◌++◌, Option, Some, None, Result, Ok, Err, Bool, true, false, cond, ap, ◌∙◌, sym, refl, append_assoc, append-nil, ◌==◌, if◌then◌else◌}
 use Rattle.std.specs.Str.{bytes_eq}
+use Rattle.apl_charset.specs.Text.{bytes}
 use Rattle.apl_charset.specs.Decoding.{decoded}
 use Rattle.apl_tokens.specs.declared.token.Token.{Token}
 use Rattle.apl_tokens.specs.declared.line.TokenError.{TokenError}
@@ -33,8 +34,10 @@ use Rattle.apl_faults.specs.declared.fault.Fault.TheVariants.{Defn, Character, C
 use Rattle.apl_faults.specs.Report.{name_of}
 use Rattle.apl_resume.specs.Cut.{after_stop, cut_steps, resume_line, resumed}
 use Rattle.apl_resume.proofs.Stops.{applied-stops}
-use Rattle.apl_runs.specs.Ways.{Way, line_events}
-use Rattle.apl_runs.specs.Manners.{way}
+use Rattle.apl_runs.specs.Ways.{IsInOrder}
+use Rattle.apl_runs.specs.Output.{written, silent}
+use Rattle.apl_runs.specs.Sessions.{on_session, plain_line, answered_line, line_events}
+use Rattle.apl_runs.specs.Manners.{does, way}
 use Rattle.apl_runs.specs.declared.manner.Manner.{Manner}
 use Rattle.apl_runs.specs.declared.manner.Manner.TheVariants.{Plain, Answered}
 
@@ -194,14 +197,37 @@ cut_steps-behind front (suc n) s =
     ap (cut_steps n) (answered-behind front (turn (behind front s)) (turn s) (stops-behind front s c) (applied-behind front s c))
     ∙ cut_steps-behind front n (after_stop (turn s))
 
--- a way of doing a line keeps in front what was written before
-abbrev pub KeepsFront : Way → Type 0
-KeepsFront way = (front : List OutLine) (s : State) (line : List ℕ) → way (behind front s) line ≡ behind front (way s line)
+-- a line keeps in front what was written before
+abbrev pub KeepsOutput : (State → List ℕ → State) → Type 0
+KeepsOutput line_of = (front : List OutLine) (s : State) (line : List ℕ) → line_of (behind front s) line ≡ behind front (line_of s line)
 
--- either way does
-pub way-behind : (m : Manner) → KeepsFront (way m)
-way-behind (Plain n) front s line = after-behind front s (line_events n line)
-way-behind (Answered n) front s line =
+-- in either way
+does-behind : (m : Manner) → KeepsOutput (does m)
+does-behind (Plain n) front s line = after-behind front s (line_events n line)
+does-behind (Answered n) front s line =
     ap (λ (t : State). interrupt (cut_steps n t)) (after_event-behind front s (Line line))
     ∙ ap interrupt (cut_steps-behind front n (after_event s (Line line)))
     ∙ interrupted-behind front (is_idle (cut_steps n (after_event s (Line line)))) (cut_steps n (after_event s (Line line)))
+
+written-append : (xs ys : List OutLine) → written (xs ++ ys) ≡ written xs ++ written ys
+written-append [] ys = refl
+written-append (x ∷ xs) ys = ap (λ (t : List ℕ). bytes x.text ++ 10 ∷ t) (written-append xs ys) ∙ sym (append_assoc (bytes x.text) (10 ∷ written xs) (written ys))
+
+-- a line that is done where nothing stands to be written, and what stood to be written in front of what comes of it
+from-silent : (line_of : State → List ℕ → State) → KeepsOutput line_of → (s : State) (line : List ℕ) → line_of s line ≡ behind s.output (line_of (silent s) line)
+from-silent line_of keeps s line =
+    ap (λ (o : List OutLine). line_of (record s { output = o }) line) (sym (append-nil s.output)) ∙ keeps s.output (silent s) line
+
+session-in_order : (line_of : State → List ℕ → State) → KeepsOutput line_of → IsInOrder (on_session line_of)
+session-in_order line_of keeps = record {
+  lines = λ line. record {
+    state = λ s. sym (ap silent (from-silent line_of keeps s line));
+    front = λ s. ap (λ (t : State). written t.output) (from-silent line_of keeps s line) ∙ written-append s.output (line_of (silent s) line).output;
+  };
+  end = record { state = λ s. refl; front = λ s. sym (append-nil (written s.output)) };
+  still = λ s. refl;
+  nothing = λ s. refl;
+}
+
+pub manner-in_order : (m : Manner) → IsInOrder (way m)
+manner-in_order m = session-in_order (does m) (does-behind m)

@@ -9,7 +9,7 @@ use Rattle.apl_order.specs.Order.{AreInOrder, IsBelow, IsSuspended}
 use Rattle.apl_session.specs.Events.{Line, Steps, Interrupt, typed}
 use Rattle.apl_resume.specs.Cut.{after_stop, cut_steps, resume_line, resumed}
 use Rattle.apl_resume.specs.Standing.{AlwaysInOrder}
-use Rattle.apl_runs.specs.Ways.{plain, answered, line_events}
+use Rattle.apl_runs.specs.Sessions.{plain, answered, line_events}
 use Rattle.apl_runs.specs.Idle.{LeavesIdle, LinesLeaveIdle}
 
 suspended : (rest : Option Rest) → IsSuspended rest → is_suspended rest ≡ true

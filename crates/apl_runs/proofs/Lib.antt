@@ -1,6 +1,10 @@
 pub mod Writing
 pub mod Reading
-pub mod Behind
 pub mod Transcripts
 pub mod Reached
+pub mod Last
+pub mod Behind
+pub mod Spoken
+pub mod Served
+pub mod Orders
 pub mod Idle

@@ -1,45 +1,62 @@
 -- A transcript, some lines after others.
 use Rattle.std.proofs.Common.{◌≡◌, ℕ, List, [], ◌∷◌, ◌++◌, ap, ◌∙◌, sym, refl, append_assoc, append-nil}
-use Rattle.apl_charset.specs.Text.{bytes}
-use Rattle.apl_machine_state.specs.declared.output.OutLine.{OutLine}
-use Rattle.apl_machine_state.specs.State.{State}
-use Rattle.apl_runs.specs.Ways.{Way}
-use Rattle.apl_runs.specs.Transcript.{written, after_lines, transcript_of, silent}
-use Rattle.apl_runs.proofs.Behind.{behind, KeepsFront}
+use Rattle.apl_runs.specs.Ways.{Way, IsInOrder}
+use Rattle.apl_runs.specs.Transcript.{after_lines, transcript_of}
 
-behind-silent : (s : State) → behind s.output (silent s) ≡ s
-behind-silent s = ap (λ (o : List OutLine). record s { output = o }) (append-nil s.output)
-
-written-append : (xs ys : List OutLine) → written (xs ++ ys) ≡ written xs ++ written ys
-written-append [] ys = refl
-written-append (x ∷ xs) ys = ap (λ (t : List ℕ). bytes x.text ++ 10 ∷ t) (written-append xs ys) ∙ sym (append_assoc (bytes x.text) (10 ∷ written xs) (written ys))
-
-after_lines-append : (way : Way) (s : State) (xs ys : List (List ℕ)) → after_lines way s (xs ++ ys) ≡ after_lines way (after_lines way s xs) ys
+after_lines-append : {S : Type 0} (way : Way S) (s : S) (xs ys : List (List ℕ)) → after_lines way s (xs ++ ys) ≡ after_lines way (after_lines way s xs) ys
 after_lines-append way s [] ys = refl
-after_lines-append way s (line ∷ xs) ys = after_lines-append way (way s line) xs ys
+after_lines-append way s (line ∷ xs) ys = after_lines-append way (way.after_line s line) xs ys
 
-after_lines-behind : (way : Way) → KeepsFront way → (front : List OutLine) (s : State) (lines : List (List ℕ)) →
-    after_lines way (behind front s) lines ≡ behind front (after_lines way s lines)
-after_lines-behind way keeps front s [] = refl
-after_lines-behind way keeps front s (line ∷ lines) =
-    ap (λ (t : State). after_lines way t lines) (keeps front s line) ∙ after_lines-behind way keeps front (way s line) lines
+module _ {S : Type 0} (way : Way S) (order : IsInOrder way) where
+  -- lines leave in front what stood to be written
 
--- what the first lines wrote is taken, and the others run from there
-after_lines-silent : (way : Way) → KeepsFront way → (s : State) (xs ys : List (List ℕ)) →
-    after_lines way s (xs ++ ys) ≡ behind (after_lines way s xs).output (after_lines way (silent (after_lines way s xs)) ys)
-after_lines-silent way keeps s xs ys =
-    let t : State = after_lines way s xs in
-    after_lines-append way s xs ys
-    ∙ ap (λ (x : State). after_lines way x ys) (sym (behind-silent t))
-    ∙ after_lines-behind way keeps t.output (silent t) ys
+  quiet-lines : (s : S) (lines : List (List ℕ)) → way.quiet (after_lines way (way.quiet s) lines) ≡ way.quiet (after_lines way s lines)
+  quiet-lines s [] = order.still s
+  quiet-lines s (line ∷ lines) =
+      sym (quiet-lines (way.after_line (way.quiet s) line) lines)
+      ∙ ap (λ (t : S). way.quiet (after_lines way t lines)) ((order.lines line).state s)
+      ∙ quiet-lines (way.after_line s line) lines
 
-pub silent-append : (way : Way) → KeepsFront way → (s t : State) (xs ys : List (List ℕ)) → t ≡ silent (after_lines way s xs) →
-    silent (after_lines way t ys) ≡ silent (after_lines way s (xs ++ ys))
-silent-append way keeps s t xs ys e = ap (λ (x : State). silent (after_lines way x ys)) e ∙ sym (ap silent (after_lines-silent way keeps s xs ys))
+  front-lines : (s : S) (lines : List (List ℕ)) → way.unwritten (after_lines way s lines) ≡ way.unwritten s ++ way.unwritten (after_lines way (way.quiet s) lines)
+  front-lines s [] = sym (append-nil (way.unwritten s)) ∙ ap (λ (x : List ℕ). way.unwritten s ++ x) (sym (order.nothing s))
+  front-lines s (line ∷ lines) =
+      let made : S = way.after_line s line in
+      let own : S = way.after_line (way.quiet s) line in
+      let rest : S → List ℕ = λ t. way.unwritten (after_lines way t lines) in
+      front-lines made lines
+      ∙ ap (λ (x : List ℕ). x ++ rest (way.quiet made)) ((order.lines line).front s)
+      ∙ append_assoc (way.unwritten s) (way.unwritten own) (rest (way.quiet made))
+      ∙ ap (λ (t : S). way.unwritten s ++ (way.unwritten own ++ rest t)) (sym ((order.lines line).state s))
+      ∙ ap (λ (x : List ℕ). way.unwritten s ++ x) (sym (front-lines own lines))
 
-pub transcript-append : (way : Way) → KeepsFront way → (s t : State) (xs ys : List (List ℕ)) → t ≡ silent (after_lines way s xs) →
-    transcript_of way s (xs ++ ys) ≡ transcript_of way s xs ++ transcript_of way t ys
-transcript-append way keeps s t xs ys e =
-    ap (λ (x : State). written x.output) (after_lines-silent way keeps s xs ys)
-    ∙ written-append (after_lines way s xs).output (after_lines way (silent (after_lines way s xs)) ys).output
-    ∙ ap (λ (x : State). transcript_of way s xs ++ transcript_of way x ys) (sym e)
+  -- Lines xs were done and what they write is written, which left t; lines ys follow.
+
+  pub quiet-append : (s t : S) (xs ys : List (List ℕ)) → t ≡ way.quiet (after_lines way s xs) → way.quiet (after_lines way t ys) ≡ way.quiet (after_lines way s (xs ++ ys))
+  quiet-append s t xs ys e =
+      ap (λ (x : S). way.quiet (after_lines way x ys)) e ∙ quiet-lines (after_lines way s xs) ys ∙ ap way.quiet (sym (after_lines-append way s xs ys))
+
+  pub transcript-append : (s t : S) (xs ys : List (List ℕ)) → t ≡ way.quiet (after_lines way s xs) → transcript_of way s (xs ++ ys) ≡ transcript_of way s xs ++ transcript_of way t ys
+  transcript-append s t xs ys e =
+      ap way.unwritten (after_lines-append way s xs ys)
+      ∙ front-lines (after_lines way s xs) ys
+      ∙ ap (λ (x : S). transcript_of way s xs ++ transcript_of way x ys) (sym e)
+
+  -- and the input ends
+
+  pub quiet-end : (s t : S) (xs ys : List (List ℕ)) → t ≡ way.quiet (after_lines way s xs) →
+      way.quiet (way.at_end (after_lines way t ys)) ≡ way.quiet (way.at_end (after_lines way s (xs ++ ys)))
+  quiet-end s t xs ys e =
+      sym (order.end.state (after_lines way t ys))
+      ∙ ap (λ (x : S). way.quiet (way.at_end x)) (quiet-append s t xs ys e)
+      ∙ order.end.state (after_lines way s (xs ++ ys))
+
+  pub transcript-end : (s t : S) (xs ys : List (List ℕ)) → t ≡ way.quiet (after_lines way s xs) →
+      way.unwritten (way.at_end (after_lines way s (xs ++ ys))) ≡ transcript_of way s xs ++ way.unwritten (way.at_end (after_lines way t ys))
+  transcript-end s t xs ys e =
+      let after : S = after_lines way t ys in
+      let last : S → List ℕ = λ x. way.unwritten (way.at_end x) in
+      order.end.front (after_lines way s (xs ++ ys))
+      ∙ ap (λ (x : S). transcript_of way s (xs ++ ys) ++ last x) (sym (quiet-append s t xs ys e))
+      ∙ ap (λ (x : List ℕ). x ++ last (way.quiet after)) (transcript-append s t xs ys e)
+      ∙ append_assoc (transcript_of way s xs) (way.unwritten after) (last (way.quiet after))
+      ∙ ap (λ (x : List ℕ). transcript_of way s xs ++ x) (sym (order.end.front after))

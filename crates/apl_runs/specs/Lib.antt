@@ -1,6 +1,9 @@
 pub mod Ways
 pub mod Transcript
+pub mod Output
+pub mod Sessions
+pub mod Manners
+pub mod Rounds
 pub mod Refusals
 pub mod Runs
-pub mod Manners
 pub mod Idle

@@ -1,8 +1,7 @@
 -- How a run over an input reads its lines, and where it stands when it ends.
 use Rattle.std.specs.Prelude.{◌≡◌, ◌≢◌, ℕ, ◌<◌, ◌≤◌, ◌==◌, Bool, not, true, false, List, [], ◌∷◌, ◌++◌, length, IsTrue, Result, Ok, Err, ⊤}
 use Rattle.std.specs.List.{AllByRecursion, list_all}
-use Rattle.apl_machine_state.specs.State.{State}
-use Rattle.apl_runs.specs.Transcript.{ended, unfinished, complete_lines, lines_of, without_return, after_lines, silent, transcript_of, transcript}
+use Rattle.apl_runs.specs.Transcript.{ended, unfinished, complete_lines, lines_of, without_return, after_lines, transcript_of, after_input, transcript}
 use Rattle.apl_runs.specs.Ways.{Way}
 use Rattle.apl_devices.specs.Devices.{Extends}
 use Rattle.apl_runs.specs.declared.runs.RunError.{RunError}
@@ -25,10 +24,10 @@ pub record IsWithinLimits (input : List ℕ) : Type 0 where
   pub few : length (lines_of input) ≤ 1000000
 
 -- A run from s in a way came to the end of its input: the input is within the limits, all of it was read, and its transcript was written.
-pub record HasEnded (way : Way) (s s' : State) (before after : List ℕ) (tells : Bool) (old new : List ℕ) : Type 0 where
+pub record HasEnded {S : Type 0} (way : Way S) (s s' : S) (before after : List ℕ) (tells : Bool) (old new : List ℕ) : Type 0 where
   pub within : IsWithinLimits before
   pub read : after ≡ []
-  pub state : s' ≡ silent (after_lines way s (lines_of before))
+  pub state : s' ≡ way.quiet (after_input way s before)
   pub wrote : IsTrue tells → new ≡ old ++ transcript way s before
 
 -- The byte behind an input within the limits that an error refuses: the 2,001st of a line, or the first behind 1,000,000 lines; other errors refuse none.
@@ -39,21 +38,21 @@ IsDue Read taken refused = refused ≡ []
 IsDue Write taken refused = refused ≡ []
 IsDue Memory taken refused = refused ≡ []
 
--- The lines of what was taken when these bytes are left: a piece behind the last line feed is a line only where nothing is left.
-abbrev pub lines_taken : List ℕ → List ℕ → List (List ℕ)
-lines_taken taken [] = lines_of taken
-lines_taken taken (b ∷ after) = complete_lines taken
+-- What the input taken may write when these bytes are left: a piece behind the last line feed is a line, and the input is at its end, only where nothing is left.
+abbrev pub text_taken : {S : Type 0} → Way S → S → List ℕ → List ℕ → List ℕ
+text_taken way s taken [] = transcript way s taken
+text_taken way s taken (b ∷ after) = transcript_of way s (complete_lines taken)
 
--- What is written by then: all that the complete lines write, or, where writing failed or memory was refused, a front of what the lines write.
-abbrev pub IsWritten : RunError → Way → State → List ℕ → List ℕ → List ℕ → List ℕ → Type 0
-IsWritten Write way s taken after old new = Extends old new (transcript_of way s (lines_taken taken after))
-IsWritten Memory way s taken after old new = Extends old new (transcript_of way s (lines_taken taken after))
+-- What is written by then: all that the complete lines write, or, where writing failed or memory was refused, a front of what the input taken may write.
+abbrev pub IsWritten : {S : Type 0} → RunError → Way S → S → List ℕ → List ℕ → List ℕ → List ℕ → Type 0
+IsWritten Write way s taken after old new = Extends old new (text_taken way s taken after)
+IsWritten Memory way s taken after old new = Extends old new (text_taken way s taken after)
 IsWritten Read way s taken after old new = new ≡ old ++ transcript_of way s (complete_lines taken)
 IsWritten LineTooLong way s taken after old new = new ≡ old ++ transcript_of way s (complete_lines taken)
 IsWritten TooManyLines way s taken after old new = new ≡ old ++ transcript_of way s (complete_lines taken)
 
 -- Where a run from s in a way stopped: it took an input within the limits, read the refused byte behind it, if there is one, and nothing further, and wrote what is due by then.
-pub record StoppedAt (error : RunError) (way : Way) (s : State) (before after : List ℕ) (tells : Bool) (old new : List ℕ) : Type 0 where
+pub record StoppedAt {S : Type 0} (error : RunError) (way : Way S) (s : S) (before after : List ℕ) (tells : Bool) (old new : List ℕ) : Type 0 where
   pub taken : List ℕ
   pub refused : List ℕ
   pub read : before ≡ taken ++ refused ++ after
@@ -62,7 +61,7 @@ pub record StoppedAt (error : RunError) (way : Way) (s : State) (before after : 
   pub wrote : IsTrue tells → IsWritten error way s taken after old new
 
 -- how a run from s to s' ends
-abbrev pub EndsRun : {A : Type 0} → Result A RunError → Way → State → State → List ℕ → List ℕ → Bool → List ℕ → List ℕ → Type 0
+abbrev pub EndsRun : {A S : Type 0} → Result A RunError → Way S → S → S → List ℕ → List ℕ → Bool → List ℕ → List ℕ → Type 0
 EndsRun (Ok x) way s s' before after tells old new = HasEnded way s s' before after tells old new
 EndsRun (Err e) way s s' before after tells old new = StoppedAt e way s before after tells old new
 

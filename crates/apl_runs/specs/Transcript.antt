@@ -1,8 +1,5 @@
 -- The lines of an input, and what a run over them writes.
 use Rattle.std.specs.Prelude.{ℕ, List, [], ◌∷◌, ◌++◌, ◌-◌, ◌==◌, if◌then◌else◌, length, map, take, slice_index}
-use Rattle.apl_charset.specs.Text.{bytes}
-use Rattle.apl_machine_state.specs.declared.output.OutLine.{OutLine}
-use Rattle.apl_machine_state.specs.State.{State}
 use Rattle.apl_runs.specs.Ways.{Way}
 
 -- the pieces of the input that a line feed ends, behind a front of the first
@@ -40,24 +37,19 @@ last_line (b ∷ rest) = (b ∷ rest) ∷ []
 abbrev pub lines_of : List ℕ → List (List ℕ)
 lines_of input = complete_lines input ++ last_line (unfinished input)
 
--- output in UTF-8, each line with its line feed
-abbrev pub written : List OutLine → List ℕ
-written [] = []
-written (line ∷ lines) = bytes line.text ++ 10 ∷ written lines
-
 -- the state after lines that are done in a way, the first of them first
-abbrev pub after_lines : Way → State → List (List ℕ) → State
+abbrev pub after_lines : {S : Type 0} → Way S → S → List (List ℕ) → S
 after_lines way s [] = s
-after_lines way s (line ∷ lines) = after_lines way (way s line) lines
+after_lines way s (line ∷ lines) = after_lines way (way.after_line s line) lines
 
 -- what lines write
-abbrev pub transcript_of : Way → State → List (List ℕ) → List ℕ
-transcript_of way s lines = written (after_lines way s lines).output
+abbrev pub transcript_of : {S : Type 0} → Way S → S → List (List ℕ) → List ℕ
+transcript_of way s lines = way.unwritten (after_lines way s lines)
+
+-- the state after all lines of an input, and its end
+abbrev pub after_input : {S : Type 0} → Way S → S → List ℕ → S
+after_input way s input = way.at_end (after_lines way s (lines_of input))
 
 -- what an input writes
-abbrev pub transcript : Way → State → List ℕ → List ℕ
-transcript way s input = transcript_of way s (lines_of input)
-
--- with its output taken
-abbrev pub silent : State → State
-silent s = record s { output = [] }
+abbrev pub transcript : {S : Type 0} → Way S → S → List ℕ → List ℕ
+transcript way s input = way.unwritten (after_input way s input)

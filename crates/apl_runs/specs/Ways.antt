@@ -1,21 +1,21 @@
--- The ways in which a run does a line.
-use Rattle.std.specs.Prelude.{ℕ, List, [], ◌∷◌}
-use Rattle.apl_machine_state.specs.State.{State}
-use Rattle.apl_session.specs.Events.{Event, Line, Steps, Interrupt, after}
-use Rattle.apl_resume.specs.Cut.{cut}
+-- The ways in which a run does its lines.
+use Rattle.std.specs.Prelude.{◌≡◌, ℕ, List, [], ◌++◌}
 
--- what a line makes of a state
-abbrev pub Way : Type 0
-Way = State → List ℕ → State
+-- A way on states: what a line makes of a state, what the end of the input makes of it, the bytes that stand to be written in it, and the state with these written.
+pub record Way (S : Type 0) : Type 0 where
+  pub after_line : S → List ℕ → S
+  pub at_end : S → S
+  pub unwritten : S → List ℕ
+  pub quiet : S → S
 
--- a line is typed, gets at most n steps, and is interrupted if it still runs
-abbrev pub line_events : ℕ → List ℕ → List Event
-line_events n line = Line line ∷ Steps n ∷ Interrupt ∷ []
+-- What stood to be written before stays in front, and changes nothing else.
+pub record KeepsFront {S : Type 0} (way : Way S) (does : S → S) : Type 0 where
+  pub state : (s : S) → way.quiet (does (way.quiet s)) ≡ way.quiet (does s)
+  pub front : (s : S) → way.unwritten (does s) ≡ way.unwritten s ++ way.unwritten (does (way.quiet s))
 
--- what these events make of a state
-abbrev pub plain : ℕ → State → List ℕ → State
-plain n s line = after s (line_events n line)
-
--- the same where each stop is answered by the line →⎕LC, with two steps more
-abbrev pub answered : ℕ → State → List ℕ → State
-answered n s line = cut s line n
+-- Lines and the end of the input leave in front what stood to be written, and in a quiet state nothing does.
+pub record IsInOrder {S : Type 0} (way : Way S) : Type 0 where
+  pub lines : (line : List ℕ) → KeepsFront way (λ s. way.after_line s line)
+  pub end : KeepsFront way way.at_end
+  pub still : (s : S) → way.quiet (way.quiet s) ≡ way.quiet s
+  pub nothing : (s : S) → way.unwritten (way.quiet s) ≡ []

@@ -1,7 +1,8 @@
 // Lines that are read and written.
 ghost use Rattle.std.specs.Prelude.{◌≡◌, ◌≢◌, [], ◌∷◌, ◌++◌, IfOk, IfErr, IsTrue};
 ghost use Rattle.apl_charset.specs.Text.{bytes};
-ghost use Rattle.apl_runs.specs.Transcript.{without_return, written};
+ghost use Rattle.apl_runs.specs.Transcript.{without_return};
+ghost use Rattle.apl_runs.specs.Output.{labelled};
 ghost use Rattle.apl_runs.specs.Runs.{ReadsEnd, ReadsLine, Writes, reader_failed, writer_failed};
 
 use crate::runs::RunError;
@@ -62,6 +63,29 @@ pub fn read_end<R: Source>(reader: &mut R) -> Result<(), RunError>
     }
 }
 
+/// Writes a text. After an error a front of it is written.
+pub fn write_text<W: Sink>(writer: &mut W, text: &[u8]) -> Result<(), RunError>
+    ensures wrote { Writes result text.now W.tells (W.written writer.old) (W.written writer.new) }
+    ensures writer { W.failed writer.new ≡ writer_failed result (W.failed writer.old) }
+{
+    match write_all(writer, text) {
+        Ok(()) => Ok(()),
+        Err(Failed) => Err(RunError::Write),
+    }
+}
+
+/// A text behind a label.
+fn behind(alloc: Global, label: &[u8], text: Vec<u8>) -> Result<Vec<u8>, AllocError>
+    ensures { IfOk result (λ v. v.items ≡ label.now ++ text.items) }
+{
+    if label.is_empty() {
+        return Ok(text);
+    }
+    let mut whole = Vec::from_slice(alloc, label)?;
+    whole.extend_from_slice(&text)?;
+    Ok(whole)
+}
+
 /// A line as it is written: in UTF-8, with its line feed.
 fn encode_line(alloc: Global, line: &OutLine) -> Result<Vec<u8>, AllocError>
     ensures { IfOk result (λ v. v.items ≡ bytes line.now.text ++ 10 ∷ []) }
@@ -71,31 +95,34 @@ fn encode_line(alloc: Global, line: &OutLine) -> Result<Vec<u8>, AllocError>
     Ok(text)
 }
 
-/// Writes a line. After an error a front of it is written.
+/// Writes a line behind a label. After an error a front of it is written.
 #[tactic(auto, using(crate::proofs::Writing::writing))]
-fn write_line<W: Sink>(alloc: Global, writer: &mut W, line: &OutLine) -> Result<(), RunError>
-    ensures wrote { Writes result (bytes line.now.text ++ 10 ∷ []) W.tells (W.written writer.old) (W.written writer.new) }
+fn write_line<W: Sink>(
+    alloc: Global,
+    writer: &mut W,
+    label: &[u8],
+    line: &OutLine,
+) -> Result<(), RunError>
+    ensures wrote { Writes result (label.now ++ (bytes line.now.text ++ 10 ∷ [])) W.tells (W.written writer.old) (W.written writer.new) }
     ensures writer { W.failed writer.new ≡ writer_failed result (W.failed writer.old) }
 {
-    let text = encode_line(alloc, line)?;
-    match write_all(writer, &text) {
-        Ok(()) => Ok(()),
-        Err(Failed) => Err(RunError::Write),
-    }
+    let text = behind(alloc, label, encode_line(alloc, line)?)?;
+    write_text(writer, &text)
 }
 
-/// Writes the lines. After an error a front of what they spell is written.
+/// Writes the lines, each behind the label. After an error a front of what they spell is written.
 #[tactic(auto, using(crate::proofs::Writing::writing))]
 pub fn write_lines<W: Sink>(
     alloc: Global,
     writer: &mut W,
+    label: &[u8],
     lines: &[OutLine],
 ) -> Result<(), RunError>
-    ensures wrote { Writes result (written lines.now) W.tells (W.written writer.old) (W.written writer.new) }
+    ensures wrote { Writes result (labelled label.now lines.now) W.tells (W.written writer.old) (W.written writer.new) }
     ensures writer { W.failed writer.new ≡ writer_failed result (W.failed writer.old) }
 {
     for line in lines {
-        write_line(alloc, writer, line)?;
+        write_line(alloc, writer, label, line)?;
     }
     Ok(())
 }

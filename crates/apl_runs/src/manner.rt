@@ -1,11 +1,17 @@
-// How a line is done.
+// How a line is done on a session.
 ghost use Rattle.std.specs.Prelude.{◌≡◌, OnOk};
-ghost use Rattle.apl_runs.specs.Manners.{way};
-ghost use Rattle.apl_runs.specs.Ways.{plain};
+ghost use Rattle.apl_runs.specs.Manners.{does};
+ghost use Rattle.apl_runs.specs.Output.{written, silent};
+ghost use Rattle.apl_runs.specs.Runs.{Writes, writer_failed};
+ghost use Rattle.apl_runs.specs.Sessions.{plain_line};
 
+use crate::lines::write_lines;
+use crate::listener::Listener;
+use crate::runs::RunError;
+use apl_devices::Sink;
 use apl_resume::resume_all;
 use apl_session::{FeedError, Session};
-use std::alloc::AllocError;
+use std::alloc::{AllocError, Global};
 
 /// How each line of a run is done, with at most so many steps.
 #[derive(Clone, Copy)]
@@ -18,7 +24,7 @@ pub enum Manner {
 
 /// Types a line, makes its steps, and interrupts what still runs.
 fn type_line(session: &mut Session, line: &[u8], steps: u64) -> Result<(), AllocError>
-    ensures { OnOk result (session.new ≡ plain steps session.old line.now) }
+    ensures { OnOk result (session.new ≡ plain_line steps session.old line.now) }
 {
     match session.feed(line) {
         Ok(()) => {}
@@ -30,8 +36,8 @@ fn type_line(session: &mut Session, line: &[u8], steps: u64) -> Result<(), Alloc
 }
 
 /// Does a line.
-pub fn do_line(session: &mut Session, line: &[u8], manner: Manner) -> Result<(), AllocError>
-    ensures { OnOk result (session.new ≡ way manner session.old line.now) }
+fn do_line(session: &mut Session, line: &[u8], manner: Manner) -> Result<(), AllocError>
+    ensures { OnOk result (session.new ≡ does manner session.old line.now) }
 {
     match manner {
         Manner::Plain(steps) => type_line(session, line, steps),
@@ -40,5 +46,48 @@ pub fn do_line(session: &mut Session, line: &[u8], manner: Manner) -> Result<(),
             // No line leaves the session running, so it isn't busy (`lines_leave_idle`).
             Err(_) => Err(AllocError),
         },
+    }
+}
+
+/// Writes the output of a session. After an error a front of it is written.
+#[tactic(auto, using(crate::proofs::Writing::unlabelled))]
+fn write_output<W: Sink>(
+    alloc: Global,
+    session: &mut Session,
+    writer: &mut W,
+) -> Result<(), RunError>
+    ensures state { session.new ≡ silent session.old }
+    ensures wrote { Writes result (written session.old.output) W.tells (W.written writer.old) (W.written writer.new) }
+    ensures writer { W.failed writer.new ≡ writer_failed result (W.failed writer.old) }
+{
+    let lines = session.take_output();
+    write_lines(alloc, writer, &[], &lines)
+}
+
+impl Listener for Manner {
+    ghost use Rattle.apl_runs.specs.Manners.{way};
+
+    type On = Session;
+
+    ghost way = { way };
+
+    fn hear<W: Sink>(
+        &self,
+        alloc: Global,
+        session: &mut Session,
+        line: &[u8],
+        writer: &mut W,
+    ) -> Result<(), RunError> {
+        do_line(session, line, *self)?;
+        write_output(alloc, session, writer)
+    }
+
+    fn end<W: Sink>(
+        &self,
+        alloc: Global,
+        session: &mut Session,
+        writer: &mut W,
+    ) -> Result<(), RunError> {
+        write_output(alloc, session, writer)
     }
 }

@@ -1,15 +1,16 @@
 // A run over the lines of an input.
-ghost use Rattle.std.specs.Prelude.{◌≡◌, [], ◌∷◌, ◌++◌, IfOk, IfErr, OnOk, IsTrue};
+ghost use Rattle.std.specs.Prelude.{◌≡◌, [], ◌++◌, IfOk, IfErr, OnOk, IsTrue};
 ghost use Rattle.apl_machine_state.specs.State.{is_idle};
 ghost use Rattle.apl_session.specs.Defining.{closed};
 ghost use Rattle.apl_runs.specs.Manners.{way};
+ghost use Rattle.apl_runs.specs.Output.{silent};
 ghost use Rattle.apl_runs.specs.Refusals.{run_number};
-ghost use Rattle.apl_runs.specs.Runs.{EndsRun, IsWithinLimits, StoppedAt, Writes, reader_failed, writer_failed};
-ghost use Rattle.apl_runs.specs.Transcript.{last_line, lines_of, after_lines, transcript_of, transcript, silent};
-ghost use Rattle.apl_runs.specs.Ways.{plain, answered};
+ghost use Rattle.apl_runs.specs.Runs.{IsWithinLimits, StoppedAt, reader_failed, writer_failed};
+ghost use Rattle.apl_runs.specs.Sessions.{plain, answered};
+ghost use Rattle.apl_runs.specs.Transcript.{lines_of, after_lines, transcript};
 
-use crate::lines::{read_end, read_line, write_lines};
-use crate::manner::{Manner, do_line};
+use crate::input::run_lines;
+use crate::manner::Manner;
 use apl_devices::{Sink, Source};
 use apl_machine::Machine;
 use apl_session::Session;
@@ -69,68 +70,6 @@ impl<T: Drop> From<AllocFailed<T>> for RunError {
     }
 }
 
-/// The most lines of a run.
-const MAX_LINES: u32 = 1_000_000;
-
-/// Does a line, and writes what came of it. After an error a front of that is written.
-fn run_line<W: Sink>(
-    alloc: Global,
-    session: &mut Session,
-    line: &[u8],
-    manner: Manner,
-    writer: &mut W,
-) -> Result<(), RunError>
-    ensures state { OnOk result (session.new ≡ silent (after_lines (way manner) session.old (line.now ∷ []))) }
-    ensures wrote { Writes result (transcript_of (way manner) session.old (line.now ∷ [])) W.tells (W.written writer.old) (W.written writer.new) }
-    ensures writer { W.failed writer.new ≡ writer_failed result (W.failed writer.old) }
-{
-    do_line(session, line, manner)?;
-    let lines = session.take_output();
-    write_lines(alloc, writer, &lines)
-}
-
-/// Runs what follows the last line feed, if there is anything.
-fn run_last<W: Sink>(
-    alloc: Global,
-    session: &mut Session,
-    line: &[u8],
-    manner: Manner,
-    writer: &mut W,
-) -> Result<(), RunError>
-    requires { session.old.output ≡ [] }
-    ensures state { OnOk result (session.new ≡ silent (after_lines (way manner) session.old (last_line line.now))) }
-    ensures wrote { Writes result (transcript_of (way manner) session.old (last_line line.now)) W.tells (W.written writer.old) (W.written writer.new) }
-    ensures writer { W.failed writer.new ≡ writer_failed result (W.failed writer.old) }
-{
-    if line.is_empty() {
-        return Ok(());
-    }
-    run_line(alloc, session, line, manner, writer)
-}
-
-/// Runs all lines of the input, each read into the buffer.
-fn run_lines<R: Source, W: Sink>(
-    alloc: Global,
-    session: &mut Session,
-    line: &mut Vec<u8>,
-    reader: &mut R,
-    writer: &mut W,
-    manner: Manner,
-) -> Result<(), RunError>
-    requires { session.old.output ≡ [] }
-    ensures ran { IsTrue R.tells → EndsRun result (way manner) session.old session.new (R.left reader.old) (R.left reader.new) W.tells (W.written writer.old) (W.written writer.new) }
-    ensures reader { R.failed reader.new ≡ reader_failed result (R.failed reader.old) }
-    ensures writer { W.failed writer.new ≡ writer_failed result (W.failed writer.old) }
-{
-    for _ in 0..MAX_LINES {
-        if !read_line(reader, line)? {
-            return run_last(alloc, session, line, manner, writer);
-        }
-        run_line(alloc, session, line, manner, writer)?;
-    }
-    read_end(reader)
-}
-
 /// Runs the lines of an input on a machine, which is dropped after an error.
 fn run_in<R: Source, W: Sink>(
     alloc: Global,
@@ -150,8 +89,7 @@ fn run_in<R: Source, W: Sink>(
     ensures writer { W.failed writer.new ≡ writer_failed result (W.failed writer.old) }
 {
     let mut session = Session::new(alloc, ws);
-    let mut line = Vec::new(alloc);
-    match run_lines(alloc, &mut session, &mut line, reader, writer, manner) {
+    match run_lines(alloc, &manner, &mut session, reader, writer) {
         Ok(()) => Ok(session.into_machine()),
         Err(error) => Err(error),
     }
