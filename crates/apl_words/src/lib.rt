@@ -65,9 +65,7 @@ impl From<AllocError> for WordsError {
 
 /// The file of the workspace.
 fn workspace<'a>(alloc: Global) -> Arg<'a> {
-    Arg::new(alloc, "WS")
-        .index(1)
-        .help("The file of the workspace to begin with, else a clear one")
+    Arg::new(alloc, "WS").index(1).help("The file of the workspace to begin with, else a clear one")
 }
 
 /// The option `--save`.
