@@ -14,4 +14,6 @@ pub mod IndexLists
 pub mod Rights
 pub mod Likes
 pub mod Maps
+pub mod Changes
 pub mod Keeping
+pub mod Reached

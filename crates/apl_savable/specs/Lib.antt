@@ -1,2 +1,3 @@
 pub mod Savable
 pub mod Promises
+pub mod Reached

@@ -1,12 +1,24 @@
 // Laws of saving and loading.
 ghost use Rattle.apl_savable.specs.Promises.{ClearIsSavable, DefinitionsKeepSavable, ErasuresKeepSavable, InterruptsKeepSavable, LoadedIsSavable, PartsAreRuled, SavedIsTheSame, StatementsKeepSavable, StepsKeepSavable};
+ghost use Rattle.apl_savable.specs.Reached.{ReachedIsSavable, ReachedIsTheSame};
+
+/// The law that each idle state to which a machine comes is the same when it is saved and loaded again, and that its parts keep to the
+/// rules of a workspace file.
+pub fn reached_is_the_same()
+    ensures { ReachedIsTheSame }
+{
+    // Nothing is done: the law is of the definitions.
+}
+
+/// The law that each state to which a machine comes can be saved.
+pub fn reached_is_savable()
+    ensures { ReachedIsSavable }
+{}
 
 /// The law that the parts of an idle state keep to the rules of a workspace file.
 pub fn parts_are_ruled()
     ensures { PartsAreRuled }
-{
-    // Nothing is done: the law is of the definitions.
-}
+{}
 
 /// The law that a state which is saved and loaded again is the same state.
 pub fn saved_is_the_same()
