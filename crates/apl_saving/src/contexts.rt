@@ -89,6 +89,7 @@ fn call_field(alloc: Global, part: &CallPart) -> Result<CallField, AllocError>
     })
 }
 
+/// A context that waits.
 fn context_field(alloc: Global, part: &ContextPart) -> Result<ContextField, AllocError>
     requires { IsReadable part.now }
     ensures { IfOk result (λ f. IsContextOf f part.now) }

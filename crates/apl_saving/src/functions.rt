@@ -23,6 +23,7 @@ fn line_behind(definition: &Definition, n: usize) -> &[Ch]
     requires { n < length definition.now.lines }
     ensures { slice_get definition.now.lines n ≡ Some result.now }
 {
+    // A definition has at most 999 lines, so the number fits.
     let _len = definition.len();
     let Some(line) = definition.line(n + 1) else {
         unreachable!()
