@@ -54,8 +54,9 @@ fn listings(
 
 /// The listing of each line of the global function of this name, in UTF-8: its code, where each name
 /// of the line has the class that it has now, as the newest of the standing calls says that has the
-/// name, and else the workspace. There is none where the text is not the name of a global function.
-/// The error is that memory has run out.
+/// name, and else the workspace. The names of its own header and its labels are no exception, since
+/// no call of it begins. There is none where the text is not the name of a global function. The error
+/// is that memory has run out.
 pub fn code_of(
     alloc: Global,
     machine: &Machine,
