@@ -6,5 +6,4 @@ pub mod Last
 pub mod Behind
 pub mod Spoken
 pub mod Served
-pub mod Orders
 pub mod Idle
