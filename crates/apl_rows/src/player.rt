@@ -112,7 +112,7 @@ enum Calling {
 }
 
 /// The words that lines begin with.
-const WORDS: [(&str, Directive); 65] = [
+const WORDS: [(&str, Directive); 66] = [
     ("=", Directive::Row),
     ("steps", Directive::Steps),
     (">", Directive::Typing(Typing::Type)),
