@@ -12,7 +12,7 @@
 //! | `display A`, `format A` | the lines that show it; it as characters |
 
 use crate::lacks::Lack;
-use crate::words::{array, count, counts, next_part};
+use crate::words::{array, count, counts, find, next_part};
 use crate::writing::{write_cells, write_found, write_line, write_texts, write_value};
 use apl_arrays::{Array, Cell, Ravel, Stop, within_limits};
 use apl_charset::Ch;
@@ -36,7 +36,7 @@ fn write_elements_of(alloc: Global, out: &mut String, array: &Array) -> Result<(
 }
 
 /// Writes an array as its copy, and its elements.
-pub fn write_array_of(alloc: Global, out: &mut String, text: &str) -> Result<(), Lack> {
+fn write_array_of(alloc: Global, out: &mut String, text: &str) -> Result<(), Lack> {
     let array = array(alloc, text)?;
     write_answer(out, Ok(array.copy()?))?;
     write!(out, "rank {},", array.rank())?;
@@ -50,7 +50,7 @@ fn element_at(alloc: Global, array: &Array, text: &str) -> Result<Option<Cell>, 
 }
 
 /// Writes the elements of an array at index lists.
-pub fn write_elements(alloc: Global, out: &mut String, text: &str) -> Result<(), Lack> {
+fn write_elements(alloc: Global, out: &mut String, text: &str) -> Result<(), Lack> {
     let (first, text) = next_part(text);
     let array = array(alloc, first)?;
     for part in text.split('◊') {
@@ -60,14 +60,14 @@ pub fn write_elements(alloc: Global, out: &mut String, text: &str) -> Result<(),
 }
 
 /// Writes whether an array may have a shape.
-pub fn write_limits(alloc: Global, out: &mut String, text: &str) -> Result<(), Lack> {
+fn write_limits(alloc: Global, out: &mut String, text: &str) -> Result<(), Lack> {
     let shape = counts(alloc, text)?;
     within_limits(&shape)?;
     Ok(write_line(out, "within")?)
 }
 
 /// Writes the array of no characters whose axes are of the length 0 and another.
-pub fn write_empty(alloc: Global, out: &mut String, text: &str) -> Result<(), Lack> {
+fn write_empty(alloc: Global, out: &mut String, text: &str) -> Result<(), Lack> {
     let mut shape = ArrayVec::new();
     shape.push(0);
     shape.push(count(text));
@@ -76,7 +76,7 @@ pub fn write_empty(alloc: Global, out: &mut String, text: &str) -> Result<(), La
 }
 
 /// Writes whether two arrays are equal.
-pub fn write_equal(alloc: Global, out: &mut String, text: &str) -> Result<(), Lack> {
+fn write_equal(alloc: Global, out: &mut String, text: &str) -> Result<(), Lack> {
     let (first, second) = next_part(text);
     let a = array(alloc, first)?;
     let b = array(alloc, second)?;
@@ -85,83 +85,62 @@ pub fn write_equal(alloc: Global, out: &mut String, text: &str) -> Result<(), La
 }
 
 /// The scalar functions of one argument by their symbols.
-const MONADIC: [(char, Monadic); 9] = [
-    ('+', Monadic::Plus),
-    ('-', Monadic::Minus),
-    ('×', Monadic::Times),
-    ('÷', Monadic::Divide),
-    ('⌈', Monadic::Ceiling),
-    ('⌊', Monadic::Floor),
-    ('|', Monadic::Magnitude),
-    ('~', Monadic::Not),
-    ('!', Monadic::Factorial),
+const MONADIC: [(&str, Monadic); 9] = [
+    ("+", Monadic::Plus),
+    ("-", Monadic::Minus),
+    ("×", Monadic::Times),
+    ("÷", Monadic::Divide),
+    ("⌈", Monadic::Ceiling),
+    ("⌊", Monadic::Floor),
+    ("|", Monadic::Magnitude),
+    ("~", Monadic::Not),
+    ("!", Monadic::Factorial),
 ];
 
 /// The scalar functions of two arguments by their symbols.
-const DYADIC: [(char, Dyadic); 18] = [
-    ('+', Dyadic::Plus),
-    ('-', Dyadic::Minus),
-    ('×', Dyadic::Times),
-    ('÷', Dyadic::Divide),
-    ('*', Dyadic::Power),
-    ('⌈', Dyadic::Maximum),
-    ('⌊', Dyadic::Minimum),
-    ('|', Dyadic::Residue),
-    ('<', Dyadic::Less),
-    ('≤', Dyadic::NotGreater),
-    ('=', Dyadic::Equal),
-    ('≥', Dyadic::NotLess),
-    ('>', Dyadic::Greater),
-    ('≠', Dyadic::NotEqual),
-    ('∧', Dyadic::And),
-    ('∨', Dyadic::Or),
-    ('⍲', Dyadic::Nand),
-    ('⍱', Dyadic::Nor),
+const DYADIC: [(&str, Dyadic); 18] = [
+    ("+", Dyadic::Plus),
+    ("-", Dyadic::Minus),
+    ("×", Dyadic::Times),
+    ("÷", Dyadic::Divide),
+    ("*", Dyadic::Power),
+    ("⌈", Dyadic::Maximum),
+    ("⌊", Dyadic::Minimum),
+    ("|", Dyadic::Residue),
+    ("<", Dyadic::Less),
+    ("≤", Dyadic::NotGreater),
+    ("=", Dyadic::Equal),
+    ("≥", Dyadic::NotLess),
+    (">", Dyadic::Greater),
+    ("≠", Dyadic::NotEqual),
+    ("∧", Dyadic::And),
+    ("∨", Dyadic::Or),
+    ("⍲", Dyadic::Nand),
+    ("⍱", Dyadic::Nor),
 ];
-
-/// The first character of a word.
-fn glyph_of(word: &str) -> Result<char, Lack> {
-    word.chars().next().ok_or(Lack::Words)
-}
-
-/// The scalar function of one argument that a symbol is.
-fn monadic_of(word: &str) -> Result<Monadic, Lack> {
-    let glyph = glyph_of(word)?;
-    for (found, function) in &MONADIC {
-        if *found == glyph {
-            return Ok(*function);
-        }
-    }
-    Err(Lack::Words)
-}
 
 /// The scalar function of two arguments that a symbol is.
 pub fn dyadic_of(word: &str) -> Result<Dyadic, Lack> {
-    let glyph = glyph_of(word)?;
-    for (found, function) in &DYADIC {
-        if *found == glyph {
-            return Ok(*function);
-        }
-    }
-    Err(Lack::Words)
+    find(&DYADIC, word).ok_or(Lack::Words)
 }
 
 /// The primitive function that a symbol is.
 fn primitive_of(word: &str) -> Result<Primitive, Lack> {
-    let c = Ch::new(glyph_of(word)?).ok_or(Lack::Words)?;
+    let c = word.chars().next().ok_or(Lack::Words)?;
+    let c = Ch::new(c).ok_or(Lack::Words)?;
     Primitive::new(c).ok_or(Lack::Words)
 }
 
 /// Writes the value of a scalar function of one argument.
-pub fn write_monadic(alloc: Global, out: &mut String, text: &str) -> Result<(), Lack> {
+fn write_monadic(alloc: Global, out: &mut String, text: &str) -> Result<(), Lack> {
     let (word, text) = next_part(text);
-    let function = monadic_of(word)?;
+    let function = find(&MONADIC, word).ok_or(Lack::Words)?;
     let b = array(alloc, text)?;
     write_answer(out, monadic(alloc, function, &b))
 }
 
 /// Writes the value of a scalar function of two arguments.
-pub fn write_dyadic(alloc: Global, out: &mut String, text: &str) -> Result<(), Lack> {
+fn write_dyadic(alloc: Global, out: &mut String, text: &str) -> Result<(), Lack> {
     let (word, text) = next_part(text);
     let (first, second) = next_part(text);
     let function = dyadic_of(word)?;
@@ -184,7 +163,7 @@ fn write_structural2(
 }
 
 /// Writes the value of a function of structure of one argument or two.
-pub fn write_structural(alloc: Global, out: &mut String, text: &str) -> Result<(), Lack> {
+fn write_structural(alloc: Global, out: &mut String, text: &str) -> Result<(), Lack> {
     let (word, text) = next_part(text);
     let function = primitive_of(word)?;
     if text.contains('◊') {
@@ -212,7 +191,7 @@ pub fn slots(alloc: Global, text: &str) -> Result<Vec<Option<Array>>, Lack> {
 }
 
 /// Writes what an index list selects.
-pub fn write_indexed(alloc: Global, out: &mut String, text: &str) -> Result<(), Lack> {
+fn write_indexed(alloc: Global, out: &mut String, text: &str) -> Result<(), Lack> {
     let (first, text) = next_part(text);
     let b = array(alloc, first)?;
     let slots = slots(alloc, text)?;
@@ -228,21 +207,77 @@ fn write_replaced(alloc: Global, out: &mut String, v: &Array, text: &str) -> Res
 }
 
 /// Writes what an indexed assignment leaves.
-pub fn write_assigned(alloc: Global, out: &mut String, text: &str) -> Result<(), Lack> {
+fn write_assigned(alloc: Global, out: &mut String, text: &str) -> Result<(), Lack> {
     let (first, text) = next_part(text);
     let v = array(alloc, first)?;
     write_replaced(alloc, out, &v, text)
 }
 
 /// Writes the lines that show an array.
-pub fn write_display(alloc: Global, out: &mut String, text: &str) -> Result<(), Lack> {
+fn write_display(alloc: Global, out: &mut String, text: &str) -> Result<(), Lack> {
     let array = array(alloc, text)?;
     let lines = display(alloc, &array)?;
     Ok(write_texts(out, &lines)?)
 }
 
 /// Writes an array as characters.
-pub fn write_formatted(alloc: Global, out: &mut String, text: &str) -> Result<(), Lack> {
+fn write_formatted(alloc: Global, out: &mut String, text: &str) -> Result<(), Lack> {
     let array = array(alloc, text)?;
     write_answer(out, format1(alloc, &array))
+}
+
+/// The lines of this module.
+#[derive(Clone, Copy)]
+pub enum Directive {
+    Array,
+    At,
+    Limits,
+    Empty,
+    Equal,
+    Monadic,
+    Dyadic,
+    Structural,
+    Index,
+    Assign,
+    Display,
+    Format,
+}
+
+/// The words of these lines.
+pub const DIRECTIVES: [(&str, Directive); 12] = [
+    ("array", Directive::Array),
+    ("at", Directive::At),
+    ("limits", Directive::Limits),
+    ("empty", Directive::Empty),
+    ("equal", Directive::Equal),
+    ("monadic", Directive::Monadic),
+    ("dyadic", Directive::Dyadic),
+    ("structural", Directive::Structural),
+    ("index", Directive::Index),
+    ("assign", Directive::Assign),
+    ("display", Directive::Display),
+    ("format", Directive::Format),
+];
+
+/// Does what a line asks for.
+pub fn follow(
+    alloc: Global,
+    out: &mut String,
+    directive: Directive,
+    text: &str,
+) -> Result<(), Lack> {
+    match directive {
+        Directive::Array => write_array_of(alloc, out, text),
+        Directive::At => write_elements(alloc, out, text),
+        Directive::Limits => write_limits(alloc, out, text),
+        Directive::Empty => write_empty(alloc, out, text),
+        Directive::Equal => write_equal(alloc, out, text),
+        Directive::Monadic => write_monadic(alloc, out, text),
+        Directive::Dyadic => write_dyadic(alloc, out, text),
+        Directive::Structural => write_structural(alloc, out, text),
+        Directive::Index => write_indexed(alloc, out, text),
+        Directive::Assign => write_assigned(alloc, out, text),
+        Directive::Display => write_display(alloc, out, text),
+        Directive::Format => write_formatted(alloc, out, text),
+    }
 }

@@ -47,7 +47,7 @@ fn write_translated(alloc: Global, out: &mut String, bound: &Bound) -> Result<()
 }
 
 /// Writes the listing of the code of classes and a text.
-pub fn write_listing_of(alloc: Global, out: &mut String, text: &str) -> Result<(), Lack> {
+fn write_listing_of(alloc: Global, out: &mut String, text: &str) -> Result<(), Lack> {
     let bound = bound_line(alloc, text)?;
     Ok(write_translated(alloc, out, &bound)?)
 }
@@ -59,7 +59,7 @@ fn write_assembled_again(alloc: Global, out: &mut String, text: &[u8]) -> Result
 }
 
 /// Writes the listing of what a listing lists.
-pub fn write_again(alloc: Global, out: &mut String, text: &str) -> Result<(), Lack> {
+fn write_again(alloc: Global, out: &mut String, text: &str) -> Result<(), Lack> {
     let text = bytes(alloc, text)?;
     write_assembled_again(alloc, out, &text)
 }
@@ -72,7 +72,7 @@ fn write_code_again(alloc: Global, out: &mut String, code: &Code) -> Result<(), 
 }
 
 /// Writes the listings of copies of the line of classes and a text, and of its code.
-pub fn write_copies(alloc: Global, out: &mut String, text: &str) -> Result<(), Lack> {
+fn write_copies(alloc: Global, out: &mut String, text: &str) -> Result<(), Lack> {
     let bound = bound_line(alloc, text)?;
     write_translated(alloc, out, &bound.copy(alloc)?)?;
     let code = translate(alloc, &bound)?;
@@ -80,7 +80,7 @@ pub fn write_copies(alloc: Global, out: &mut String, text: &str) -> Result<(), L
 }
 
 /// Writes how many instructions a text lists.
-pub fn write_assembled(alloc: Global, out: &mut String, text: &str) -> Result<(), Lack> {
+fn write_assembled(alloc: Global, out: &mut String, text: &str) -> Result<(), Lack> {
     let text = bytes(alloc, text)?;
     let code = assemble(alloc, &text)?;
     Ok(writeln!(out, "{} instructions", code.len())?)
@@ -119,7 +119,7 @@ fn kinds_after(alloc: Global, text: &str, done: usize) -> Result<Vec<Kind>, Lack
 }
 
 /// Writes what so many instructions of a code leave on the operand stack.
-pub fn write_kinds(alloc: Global, out: &mut String, text: &str) -> Result<(), Lack> {
+fn write_kinds(alloc: Global, out: &mut String, text: &str) -> Result<(), Lack> {
     let (number, text) = next_word(text);
     let kinds = kinds_after(alloc, text, count(number))?;
     Ok(write_kind_list(out, &kinds)?)
@@ -162,10 +162,48 @@ fn act(alloc: Global, out: &mut String, cache: &mut Cache, text: &str) -> Result
 }
 
 /// Does with a new cache what stands between the marks.
-pub fn write_cache(alloc: Global, out: &mut String, text: &str) -> Result<(), Lack> {
+fn write_cache(alloc: Global, out: &mut String, text: &str) -> Result<(), Lack> {
     let mut cache = Cache::new(alloc);
     for part in text.split('◊') {
         act(alloc, out, &mut cache, part)?;
     }
     Ok(())
+}
+
+/// The lines of this module.
+#[derive(Clone, Copy)]
+pub enum Directive {
+    Listing,
+    Copies,
+    Kinds,
+    Assemble,
+    Again,
+    Cache,
+}
+
+/// The words of these lines.
+pub const DIRECTIVES: [(&str, Directive); 6] = [
+    ("listing", Directive::Listing),
+    ("copies", Directive::Copies),
+    ("kinds", Directive::Kinds),
+    ("assemble", Directive::Assemble),
+    ("again", Directive::Again),
+    ("cache", Directive::Cache),
+];
+
+/// Does what a line asks for.
+pub fn follow(
+    alloc: Global,
+    out: &mut String,
+    directive: Directive,
+    text: &str,
+) -> Result<(), Lack> {
+    match directive {
+        Directive::Listing => write_listing_of(alloc, out, text),
+        Directive::Copies => write_copies(alloc, out, text),
+        Directive::Kinds => write_kinds(alloc, out, text),
+        Directive::Assemble => write_assembled(alloc, out, text),
+        Directive::Again => write_again(alloc, out, text),
+        Directive::Cache => write_cache(alloc, out, text),
+    }
 }

@@ -23,7 +23,7 @@ fn write_canonical(alloc: Global, out: &mut String, header: &Header) -> Result<(
 }
 
 /// Writes the header that a text is.
-pub fn write_header(alloc: Global, out: &mut String, text: &str) -> Result<(), Lack> {
+fn write_header(alloc: Global, out: &mut String, text: &str) -> Result<(), Lack> {
     let text = characters(alloc, text)?;
     let header = header(alloc, &text)?;
     Ok(write_canonical(alloc, out, &header.copy(alloc)?)?)
@@ -57,7 +57,7 @@ fn write_definition(
 }
 
 /// Writes the function that lines define.
-pub fn write_defined(alloc: Global, out: &mut String, text: &str) -> Result<(), Lack> {
+fn write_defined(alloc: Global, out: &mut String, text: &str) -> Result<(), Lack> {
     let definition = definition_of(alloc, text)?;
     Ok(write_definition(alloc, out, &definition)?)
 }
@@ -90,7 +90,7 @@ fn definition_of_many(alloc: Global, text: &str) -> Result<Definition, Lack> {
 }
 
 /// Writes the function that many lines define.
-pub fn write_many(alloc: Global, out: &mut String, text: &str) -> Result<(), Lack> {
+fn write_many(alloc: Global, out: &mut String, text: &str) -> Result<(), Lack> {
     let definition = definition_of_many(alloc, text)?;
     Ok(write_definition(alloc, out, &definition)?)
 }
@@ -106,7 +106,7 @@ fn write_listed(
 }
 
 /// Writes the lines that show the function of lines, as they show its copy.
-pub fn write_shown(alloc: Global, out: &mut String, text: &str) -> Result<(), Lack> {
+fn write_shown(alloc: Global, out: &mut String, text: &str) -> Result<(), Lack> {
     let definition = definition_of(alloc, text)?;
     Ok(write_listed(alloc, out, &definition.copy(alloc)?)?)
 }
@@ -127,10 +127,45 @@ fn write_numbered(
 }
 
 /// Writes the lines of the function of lines, and the numbers before and behind them.
-pub fn write_lines(alloc: Global, out: &mut String, text: &str) -> Result<(), Lack> {
+fn write_lines(alloc: Global, out: &mut String, text: &str) -> Result<(), Lack> {
     let definition = definition_of(alloc, text)?;
     for line in 0..definition.len() + 2 {
         write_numbered(out, &definition, line)?;
     }
     Ok(())
+}
+
+/// The lines of this module.
+#[derive(Clone, Copy)]
+pub enum Directive {
+    Header,
+    Define,
+    Show,
+    Lines,
+    Many,
+}
+
+/// The words of these lines.
+pub const DIRECTIVES: [(&str, Directive); 5] = [
+    ("header", Directive::Header),
+    ("define", Directive::Define),
+    ("show", Directive::Show),
+    ("lines", Directive::Lines),
+    ("many", Directive::Many),
+];
+
+/// Does what a line asks for.
+pub fn follow(
+    alloc: Global,
+    out: &mut String,
+    directive: Directive,
+    text: &str,
+) -> Result<(), Lack> {
+    match directive {
+        Directive::Header => write_header(alloc, out, text),
+        Directive::Define => write_defined(alloc, out, text),
+        Directive::Show => write_shown(alloc, out, text),
+        Directive::Lines => write_lines(alloc, out, text),
+        Directive::Many => write_many(alloc, out, text),
+    }
 }

@@ -2,9 +2,10 @@
 
 use crate::codes::{bound_line, write_code};
 use crate::lacks::Lack;
+use crate::parts::write_parts;
 use crate::words::{count, name};
 use crate::writing::{
-    write_class, write_counts, write_line, write_named, write_operands, write_value,
+    write_class, write_numbers, write_line, write_named, write_operands, write_value,
 };
 use apl_debug::{state_indicator, stops, traces};
 use apl_machine::{Frame, Level, Machine};
@@ -19,7 +20,7 @@ fn write_frame_of(alloc: Global, out: &mut String, frame: &Frame<'_>) -> Result<
 }
 
 /// Writes what the context of this number is doing, from 0 for the newest.
-pub fn write_frame(
+fn write_frame(
     alloc: Global,
     out: &mut String,
     machine: &Machine,
@@ -31,13 +32,8 @@ pub fn write_frame(
     }
 }
 
-/// Writes the value of a name.
-pub fn write_value_of(out: &mut String, machine: &Machine, name: &Name) -> Result<(), AllocError> {
-    write_value(out, machine.value(name))
-}
-
 /// Writes the class of a name, whether it is that of a global variable, and whether of a global function.
-pub fn write_class_of(out: &mut String, machine: &Machine, name: &Name) -> Result<(), AllocError> {
+fn write_class_of(out: &mut String, machine: &Machine, name: &Name) -> Result<(), AllocError> {
     write_class(out, machine.class_of(name))?;
     if machine.is_variable(name) {
         out.push_str(", a global variable")?;
@@ -52,41 +48,16 @@ pub fn write_class_of(out: &mut String, machine: &Machine, name: &Name) -> Resul
 fn write_vector(out: &mut String, word: &str, lines: Option<&[usize]>) -> Result<(), AllocError> {
     out.push_str(word)?;
     match lines {
-        Some(lines) => write_counts(out, lines)?,
+        Some(lines) => write_numbers(out, lines)?,
         None => out.push_str("none")?,
     }
     out.push('\n')
 }
 
 /// Writes the stop and trace vectors of a function.
-pub fn write_watched(out: &mut String, machine: &Machine, name: &Name) -> Result<(), AllocError> {
+fn write_watched(out: &mut String, machine: &Machine, name: &Name) -> Result<(), AllocError> {
     write_vector(out, "stops: ", stops(machine, name))?;
     write_vector(out, "traces: ", traces(machine, name))
-}
-
-/// A look at a name.
-#[derive(Clone, Copy)]
-pub enum Look {
-    Value,
-    Class,
-    Watched,
-}
-
-/// Looks at the name of a text.
-pub fn look_at(
-    alloc: Global,
-    out: &mut String,
-    machine: &Machine,
-    look: Look,
-    text: &str,
-) -> Result<(), Lack> {
-    let name = name(alloc, text)?;
-    match look {
-        Look::Value => write_value_of(out, machine, &name)?,
-        Look::Class => write_class_of(out, machine, &name)?,
-        Look::Watched => write_watched(out, machine, &name)?,
-    }
-    Ok(())
 }
 
 /// Writes standing calls, a line each.
@@ -100,7 +71,7 @@ fn write_calls(out: &mut String, levels: &[Level]) -> Result<(), AllocError> {
 }
 
 /// Writes the standing calls, newest first.
-pub fn write_levels(out: &mut String, machine: &Machine) -> Result<(), AllocError> {
+fn write_levels(out: &mut String, machine: &Machine) -> Result<(), AllocError> {
     let levels = state_indicator(machine)?;
     write_calls(out, &levels)
 }
@@ -115,13 +86,13 @@ fn write_objects(out: &mut String, names: &[(Name, bool)]) -> Result<(), AllocEr
 }
 
 /// Writes the global names.
-pub fn write_globals(out: &mut String, machine: &Machine) -> Result<(), AllocError> {
+fn write_globals(out: &mut String, machine: &Machine) -> Result<(), AllocError> {
     let names = machine.globals()?;
     write_objects(out, &names)
 }
 
 /// Writes the code that the cache has of a line, where its names have these classes.
-pub fn write_cached(
+fn write_cached(
     alloc: Global,
     out: &mut String,
     machine: &Machine,
@@ -131,6 +102,77 @@ pub fn write_cached(
     match machine.cache().cached(&bound) {
         Some(code) => write_code(alloc, out, code)?,
         None => write_line(out, "not kept")?,
+    }
+    Ok(())
+}
+
+/// Looks at a name.
+#[derive(Clone, Copy)]
+enum NameLook {
+    Value,
+    Class,
+    Watched,
+}
+
+/// Looks at the name of a text.
+fn look_at(
+    alloc: Global,
+    out: &mut String,
+    machine: &Machine,
+    look: NameLook,
+    text: &str,
+) -> Result<(), Lack> {
+    let name = name(alloc, text)?;
+    match look {
+        NameLook::Value => write_value(out, machine.value(&name))?,
+        NameLook::Class => write_class_of(out, machine, &name)?,
+        NameLook::Watched => write_watched(out, machine, &name)?,
+    }
+    Ok(())
+}
+
+/// The lines of this module.
+#[derive(Clone, Copy)]
+pub enum Directive {
+    Frame,
+    Value,
+    Class,
+    Watched,
+    Levels,
+    Globals,
+    Cached,
+    Parts,
+}
+
+/// The words of these lines.
+pub const DIRECTIVES: [(&str, Directive); 8] = [
+    ("frame", Directive::Frame),
+    ("value", Directive::Value),
+    ("class", Directive::Class),
+    ("watched", Directive::Watched),
+    ("levels", Directive::Levels),
+    ("globals", Directive::Globals),
+    ("cached", Directive::Cached),
+    ("parts", Directive::Parts),
+];
+
+/// Does what a line asks for.
+pub fn follow(
+    alloc: Global,
+    out: &mut String,
+    machine: &Machine,
+    directive: Directive,
+    text: &str,
+) -> Result<(), Lack> {
+    match directive {
+        Directive::Frame => write_frame(alloc, out, machine, text)?,
+        Directive::Value => return look_at(alloc, out, machine, NameLook::Value, text),
+        Directive::Class => return look_at(alloc, out, machine, NameLook::Class, text),
+        Directive::Watched => return look_at(alloc, out, machine, NameLook::Watched, text),
+        Directive::Levels => write_levels(out, machine)?,
+        Directive::Globals => write_globals(out, machine)?,
+        Directive::Cached => return write_cached(alloc, out, machine, text),
+        Directive::Parts => write_parts(out, machine)?,
     }
     Ok(())
 }

@@ -7,8 +7,8 @@
 
 use crate::functions::definition_of;
 use crate::lacks::Lack;
-use crate::words::{count, counts, element, name, next_word};
-use crate::writing::{write_class, write_counts, write_line, write_named, write_value};
+use crate::words::{count, counts, element, find, name, next_word};
+use crate::writing::{write_class, write_numbers, write_line, write_named, write_value};
 use apl_arrays::{Array, Cell};
 use apl_names::{Binding, DefinedFunction, Names};
 use apl_symbols::Name;
@@ -18,47 +18,49 @@ use std::alloc::{AllocError, Global};
 /// What is done with names.
 #[derive(Clone, Copy)]
 enum Act {
-    Assign,
     Enter,
     Leave,
-    LeaveWith,
-    Function,
-    Erase,
     Clear,
-    Look,
-    Global,
-    Local,
     Scope,
     Globals,
     Depth,
+    Change(Change),
+    Look(Look),
+}
+
+/// Changes of what a name stands for.
+#[derive(Clone, Copy)]
+enum Change {
+    Assign,
+    LeaveWith,
+    Function,
+    Erase,
+}
+
+/// Looks at what a name stands for.
+#[derive(Clone, Copy)]
+enum Look {
+    Newest,
+    Global,
+    Local,
 }
 
 /// The words of what is done with names.
 const ACTS: [(&str, Act); 13] = [
-    ("assign", Act::Assign),
     ("enter", Act::Enter),
     ("leave", Act::Leave),
-    ("leave_with", Act::LeaveWith),
-    ("function", Act::Function),
-    ("erase", Act::Erase),
     ("clear", Act::Clear),
-    ("look", Act::Look),
-    ("global", Act::Global),
-    ("local", Act::Local),
     ("scope", Act::Scope),
     ("globals", Act::Globals),
     ("depth", Act::Depth),
+    ("assign", Act::Change(Change::Assign)),
+    ("leave_with", Act::Change(Change::LeaveWith)),
+    ("function", Act::Change(Change::Function)),
+    ("erase", Act::Change(Change::Erase)),
+    ("look", Act::Look(Look::Newest)),
+    ("global", Act::Look(Look::Global)),
+    ("local", Act::Look(Look::Local)),
 ];
-
-/// What a word asks for.
-fn act_of(word: &str) -> Result<Act, Lack> {
-    for (found, act) in &ACTS {
-        if *found == word {
-            return Ok(*act);
-        }
-    }
-    Err(Lack::Words)
-}
 
 /// Writes what a name stands for.
 fn write_binding(out: &mut String, binding: Option<&Binding>) -> Result<(), AllocError> {
@@ -140,9 +142,9 @@ fn leave(names: &mut Names) {
     }
 }
 
-/// Writes the global names, each with what it is.
-fn write_globals(out: &mut String, globals: &[(Name, bool)]) -> Result<(), AllocError> {
-    for (name, is_function) in globals {
+/// Writes names, each with what it is.
+fn write_objects(out: &mut String, objects: &[(Name, bool)]) -> Result<(), AllocError> {
+    for (name, is_function) in objects {
         write_named(out, "", name.as_slice())?;
         out.push_str(if *is_function {
             "function "
@@ -153,51 +155,48 @@ fn write_globals(out: &mut String, globals: &[(Name, bool)]) -> Result<(), Alloc
     out.push('\n')
 }
 
-/// Changes what a name stands for.
-fn change(
+/// Writes the global names, each with what it is.
+fn write_globals(out: &mut String, names: &Names) -> Result<(), AllocError> {
+    let globals = names.globals()?;
+    write_objects(out, &globals)
+}
+
+/// Changes what the name of the first word stands for.
+fn change_name(
     alloc: Global,
     out: &mut String,
     names: &mut Names,
-    act: Act,
-    name: &Name,
+    change: Change,
     text: &str,
 ) -> Result<(), Lack> {
-    match act {
-        Act::Assign => assign(alloc, names, name, text)?,
-        Act::LeaveWith => leave_with(out, names, name)?,
-        Act::Function => return define(alloc, names, name, text),
-        _ => {
-            names.erase(name);
+    let (word, text) = next_word(text);
+    let name = name(alloc, word)?;
+    match change {
+        Change::Assign => assign(alloc, names, &name, text)?,
+        Change::LeaveWith => leave_with(out, names, &name)?,
+        Change::Function => define(alloc, names, &name, text)?,
+        Change::Erase => {
+            names.erase(&name);
         }
     }
     Ok(())
 }
 
-/// Writes what a name stands for.
-fn look(out: &mut String, names: &Names, act: Act, name: &Name) -> Result<(), AllocError> {
-    match act {
-        Act::Global => write_binding(out, names.global(name)),
-        Act::Local => write_binding(out, names.local(name)),
-        _ => write_looked_up(out, names, name),
-    }
-}
-
-/// Does what asks for a name.
-fn act_on(
+/// Writes what the name of a word stands for.
+fn look_at(
     alloc: Global,
     out: &mut String,
-    names: &mut Names,
-    act: Act,
-    text: &str,
+    names: &Names,
+    look: Look,
+    word: &str,
 ) -> Result<(), Lack> {
-    let (word, text) = next_word(text);
     let name = name(alloc, word)?;
-    match act {
-        Act::Assign | Act::LeaveWith | Act::Function | Act::Erase => {
-            change(alloc, out, names, act, &name, text)
-        }
-        _ => Ok(look(out, names, act, &name)?),
+    match look {
+        Look::Newest => write_looked_up(out, names, &name)?,
+        Look::Global => write_binding(out, names.global(&name))?,
+        Look::Local => write_binding(out, names.local(&name))?,
     }
+    Ok(())
 }
 
 /// Writes what a scope says of a name: its number, and the name.
@@ -208,25 +207,26 @@ fn write_in_scope(alloc: Global, out: &mut String, names: &Names, text: &str) ->
 }
 
 /// Does what a word asks for.
-fn follow(alloc: Global, out: &mut String, names: &mut Names, part: &str) -> Result<(), Lack> {
+fn act_on(alloc: Global, out: &mut String, names: &mut Names, part: &str) -> Result<(), Lack> {
     let (word, text) = next_word(part);
-    match act_of(word)? {
+    match find(&ACTS, word).ok_or(Lack::Words)? {
         Act::Enter => return enter(alloc, names, text),
         Act::Leave => leave(names),
         Act::Clear => names.clear(),
         Act::Scope => return write_in_scope(alloc, out, names, text),
-        Act::Globals => write_globals(out, &names.globals()?)?,
+        Act::Globals => write_globals(out, names)?,
         Act::Depth => writeln!(out, "{}", names.depth())?,
-        act => return act_on(alloc, out, names, act, text),
+        Act::Change(change) => return change_name(alloc, out, names, change, text),
+        Act::Look(look) => return look_at(alloc, out, names, look, text),
     }
     Ok(())
 }
 
 /// Does with new names what stands between the marks.
-pub fn write_names(alloc: Global, out: &mut String, text: &str) -> Result<(), Lack> {
+fn write_names(alloc: Global, out: &mut String, text: &str) -> Result<(), Lack> {
     let mut names = Names::new(alloc);
     for part in text.split('◊') {
-        follow(alloc, out, &mut names, part)?;
+        act_on(alloc, out, &mut names, part)?;
     }
     Ok(())
 }
@@ -243,7 +243,7 @@ fn set(alloc: Global, vectors: &mut Vectors, name: &Name, text: &str) -> Result<
 /// Writes a vector.
 fn write_vector(out: &mut String, lines: &[usize]) -> Result<(), AllocError> {
     out.push('|')?;
-    write_counts(out, lines)?;
+    write_numbers(out, lines)?;
     out.push('\n')
 }
 
@@ -289,10 +289,36 @@ fn follow_on_vectors(
 }
 
 /// Does with new vectors what stands between the marks.
-pub fn write_vectors(alloc: Global, out: &mut String, text: &str) -> Result<(), Lack> {
+fn write_vectors(alloc: Global, out: &mut String, text: &str) -> Result<(), Lack> {
     let mut vectors = Vectors::new(alloc);
     for part in text.split('◊') {
         follow_on_vectors(alloc, out, &mut vectors, part)?;
     }
     Ok(())
+}
+
+/// The lines of this module.
+#[derive(Clone, Copy)]
+pub enum Directive {
+    Names,
+    Vectors,
+}
+
+/// The words of these lines.
+pub const DIRECTIVES: [(&str, Directive); 2] = [
+    ("names", Directive::Names),
+    ("vectors", Directive::Vectors),
+];
+
+/// Does what a line asks for.
+pub fn follow(
+    alloc: Global,
+    out: &mut String,
+    directive: Directive,
+    text: &str,
+) -> Result<(), Lack> {
+    match directive {
+        Directive::Names => write_names(alloc, out, text),
+        Directive::Vectors => write_vectors(alloc, out, text),
+    }
 }

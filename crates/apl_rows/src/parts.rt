@@ -1,7 +1,7 @@
 //! Workspaces taken apart.
 
 use crate::writing::{
-    write_class, write_counts, write_line, write_named, write_operands, write_text, write_value,
+    write_class, write_numbers, write_line, write_named, write_operands, write_text, write_value,
 };
 use apl_arrays::Array;
 use apl_machine::{CallPart, ContextPart, FunctionPart, Machine, Parts, RestPart, StatementPart};
@@ -13,9 +13,9 @@ fn write_function_part(out: &mut String, part: &FunctionPart) -> Result<(), Allo
     let definition = part.function().definition();
     write_named(out, "function ", definition.header().name.as_slice())?;
     write!(out, "of {} lines, stops: ", definition.len())?;
-    write_counts(out, part.stops())?;
+    write_numbers(out, part.stops())?;
     out.push_str(", traces: ")?;
-    write_counts(out, part.traces())?;
+    write_numbers(out, part.traces())?;
     out.push('\n')
 }
 

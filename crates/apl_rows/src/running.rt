@@ -64,7 +64,7 @@ fn write_end(out: &mut String, end: Option<RunError>, reader: &mut Tape) -> Resu
 }
 
 /// Writes a run over a text, whose stops are answered or end their lines.
-pub fn write_run(alloc: Global, out: &mut String, resumes: bool, text: &str) -> Result<(), Lack> {
+fn write_run(alloc: Global, out: &mut String, resumes: bool, text: &str) -> Result<(), Lack> {
     let (steps, text) = next_word(text);
     let (reading, text) = next_word(text);
     let (writing, text) = next_word(text);
@@ -98,7 +98,7 @@ fn long_input(alloc: Global, count: u64, text: &str) -> Result<Vec<u8>, AllocErr
 }
 
 /// Writes how a run over a long input ended, and how much it wrote.
-pub fn write_long_run(alloc: Global, out: &mut String, text: &str) -> Result<(), Lack> {
+fn write_long_run(alloc: Global, out: &mut String, text: &str) -> Result<(), Lack> {
     let (steps, text) = next_word(text);
     let (count, text) = next_word(text);
     let mut reader = Tape::new(long_input(alloc, number(count), text)?);
@@ -139,7 +139,7 @@ fn write_held(out: &mut String, tape: &mut Tape, text: &[u8]) -> Result<(), Allo
 }
 
 /// Writes what a tape answers.
-pub fn write_tape(alloc: Global, out: &mut String, text: &str) -> Result<(), Lack> {
+fn write_tape(alloc: Global, out: &mut String, text: &str) -> Result<(), Lack> {
     let (word, text) = next_word(text);
     let (settings, text) = next_word(text);
     let (front, text) = next_half(text);
@@ -169,7 +169,7 @@ fn write_device_writes(out: &mut String, first: &[u8], second: &[u8]) -> Result<
 }
 
 /// Writes what a device over a stream of std answers.
-pub fn write_device(alloc: Global, out: &mut String, text: &str) -> Result<(), Lack> {
+fn write_device(alloc: Global, out: &mut String, text: &str) -> Result<(), Lack> {
     let (word, text) = next_word(text);
     let (first, second) = next_half(text);
     let first = bytes(alloc, first)?;
@@ -178,4 +178,39 @@ pub fn write_device(alloc: Global, out: &mut String, text: &str) -> Result<(), L
     }
     let second = bytes(alloc, second)?;
     Ok(write_device_writes(out, &first, &second)?)
+}
+
+/// The lines of this module.
+#[derive(Clone, Copy)]
+pub enum Directive {
+    Run,
+    Resumed,
+    Long,
+    Tape,
+    Device,
+}
+
+/// The words of these lines.
+pub const DIRECTIVES: [(&str, Directive); 5] = [
+    ("run", Directive::Run),
+    ("resumed", Directive::Resumed),
+    ("long", Directive::Long),
+    ("tape", Directive::Tape),
+    ("device", Directive::Device),
+];
+
+/// Does what a line asks for.
+pub fn follow(
+    alloc: Global,
+    out: &mut String,
+    directive: Directive,
+    text: &str,
+) -> Result<(), Lack> {
+    match directive {
+        Directive::Run => write_run(alloc, out, false, text),
+        Directive::Resumed => write_run(alloc, out, true, text),
+        Directive::Long => write_long_run(alloc, out, text),
+        Directive::Tape => write_tape(alloc, out, text),
+        Directive::Device => write_device(alloc, out, text),
+    }
 }

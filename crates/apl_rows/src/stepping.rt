@@ -13,21 +13,21 @@ use std::alloc::{AllocError, Global};
 use std::mem;
 
 /// Makes at most so many steps at once.
-pub fn make_steps(player: &mut Player, text: &str) -> Result<(), AllocError> {
+fn make_steps(player: &mut Player, text: &str) -> Result<(), AllocError> {
     let progress = player.session.advance(number(text))?;
     write_session(player)?;
     writeln!(player.out, "{progress:?}")
 }
 
 /// Abandons what runs.
-pub fn interrupt(player: &mut Player) -> Result<(), AllocError> {
+fn interrupt(player: &mut Player) -> Result<(), AllocError> {
     player.session.interrupt()?;
     write_session(player)
 }
 
 /// How a stepper steps.
 #[derive(Clone, Copy)]
-pub enum Way {
+enum Way {
     One,
     Line(u64),
     Idle(u64),
@@ -53,7 +53,7 @@ fn step_session(alloc: Global, session: &mut Session, way: Way) -> Result<Progre
 }
 
 /// Steps the machine through a stepper.
-pub fn step_by(player: &mut Player, way: Way) -> Result<(), AllocError> {
+fn step_by(player: &mut Player, way: Way) -> Result<(), AllocError> {
     let progress = step_session(player.alloc, &mut player.session, way)?;
     write_session(player)?;
     writeln!(player.out, "{progress:?}")
@@ -79,7 +79,7 @@ fn events_of(alloc: Global, text: &str) -> Result<Vec<Event>, AllocError> {
 }
 
 /// Lets the events of a text happen, and tells whether the session runs then.
-pub fn drive(player: &mut Player, text: &str) -> Result<(), AllocError> {
+fn drive(player: &mut Player, text: &str) -> Result<(), AllocError> {
     let events = events_of(player.alloc, text)?;
     if player.session.drive(&events).is_err() {
         return Err(AllocError);
@@ -90,7 +90,7 @@ pub fn drive(player: &mut Player, text: &str) -> Result<(), AllocError> {
 }
 
 /// Types a line and runs it, its stops answered by `resume_all`.
-pub fn resume(player: &mut Player, text: &str) -> Result<(), Lack> {
+fn resume(player: &mut Player, text: &str) -> Result<(), Lack> {
     let (count, text) = next_word(text);
     let line = bytes(player.alloc, text)?;
     let answer = resume_all(&mut player.session, &line, number(count));
@@ -128,9 +128,49 @@ fn run_on(session: &mut Session, most: u64) -> Result<Counted, Lack> {
 }
 
 /// Types a line and runs it, its stops answered by hand, and counts them and all its steps.
-pub fn answer(player: &mut Player, text: &str) -> Result<(), Lack> {
+fn answer(player: &mut Player, text: &str) -> Result<(), Lack> {
     feed(player, text)?;
     let Counted { stops, steps } = run_on(&mut player.session, player.steps)?;
     write_session(player)?;
     Ok(writeln!(player.out, "{stops} stops, {steps} steps")?)
+}
+
+/// The lines of this module.
+#[derive(Clone, Copy)]
+pub enum Directive {
+    Step,
+    Interrupt,
+    One,
+    Line,
+    Idle,
+    Drive,
+    Resume,
+    Answer,
+}
+
+/// The words of these lines.
+pub const DIRECTIVES: [(&str, Directive); 8] = [
+    ("step", Directive::Step),
+    ("interrupt", Directive::Interrupt),
+    ("one", Directive::One),
+    ("line", Directive::Line),
+    ("idle", Directive::Idle),
+    ("drive", Directive::Drive),
+    ("resume", Directive::Resume),
+    ("answer", Directive::Answer),
+];
+
+/// Does what a line asks for.
+pub fn follow(player: &mut Player, directive: Directive, text: &str) -> Result<(), Lack> {
+    match directive {
+        Directive::Step => make_steps(player, text)?,
+        Directive::Interrupt => interrupt(player)?,
+        Directive::One => step_by(player, Way::One)?,
+        Directive::Line => step_by(player, Way::Line(number(text)))?,
+        Directive::Idle => step_by(player, Way::Idle(number(text)))?,
+        Directive::Drive => drive(player, text)?,
+        Directive::Resume => return resume(player, text),
+        Directive::Answer => return answer(player, text),
+    }
+    Ok(())
 }

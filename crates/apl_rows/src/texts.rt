@@ -62,27 +62,27 @@ fn write_token_list(out: &mut String, tokens: &[Token]) -> Result<(), AllocError
 }
 
 /// Writes the tokens of a text.
-pub fn write_tokens(alloc: Global, out: &mut String, text: &str) -> Result<(), Lack> {
+fn write_tokens(alloc: Global, out: &mut String, text: &str) -> Result<(), Lack> {
     let text = characters(alloc, text)?;
     let tokens = tokens(alloc, &text)?;
     Ok(write_token_list(out, &tokens)?)
 }
 
-/// Writes the text that tokens are spelled as.
-fn write_spelling(alloc: Global, out: &mut String, tokens: &[Token]) -> Result<(), AllocError> {
-    let text = spell(alloc, tokens)?;
-    write_text(out, '|', text.as_slice())
+/// The text that the tokens of a text are spelled as.
+fn spelled(alloc: Global, text: &[Ch]) -> Result<Text, Lack> {
+    let tokens = tokens(alloc, text)?;
+    Ok(spell(alloc, &tokens)?)
 }
 
 /// Writes the text that the tokens of a text are spelled as.
-pub fn write_spelled(alloc: Global, out: &mut String, text: &str) -> Result<(), Lack> {
+fn write_spelled(alloc: Global, out: &mut String, text: &str) -> Result<(), Lack> {
     let text = characters(alloc, text)?;
-    let tokens = tokens(alloc, &text)?;
-    Ok(write_spelling(alloc, out, &tokens)?)
+    let spelled = spelled(alloc, &text)?;
+    Ok(write_text(out, '|', spelled.as_slice())?)
 }
 
 /// Writes how many characters bytes are.
-pub fn write_decoded(alloc: Global, out: &mut String, text: &str) -> Result<(), Lack> {
+fn write_decoded(alloc: Global, out: &mut String, text: &str) -> Result<(), Lack> {
     let bytes = hexadecimal(alloc, text)?;
     let text = decode_line(alloc, &bytes)?;
     Ok(writeln!(out, "{} characters", text.len())?)
@@ -97,7 +97,7 @@ fn write_hexadecimal(out: &mut String, bytes: &[u8]) -> Result<(), AllocError> {
 }
 
 /// Writes how many characters a text has, and its bytes.
-pub fn write_encoded(alloc: Global, out: &mut String, text: &str) -> Result<(), Lack> {
+fn write_encoded(alloc: Global, out: &mut String, text: &str) -> Result<(), Lack> {
     let text = characters(alloc, text)?;
     let bytes = encode(alloc, &text)?;
     write!(out, "{} characters ", text.len())?;
@@ -166,7 +166,7 @@ fn reported_in(
 }
 
 /// Writes the report of a fault: its number, a column, a call with its line, and the line's text.
-pub fn write_report(alloc: Global, out: &mut String, text: &str) -> Result<(), Lack> {
+fn write_report(alloc: Global, out: &mut String, text: &str) -> Result<(), Lack> {
     let (number, text) = next_word(text);
     let (column, text) = next_word(text);
     let (word, text) = next_word(text);
@@ -176,7 +176,7 @@ pub fn write_report(alloc: Global, out: &mut String, text: &str) -> Result<(), L
 }
 
 /// Writes whether a text is short enough for a name, and how long it is.
-pub fn write_name(alloc: Global, out: &mut String, text: &str) -> Result<(), Lack> {
+fn write_name(alloc: Global, out: &mut String, text: &str) -> Result<(), Lack> {
     let text = characters(alloc, text)?;
     match Name::new(&text) {
         Some(name) => writeln!(out, "{} characters", name.as_slice().len())?,
@@ -212,7 +212,7 @@ fn write_orders(out: &mut String, names: &[Name]) -> Result<(), AllocError> {
 }
 
 /// Writes how each name of a text stands to the next one.
-pub fn write_order(alloc: Global, out: &mut String, text: &str) -> Result<(), Lack> {
+fn write_order(alloc: Global, out: &mut String, text: &str) -> Result<(), Lack> {
     let names = names(alloc, text)?;
     Ok(write_orders(out, &names)?)
 }
@@ -239,7 +239,7 @@ fn write_symbol(out: &mut String, c: Ch) -> Result<(), AllocError> {
 }
 
 /// Writes what each character is as a symbol.
-pub fn write_symbols(alloc: Global, out: &mut String, text: &str) -> Result<(), Lack> {
+fn write_symbols(alloc: Global, out: &mut String, text: &str) -> Result<(), Lack> {
     let text = characters(alloc, text)?;
     for c in &text {
         write_symbol(out, *c)?;
@@ -248,11 +248,58 @@ pub fn write_symbols(alloc: Global, out: &mut String, text: &str) -> Result<(), 
 }
 
 /// Writes the system name of letters.
-pub fn write_system_name(alloc: Global, out: &mut String, text: &str) -> Result<(), Lack> {
+fn write_system_name(alloc: Global, out: &mut String, text: &str) -> Result<(), Lack> {
     let text = characters(alloc, text)?;
     match SystemName::new(&text) {
         Some(name) => write_system(out, "⎕", name)?,
         None => out.push_str("none")?,
     }
     Ok(out.push('\n')?)
+}
+
+/// The lines of this module.
+#[derive(Clone, Copy)]
+pub enum Directive {
+    Tokens,
+    Spell,
+    Decode,
+    Encode,
+    Report,
+    Name,
+    Ascend,
+    Symbols,
+    System,
+}
+
+/// The words of these lines.
+pub const DIRECTIVES: [(&str, Directive); 9] = [
+    ("tokens", Directive::Tokens),
+    ("spell", Directive::Spell),
+    ("decode", Directive::Decode),
+    ("encode", Directive::Encode),
+    ("report", Directive::Report),
+    ("name", Directive::Name),
+    ("ascend", Directive::Ascend),
+    ("symbols", Directive::Symbols),
+    ("system", Directive::System),
+];
+
+/// Does what a line asks for.
+pub fn follow(
+    alloc: Global,
+    out: &mut String,
+    directive: Directive,
+    text: &str,
+) -> Result<(), Lack> {
+    match directive {
+        Directive::Tokens => write_tokens(alloc, out, text),
+        Directive::Spell => write_spelled(alloc, out, text),
+        Directive::Decode => write_decoded(alloc, out, text),
+        Directive::Encode => write_encoded(alloc, out, text),
+        Directive::Report => write_report(alloc, out, text),
+        Directive::Name => write_name(alloc, out, text),
+        Directive::Ascend => write_order(alloc, out, text),
+        Directive::Symbols => write_symbols(alloc, out, text),
+        Directive::System => write_system_name(alloc, out, text),
+    }
 }

@@ -39,13 +39,13 @@ fn run_typed(player: &mut Player) -> Result<(), AllocError> {
 }
 
 /// Types a line and runs it.
-pub fn type_line(player: &mut Player, text: &str) -> Result<(), Lack> {
+fn type_line(player: &mut Player, text: &str) -> Result<(), Lack> {
     feed(player, text)?;
     Ok(run_typed(player)?)
 }
 
 /// Types a line and doesn't run it.
-pub fn begin_line(player: &mut Player, text: &str) -> Result<(), Lack> {
+fn begin_line(player: &mut Player, text: &str) -> Result<(), Lack> {
     feed(player, text)?;
     Ok(write_session(player)?)
 }
@@ -59,8 +59,32 @@ fn feed_lines(player: &mut Player, lines: &str) -> Result<(), Lack> {
 }
 
 /// Defines a function: types its header behind `∇`, its lines, and `∇`.
-pub fn type_function(player: &mut Player, text: &str) -> Result<(), Lack> {
+fn type_function(player: &mut Player, text: &str) -> Result<(), Lack> {
     let lines = format!(in player.alloc; "∇{text}◊∇")?;
     feed_lines(player, &lines)?;
     Ok(write_session(player)?)
+}
+
+/// The lines of this module.
+#[derive(Clone, Copy)]
+pub enum Directive {
+    Type,
+    Begin,
+    Function,
+}
+
+/// The words of these lines.
+pub const DIRECTIVES: [(&str, Directive); 3] = [
+    (">", Directive::Type),
+    ("begin", Directive::Begin),
+    ("function", Directive::Function),
+];
+
+/// Does what a line asks for.
+pub fn follow(player: &mut Player, directive: Directive, text: &str) -> Result<(), Lack> {
+    match directive {
+        Directive::Type => type_line(player, text),
+        Directive::Begin => begin_line(player, text),
+        Directive::Function => type_function(player, text),
+    }
 }

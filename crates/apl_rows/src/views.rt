@@ -19,11 +19,10 @@ use apl_scalar::Dyadic;
 use std::alloc::{AllocError, Global};
 
 /// The view with an axis reversed, if it has that axis.
-fn reversed<'a>(view: View<'a>, axis: usize) -> View<'a> {
-    if axis < view.rank() {
-        view.reversed(axis)
-    } else {
-        view
+fn reversed<'a>(view: View<'a>, numbers: &[usize]) -> View<'a> {
+    match numbers {
+        [axis] if *axis < view.rank() => view.reversed(*axis),
+        _ => view,
     }
 }
 
@@ -35,6 +34,14 @@ fn cut<'a>(view: View<'a>, axis: usize, from: usize, len: usize) -> View<'a> {
         view.cut(axis, from, len)
     } else {
         view
+    }
+}
+
+/// The same by an axis, a place and a length.
+fn cut_by<'a>(view: View<'a>, numbers: &[usize]) -> View<'a> {
+    match numbers {
+        [axis, from, len] => cut(view, *axis, *from, *len),
+        _ => view,
     }
 }
 
@@ -54,61 +61,13 @@ fn turned<'a>(view: View<'a>, axes: &[usize]) -> View<'a> {
     view.turned(axes)
 }
 
-/// What is done to a view.
-#[derive(Clone, Copy)]
-enum Act {
-    Reversed,
-    Cut,
-    Turned,
-    At,
-    Nothing,
+/// Writes the element of a view at an index list.
+fn write_element(out: &mut String, view: &View<'_>, index: &[usize]) -> Result<(), AllocError> {
+    write_found(out, view.at(index))?;
+    out.push('\n')
 }
 
-/// What a word does to a view.
-fn act_of(word: &str) -> Act {
-    match word {
-        "reversed" => Act::Reversed,
-        "cut" => Act::Cut,
-        "turned" => Act::Turned,
-        "at" => Act::At,
-        _ => Act::Nothing,
-    }
-}
-
-/// The number at a place, or 0.
-fn number_at(numbers: &[usize], place: usize) -> usize {
-    match numbers.get(place) {
-        Some(number) => *number,
-        None => 0,
-    }
-}
-
-/// The view after what is done to it; an element that is looked at is written.
-fn done_to<'a>(
-    out: &mut String,
-    view: View<'a>,
-    act: Act,
-    numbers: &[usize],
-) -> Result<View<'a>, AllocError> {
-    match act {
-        Act::Reversed => Ok(reversed(view, number_at(numbers, 0))),
-        Act::Cut => Ok(cut(
-            view,
-            number_at(numbers, 0),
-            number_at(numbers, 1),
-            number_at(numbers, 2),
-        )),
-        Act::Turned => Ok(turned(view, numbers)),
-        Act::At => {
-            write_found(out, view.at(numbers))?;
-            out.push('\n')?;
-            Ok(view)
-        }
-        Act::Nothing => Ok(view),
-    }
-}
-
-/// The view after what a text says is done to it.
+/// The view after what a text says is done to it; an element that is looked at is written.
 fn after<'a>(
     alloc: Global,
     out: &mut String,
@@ -117,7 +76,16 @@ fn after<'a>(
 ) -> Result<View<'a>, AllocError> {
     let (word, text) = next_word(text);
     let numbers = counts(alloc, text)?;
-    done_to(out, view, act_of(word), &numbers)
+    match word {
+        "reversed" => Ok(reversed(view, &numbers)),
+        "cut" => Ok(cut_by(view, &numbers)),
+        "turned" => Ok(turned(view, &numbers)),
+        "at" => {
+            write_element(out, &view, &numbers)?;
+            Ok(view)
+        }
+        _ => Ok(view),
+    }
 }
 
 /// The view of an array after what is done to it between the marks.
@@ -154,7 +122,7 @@ fn write_shown(alloc: Global, out: &mut String, view: &View<'_>) -> Result<(), A
 }
 
 /// Writes the array that a view shows.
-pub fn write_view_of(alloc: Global, out: &mut String, text: &str) -> Result<(), Lack> {
+fn write_view_of(alloc: Global, out: &mut String, text: &str) -> Result<(), Lack> {
     let (first, text) = next_part(text);
     let array = array(alloc, first)?;
     let view = view_of(alloc, out, &array, text)?;
@@ -193,14 +161,14 @@ fn write_reversals_of(alloc: Global, out: &mut String, view: &View<'_>) -> Resul
 }
 
 /// Writes whether the elements of views of an array are those of their dense copies.
-pub fn write_reversals(alloc: Global, out: &mut String, text: &str) -> Result<(), Lack> {
+fn write_reversals(alloc: Global, out: &mut String, text: &str) -> Result<(), Lack> {
     let array = array(alloc, text)?;
     Ok(write_reversals_of(alloc, out, &View::whole(&array))?)
 }
 
 /// Which of two operators.
 #[derive(Clone, Copy)]
-pub enum Operator {
+enum Operator {
     Reduce,
     Scan,
 }
@@ -246,31 +214,20 @@ fn write_along_word(
     }
 }
 
-/// The same of the view of an array.
+/// Writes the value of an operator over a view, its function's symbol and its axis first.
 fn write_operated(
-    alloc: Global,
-    out: &mut String,
-    operation: Operation,
-    text: &str,
-) -> Result<(), Lack> {
-    let (word, text) = next_word(text);
-    let (first, text) = next_part(text);
-    let array = array(alloc, first)?;
-    let view = view_of(alloc, out, &array, text)?;
-    write_along_word(alloc, out, operation, word, &view)
-}
-
-/// Writes the value of an operator over a view, the function's symbol first.
-pub fn write_operator(
     alloc: Global,
     out: &mut String,
     operator: Operator,
     text: &str,
 ) -> Result<(), Lack> {
-    let (word, text) = next_word(text);
-    let function = dyadic_of(word)?;
-    let operation = Operation { operator, function };
-    write_operated(alloc, out, operation, text)
+    let (symbol, text) = next_word(text);
+    let (along, text) = next_word(text);
+    let (first, text) = next_part(text);
+    let function = dyadic_of(symbol)?;
+    let array = array(alloc, first)?;
+    let view = view_of(alloc, out, &array, text)?;
+    write_along_word(alloc, out, Operation { operator, function }, along, &view)
 }
 
 /// The functions of a product: the one that folds, if there is one, and the one whose values it folds.
@@ -295,20 +252,6 @@ fn write_product(
     write_answer(out, answer)
 }
 
-/// Writes the product of a view and the view of an array.
-fn write_product_with(
-    alloc: Global,
-    out: &mut String,
-    product: Product,
-    a: &View<'_>,
-    text: &str,
-) -> Result<(), Lack> {
-    let (first, text) = next_part(text);
-    let array = array(alloc, first)?;
-    let view = view_of(alloc, out, &array, text)?;
-    write_product(alloc, out, product, a, &view)
-}
-
 /// Writes the product of the views of two arrays.
 fn write_product_of(
     alloc: Global,
@@ -318,23 +261,64 @@ fn write_product_of(
 ) -> Result<(), Lack> {
     let (left, right) = next_half(text);
     let (first, left) = next_part(left);
-    let array = array(alloc, first)?;
-    let view = view_of(alloc, out, &array, left)?;
-    write_product_with(alloc, out, product, &view, right)
+    let (second, right) = next_part(right);
+    let a = array(alloc, first)?;
+    let b = array(alloc, second)?;
+    let left = view_of(alloc, out, &a, left)?;
+    let right = view_of(alloc, out, &b, right)?;
+    write_product(alloc, out, product, &left, &right)
 }
 
 /// Writes an outer product, the function's symbol first.
-pub fn write_outer(alloc: Global, out: &mut String, text: &str) -> Result<(), Lack> {
-    let (word, text) = next_word(text);
-    let each = dyadic_of(word)?;
+fn write_outer(alloc: Global, out: &mut String, text: &str) -> Result<(), Lack> {
+    let (symbol, text) = next_word(text);
+    let each = dyadic_of(symbol)?;
     write_product_of(alloc, out, Product { fold: None, each }, text)
 }
 
 /// Writes an inner product, the functions' symbols first.
-pub fn write_inner(alloc: Global, out: &mut String, text: &str) -> Result<(), Lack> {
+fn write_inner(alloc: Global, out: &mut String, text: &str) -> Result<(), Lack> {
     let (first, text) = next_word(text);
     let (second, text) = next_word(text);
     let fold = Some(dyadic_of(first)?);
     let each = dyadic_of(second)?;
     write_product_of(alloc, out, Product { fold, each }, text)
+}
+
+/// The lines of this module.
+#[derive(Clone, Copy)]
+pub enum Directive {
+    View,
+    Reversals,
+    Reduce,
+    Scan,
+    Outer,
+    Inner,
+}
+
+/// The words of these lines.
+pub const DIRECTIVES: [(&str, Directive); 6] = [
+    ("view", Directive::View),
+    ("reversals", Directive::Reversals),
+    ("reduce", Directive::Reduce),
+    ("scan", Directive::Scan),
+    ("outer", Directive::Outer),
+    ("inner", Directive::Inner),
+];
+
+/// Does what a line asks for.
+pub fn follow(
+    alloc: Global,
+    out: &mut String,
+    directive: Directive,
+    text: &str,
+) -> Result<(), Lack> {
+    match directive {
+        Directive::View => write_view_of(alloc, out, text),
+        Directive::Reversals => write_reversals(alloc, out, text),
+        Directive::Reduce => write_operated(alloc, out, Operator::Reduce, text),
+        Directive::Scan => write_operated(alloc, out, Operator::Scan, text),
+        Directive::Outer => write_outer(alloc, out, text),
+        Directive::Inner => write_inner(alloc, out, text),
+    }
 }

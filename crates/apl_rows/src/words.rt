@@ -21,6 +21,16 @@ pub fn next_half(text: &str) -> (&str, &str) {
     text.split_once(';').unwrap_or((text, ""))
 }
 
+/// What a table has for a word.
+pub fn find<T: Copy>(table: &[(&str, T)], word: &str) -> Option<T> {
+    for (found, value) in table {
+        if *found == word {
+            return Some(*value);
+        }
+    }
+    None
+}
+
 /// The number that a word is; a word that is none counts as 0.
 pub fn number(word: &str) -> u64 {
     word.parse().unwrap_or(0)

@@ -6,6 +6,7 @@ use apl_charset::{Ch, Text};
 use apl_machine::{Operand, OutLine, Slots};
 use apl_symbols::Class;
 use std::alloc::AllocError;
+use std::fmt::Display;
 
 /// Writes a line.
 pub fn write_line(out: &mut String, text: &str) -> Result<(), AllocError> {
@@ -84,19 +85,11 @@ pub fn write_bytes(out: &mut String, bytes: &[u8]) -> Result<(), AllocError> {
 }
 
 /// Writes numbers, a blank between each two.
-pub fn write_counts(out: &mut String, counts: &[usize]) -> Result<(), AllocError> {
-    for (i, count) in counts.iter().enumerate() {
-        out.push_str(if i > 0 { " " } else { "" })?;
-        write!(out, "{count}")?;
-    }
-    Ok(())
-}
-
-/// The same for numbers of arrays.
-fn write_numbers(out: &mut String, numbers: &[i64]) -> Result<(), AllocError> {
-    for (i, number) in numbers.iter().enumerate() {
-        out.push_str(if i > 0 { " " } else { "" })?;
-        write!(out, "{number}")?;
+pub fn write_numbers<T: Display>(out: &mut String, numbers: &[T]) -> Result<(), AllocError> {
+    let mut between = "";
+    for number in numbers {
+        write!(out, "{between}{number}")?;
+        between = " ";
     }
     Ok(())
 }
@@ -138,7 +131,7 @@ fn write_ravel(out: &mut String, ravel: &Ravel) -> Result<(), AllocError> {
 
 /// Writes an array as rows do: `2 3:1 2 3 4 5 6`, or `2:'AB` for characters.
 fn write_array(out: &mut String, array: &Array) -> Result<(), AllocError> {
-    write_counts(out, array.shape())?;
+    write_numbers(out, array.shape())?;
     out.push(':')?;
     write_ravel(out, array.ravel())
 }
