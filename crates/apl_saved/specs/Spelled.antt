@@ -95,9 +95,9 @@ pub record IsRestOf (f : RestField) (text : Text) (w : Waiting) : Type 0 where
 -- ---- definitions and contexts
 
 -- the function has this header, as it is written canonically, and these lines
-pub record IsDefinitionOf (header : List ℕ) (lines : List (List ℕ)) (d : Definition) : Type 0 where
-  pub header : IsLine header (canonical d.header)
-  pub lines : Pairwise IsLine lines d.lines
+pub record IsDefinitionOf (head : List ℕ) (texts : List (List ℕ)) (d : Definition) : Type 0 where
+  pub header : IsLine head (canonical d.header)
+  pub lines : Pairwise IsLine texts d.lines
 
 pub record IsLocalOf (f : LocalField) (l : Text × Option Arr) : Type 0 where
   pub name : IsLine f.name l.0

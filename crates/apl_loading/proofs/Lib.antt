@@ -1,0 +1,3 @@
+pub mod OneArray
+pub mod Lists
+pub mod OneDefinition
