@@ -1,3 +1,4 @@
 pub mod OneArray
 pub mod Lists
 pub mod OneDefinition
+pub mod Letters

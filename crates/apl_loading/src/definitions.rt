@@ -9,7 +9,7 @@ ghost use Rattle.apl_loading.specs.declared.error.LoadFault.TheVariants as fault
 
 use crate::error::LoadFault;
 use crate::field::read_all;
-use crate::texts::read_text;
+use crate::texts::{are_same, read_text};
 use apl_charset::Text;
 use apl_defn::{Definition, DefnError, canonical, define};
 use apl_workspace_file::TextField;
@@ -42,20 +42,13 @@ fn defined(alloc: Global, texts: &[Text]) -> Result<Definition, LoadFault>
     }
 }
 
-/// Whether two texts are the same.
-pub(crate) fn is_same(one: &Text, other: &Text) -> bool
-    ensures { IsTrue result ↔ (one.now ≡ other.now) }
-{
-    one == other
-}
-
 /// Whether the header of a definition is the first of these texts.
 fn is_headed(alloc: Global, definition: &Definition, texts: &[Text]) -> Result<bool, AllocError>
     ensures { IfOk result (λ b. IsTrue b ↔ (slice_get texts.now 0 ≡ Some (canonical definition.now.header))) }
 {
     let header = canonical(alloc, definition.header())?;
     match texts.first() {
-        Some(first) => Ok(is_same(first, &header)),
+        Some(first) => Ok(are_same(first.as_slice(), header.as_slice())),
         None => Ok(false),
     }
 }

@@ -5,6 +5,7 @@ mod arrays;
 mod definitions;
 mod error;
 mod field;
+mod names;
 mod texts;
 
 pub use error::LoadFault;

@@ -1,14 +1,21 @@
 //! Texts of a file.
-ghost use Rattle.std.specs.Prelude.{◌≡◌, IfOk, IfErr, List, ℕ};
+ghost use Rattle.std.specs.Prelude.{◌≡◌, ◌↔◌, IsTrue, IfOk, IfErr};
 ghost use Rattle.apl_charset.specs.Text.{IsLine};
 ghost use Rattle.apl_loading.specs.Numbers.{Refuses};
 ghost use Rattle.apl_loading.specs.declared.error.LoadFault.TheVariants as fault;
 
 use crate::error::LoadFault;
 use crate::field::Field;
-use apl_charset::{CharFault, Text, decode_line};
+use apl_charset::{Ch, CharFault, Text, decode_line};
 use apl_workspace_file::TextField;
 use std::alloc::Global;
+
+/// Whether two texts are the same.
+pub(crate) fn are_same(one: &[Ch], other: &[Ch]) -> bool
+    ensures { IsTrue result ↔ (one.now ≡ other.now) }
+{
+    one == other
+}
 
 /// The text that a field is. A field outside the set is refused with this fault.
 pub(crate) fn read_text(
