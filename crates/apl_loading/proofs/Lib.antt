@@ -2,3 +2,4 @@ pub mod OneArray
 pub mod Lists
 pub mod OneDefinition
 pub mod Letters
+pub mod StackKinds
