@@ -3,3 +3,5 @@ pub mod Lists
 pub mod OneDefinition
 pub mod Letters
 pub mod StackKinds
+pub mod Taken
+pub mod OneFunction

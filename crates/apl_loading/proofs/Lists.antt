@@ -23,12 +23,12 @@ more_read {F} {P} R fs rest ps f p h r = record {
     tail [] g = absurd g
     tail (u ∷ us) g = (us, g.1)
 
+pub append_nil : {P : Type 0} (ps : List P) → ps ++ [] ≡ ps
+append_nil [] = refl
+append_nil (p ∷ ps) = ap (λ qs. p ∷ qs) (append_nil ps)
+
 pub all_read : {F P : Type 0} (R : F → P → Type 0) (fs rest : List F) (ps : List P) → HasRead R fs rest ps → rest ≡ [] → Pairwise R fs ps
 all_read R fs rest ps h e = subst (Pairwise R fs) (append_nil ps) (h.found [] (subst (λ rs. Pairwise R rs []) (sym e) tt))
-  where
-    append_nil : {P : Type 0} (ps : List P) → ps ++ [] ≡ ps
-    append_nil [] = refl
-    append_nil (p ∷ ps) = ap (λ qs. p ∷ qs) (append_nil ps)
 
 pub not_read : {F P : Type 0} (R : F → P → Type 0) (fs rest : List F) (ps : List P) (f : F) → HasRead R fs (f ∷ rest) ps → ((p : P) → ¬ R f p) → (qs : List P) → ¬ Pairwise R fs qs
 not_read {F} {P} R fs rest ps f h none qs g = first (h.only qs g).0 (h.only qs g).1

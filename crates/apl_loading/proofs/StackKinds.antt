@@ -3,7 +3,7 @@ use Rattle.std.proofs.Common.{◌≡◌, ℕ, zero, suc, ◌+◌, ◌<◌, Bool,
 use Rattle.std.specs.List.{count_by, drop-map}
 use Rattle.std.proofs.lemmas.List.Sums.{sum_by-cons}
 use Rattle.std.proofs.Math.Seq.{drop-append_seam}
-use Rattle.std.proofs.lemmas.List.{map-append, take-append-drop, reverse-append}
+use Rattle.std.proofs.lemmas.List.{map-append, take-append-drop}
 use Rattle.apl_code.specs.declared.instr.Instr.{Instr}
 use Rattle.apl_code.specs.declared.instr.Source.{Source}
 use Rattle.apl_code.specs.declared.instr.Source.TheVariants.{Constant, Stack}
@@ -25,6 +25,7 @@ use Rattle.apl_machine_state.specs.declared.operand.Operand.TheVariants.{Value, 
 use Rattle.apl_machine_state.specs.Items.{kind_of_operand}
 use Rattle.apl_frames.specs.declared.frame.Stage.TheVariants.{Pendent}
 use Rattle.apl_frames.specs.Flat.{HasKinds}
+use Rattle.apl_parts.proofs.Added.{map_reverse}
 use Rattle.apl_saved.specs.Rules as rules
 
 -- a kind without the empty slots of an index list
@@ -106,11 +107,6 @@ bare_kinds : (os : List Operand) → map bare (map rules.kind_of os) ≡ map kin
 bare_kinds [] = refl
 bare_kinds (Value a ∷ os) = ap (λ ks. B ∷ ks) (bare_kinds os)
 bare_kinds (Slots ss ∷ os) = ap (λ ks. K ∷ ks) (bare_kinds os)
-
-map_reverse : {A C : Type 0} (f : A → C) (xs : List A) → map f (reverse xs) ≡ reverse (map f xs)
-map_reverse f [] = refl
-map_reverse f (x ∷ xs) =
-    ap (map f) (reverse-append (x ∷ []) xs) ∙ map-append f (reverse xs) (x ∷ []) ∙ ap (λ ys. ys ++ f x ∷ []) (map_reverse f xs) ∙ sym (reverse-append (f x ∷ []) (map f xs))
 
 -- where the instructions that are done leave these operands beneath a value, the forms that are left want them beneath the answer
 pub pendent_kinds : (code : List Instr) (ps : List Placed) (done : ℕ) (os : List Operand) → IsFresh ps → Translates code false ps → done < length code → listing.kinds [] (take done code) ≡ stacked.Value ∷ reverse (map rules.kind_of os) → HasKinds Pendent (forms_after done ps) (reverse os)

@@ -1,2 +1,4 @@
 pub mod Numbers
 pub mod Small
+pub mod Refusals
+pub mod Made

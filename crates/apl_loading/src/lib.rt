@@ -5,7 +5,11 @@ mod arrays;
 mod definitions;
 mod error;
 mod field;
+mod functions;
 mod names;
+mod operands;
 mod texts;
+mod values;
+mod variables;
 
 pub use error::LoadFault;

@@ -1,0 +1,92 @@
+-- For private clauses: what is made of a context, beside its part.
+use Rattle.std.specs.Prelude.{◌≡◌, ℕ, ◌-◌, ◌<◌, ◌≤◌, false, List, [], ◌∷◌, length, map, reverse, take, Option, Some, None, Ok, slice_get}
+use Rattle.apl_arrays.specs.Cells.{Arr}
+use Rattle.apl_charset.specs.Text.{IsLine}
+use Rattle.apl_tokens.specs.declared.token.Token.{Token}
+use Rattle.apl_tokens.specs.Tokens.{tokens_of}
+use Rattle.apl_defn.specs.Definitions.{Text, Definition, is_line, line_of}
+use Rattle.apl_defn.specs.Defining.{IsDefined, label_in}
+use Rattle.apl_code.specs.declared.instr.Instr.{Instr}
+use Rattle.apl_code.specs.declared.instr.Action.{Action}
+use Rattle.apl_listing.specs.Kinds.{kinds}
+use Rattle.apl_listing.specs.Listing.{listed}
+use Rattle.apl_listing.specs.declared.stack.Kind.TheVariants as kind
+use Rattle.apl_machine_state.specs.declared.operand.Operand.{Operand}
+use Rattle.apl_translate.specs.Binding.{bound_of}
+use Rattle.apl_translate.specs.Translation.{Translates}
+use Rattle.apl_parts.specs.declared.parts.ContextPart.{ContextPart}
+use Rattle.apl_parts.specs.Pieces.{Waiting}
+use Rattle.apl_parts.specs.Restored.{waiting_in}
+use Rattle.apl_workspace_file.specs.declared.fields.ContextField.{ContextField}
+use Rattle.apl_workspace_file.specs.declared.fields.RestField.{RestField}
+use Rattle.apl_saved.specs.Spelled.{IsContextOf, letters_of}
+use Rattle.apl_saved.specs.Rules.{Calls, IsContext, IsPendentLine, IsStatement, kind_of, text_of}
+use Rattle.apl_loading.specs.Refusals.{Below, relisted}
+
+-- the tokens are some text's
+abbrev pub AreOfText : List Token → Type 0
+AreOfText tokens = (text : Text) × (tokens_of text ≡ Ok tokens)
+
+-- a statement, or a text that is executed: a text in the set, whose tokens begin with no label
+pub record IsStatementLine (field : List ℕ) (text : Text) (tokens : List Token) : Type 0 where
+  pub line : IsLine field text
+  pub read : tokens_of text ≡ Ok tokens
+  pub unlabelled : label_in tokens ≡ None
+
+-- some instructions are done but not the last, and they leave these operands beneath a value
+pub record HasStack (code : List Instr) (done : ℕ) (operands : List Operand) : Type 0 where
+  pub begun : 1 ≤ done
+  pub runs : done < length code
+  pub stack : kinds [] (take done code) ≡ kind.Value ∷ reverse (map kind_of operands)
+
+-- all fields but the listing, with these operands
+pub record Agrees (f : RestField) (stack : List Operand) (w : Waiting) : Type 0 where
+  pub classes : f.classes ≡ letters_of w.classes
+  pub done : f.done ≡ w.done
+  pub operands : w.operands ≡ stack
+
+-- a line of these tokens awaits an answer by a field but for its listing
+abbrev pub IsWaitingBy : List Token → RestField → List Operand → Waiting → Type 0
+IsWaitingBy tokens f operands w = Agrees f operands w × ((code : List Instr) × IsPendentLine tokens w code)
+
+-- this is its listing, and the last instruction that is done does this
+pub record IsMade (tokens : List Token) (w : Waiting) (action : Action) (listing : List ℕ) : Type 0 where
+  pub code : List Instr
+  pub line : IsPendentLine tokens w code
+  pub last : Instr
+  pub is_last : slice_get code (w.done - 1) ≡ Some last
+  pub acts : last.action ≡ action
+  pub lists : listing ≡ listed 0 code
+
+-- the same of a text
+pub record IsMadeOf (text : Text) (w : Waiting) (action : Action) (listing : List ℕ) : Type 0 where
+  pub tokens : List Token
+  pub read : tokens_of text ≡ Ok tokens
+  pub made : IsMade tokens w action listing
+
+-- the same of a line that may await no answer
+abbrev pub IsMadeIn : Text → Option Waiting → Option Action → List ℕ → Type 0
+IsMadeIn text None None listing = Unit {0}
+IsMadeIn text (Some w) (Some action) listing = IsMadeOf text w action listing
+IsMadeIn text rest awaits listing = ⊥
+
+-- The part of a field but for its listing, which would be this one, and what its last instruction does, where it awaits an answer.
+pub record IsBuilt (f : ContextField) (c : ContextPart) (awaits : Option Action) (listing : List ℕ) : Type 0 where
+  pub field : IsContextOf (relisted listing f) c
+  pub context : IsContext c
+  pub made : IsMadeIn (text_of c) (waiting_in c) awaits listing
+
+-- what the context below awaits, if it awaits an answer: that calls what stands above, or above it stands a statement
+abbrev pub Fits : Option Action → ContextPart → Type 0
+Fits None above = IsStatement above
+Fits (Some action) above = Calls action above
+
+-- what the context below awaits
+abbrev pub IsAwaited : Option Action → Option ContextPart → Type 0
+IsAwaited awaits None = awaits ≡ None
+IsAwaited awaits (Some c) = (listing : List ℕ) × IsMadeIn (text_of c) (waiting_in c) awaits listing
+
+-- what stands below
+pub record IsBelow (awaits : Option Action) (standing : ℕ) (s : Below) : Type 0 where
+  pub awaited : IsAwaited awaits s.below
+  pub count : s.standing ≡ standing
