@@ -5,3 +5,4 @@ pub mod Letters
 pub mod StackKinds
 pub mod Taken
 pub mod OneFunction
+pub mod OneVariable

@@ -1,5 +1,5 @@
 -- Lists that are read from the left.
-use Rattle.std.proofs.Common.{◌≡◌, ℕ, zero, suc, ◌<◌, ◌≤◌, List, [], ◌∷◌, ◌++◌, length, drop, refl, sym, ap, ◌∙◌, subst, append_assoc, arith}
+use Rattle.std.proofs.Common.{◌≡◌, ℕ, zero, suc, ◌+◌, add-one, ◌<◌, ◌≤◌, ◌⊎◌, inl, inr, Contains, List, [], ◌∷◌, ◌++◌, length, drop, refl, sym, ap, ◌∙◌, subst, append_assoc, arith}
 use Rattle.std.proofs.Math.ListN.{get_or}
 use Rattle.std.proofs.Math.Seq.{drop-cons}
 use Rattle.std.specs.List.{AllByRecursion}
@@ -59,3 +59,18 @@ drop_at fs i f lt e = drop-cons fs i f lt ∙ ap (λ g. g ∷ drop (suc i) fs) (
 
 pub not_read_at : {F P : Type 0} (R : F → P → Type 0) (fs : List F) (i : ℕ) (ps : List P) (f : F) → HasRead R fs (drop i fs) ps → i < length fs → f ≡ get_or fs i f → ((p : P) → ¬ R f p) → (qs : List P) → ¬ Pairwise R fs qs
 not_read_at R fs i ps f h lt e none qs = not_read R fs (drop (suc i) fs) ps f (subst (λ rest. HasRead R fs rest ps) (drop_at fs i f lt e) h) none qs
+
+pub next_at : {F : Type 0} (fs : List F) (i : ℕ) (f : F) → i < length fs → f ≡ get_or fs i f → drop i fs ≡ f ∷ drop (i + 1) fs
+next_at fs i f lt e = drop_at fs i f lt e ∙ ap (λ k. f ∷ drop k fs) (sym (add-one i))
+
+-- ---- what a list has
+
+pub contains_now : {X : Type 0} (x y : X) (xs : List X) → Contains (x ∷ xs) y → (x ≡ y) ⊎ Contains xs y
+contains_now x y xs (zero, lt, e) = inl e
+contains_now x y xs (suc k, lt, e) = inr (k, omega (arith, lt), e)
+
+pub contains_later : {X : Type 0} (x y : X) (xs : List X) → Contains xs y → Contains (x ∷ xs) y
+contains_later x y xs (k, lt, e) = (suc k, omega (arith, lt), e)
+
+pub contains_first : {X : Type 0} (x y : X) (xs : List X) → x ≡ y → Contains (x ∷ xs) y
+contains_first x y xs e = (0, omega arith, e)

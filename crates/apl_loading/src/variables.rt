@@ -1,7 +1,7 @@
 //! Global variables.
 ghost use Rattle.std.specs.Prelude.{◌≡◌, ◌≢◌, ◌↔◌, [], IsTrue, IfOk, IfErr, None, Contains};
 ghost use Rattle.apl_saved.specs.Rules.{function_names};
-ghost use Rattle.apl_loading.specs.Refusals.{AreVariables, IsNextVariable, IsRefusedIn, RefusesVariable, TakesVariable, variable_after};
+ghost use Rattle.apl_loading.specs.Refusals.{AreVariables, IsBehind, IsNextVariable, IsRefusedIn, RefusesVariable, TakesVariable, variable_after};
 ghost use Rattle.apl_loading.specs.declared.error.LoadFault.TheVariants as fault;
 
 use crate::error::LoadFault;
@@ -33,6 +33,13 @@ fn has_function(functions: &[FunctionPart], name: &Name) -> bool
     false
 }
 
+/// Whether a name comes behind that one, and is none of the functions'.
+fn is_next(functions: &[FunctionPart], before: Option<Name>, name: Name) -> bool
+    ensures { IsTrue result ↔ (IsBehind before name × ¬ Contains (function_names functions.now) name) }
+{
+    is_behind(before, name) && !has_function(functions, &name)
+}
+
 /// The next variable, behind that of this name.
 fn read_variable(
     alloc: Global,
@@ -48,7 +55,7 @@ fn read_variable(
     }
     let value = field.value.read(alloc)?;
     let name = read_name(alloc, &field.name)?;
-    if !is_behind(before, name) || has_function(functions, &name) {
+    if !is_next(functions, before, name) {
         return Err(LoadFault::Definition);
     }
     Ok((name, value))
