@@ -6,3 +6,4 @@ pub mod StackKinds
 pub mod Taken
 pub mod OneFunction
 pub mod OneVariable
+pub mod OneLine

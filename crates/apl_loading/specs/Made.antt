@@ -1,10 +1,10 @@
 -- For private clauses: what is made of a context, beside its part.
-use Rattle.std.specs.Prelude.{◌≡◌, ℕ, ◌-◌, ◌<◌, ◌≤◌, false, List, [], ◌∷◌, length, map, reverse, take, Option, Some, None, Ok, slice_get}
+use Rattle.std.specs.Prelude.{◌≡◌, ℕ, ◌-◌, ◌<◌, ◌≤◌, Bool, true, false, All, List, [], ◌∷◌, length, map, reverse, take, Option, Some, None, Ok, slice_get}
 use Rattle.apl_arrays.specs.Cells.{Arr}
 use Rattle.apl_charset.specs.Text.{IsLine}
 use Rattle.apl_tokens.specs.declared.token.Token.{Token}
 use Rattle.apl_tokens.specs.Tokens.{tokens_of}
-use Rattle.apl_defn.specs.Definitions.{Text, Definition, is_line, line_of}
+use Rattle.apl_defn.specs.Definitions.{Text, Definition, Header, is_line, line_of}
 use Rattle.apl_defn.specs.Defining.{IsDefined, label_in}
 use Rattle.apl_code.specs.declared.instr.Instr.{Instr}
 use Rattle.apl_code.specs.declared.instr.Action.{Action}
@@ -12,15 +12,20 @@ use Rattle.apl_listing.specs.Kinds.{kinds}
 use Rattle.apl_listing.specs.Listing.{listed}
 use Rattle.apl_listing.specs.declared.stack.Kind.TheVariants as kind
 use Rattle.apl_machine_state.specs.declared.operand.Operand.{Operand}
-use Rattle.apl_translate.specs.Binding.{bound_of}
+use Rattle.apl_symbols.specs.declared.class.Class.{Class}
+use Rattle.apl_translate.specs.Binding.{bound_of, is_name, names_of}
 use Rattle.apl_translate.specs.Translation.{Translates}
 use Rattle.apl_parts.specs.declared.parts.ContextPart.{ContextPart}
-use Rattle.apl_parts.specs.Pieces.{Waiting}
+use Rattle.apl_order.specs.Kept.{names_in}
+use Rattle.apl_parts.specs.Pieces.{Waiting, Standing}
 use Rattle.apl_parts.specs.Restored.{waiting_in}
 use Rattle.apl_workspace_file.specs.declared.fields.ContextField.{ContextField}
+use Rattle.apl_workspace_file.specs.declared.fields.StatementField.{StatementField}
+use Rattle.apl_workspace_file.specs.declared.fields.CallField.{CallField}
+use Rattle.apl_workspace_file.specs.declared.fields.LocalField.{LocalField}
 use Rattle.apl_workspace_file.specs.declared.fields.RestField.{RestField}
-use Rattle.apl_saved.specs.Spelled.{IsContextOf, letters_of}
-use Rattle.apl_saved.specs.Rules.{Calls, IsContext, IsPendentLine, IsStatement, kind_of, text_of}
+use Rattle.apl_saved.specs.Spelled.{IsContextOf, Pairwise, letters_of}
+use Rattle.apl_saved.specs.Rules.{Calls, IsContext, IsLocal, IsPendentLine, IsStatement, kind_of, text_of}
 use Rattle.apl_loading.specs.Refusals.{Below, relisted}
 
 -- the tokens are some text's
@@ -32,6 +37,13 @@ pub record IsStatementLine (field : List ℕ) (text : Text) (tokens : List Token
   pub line : IsLine field text
   pub read : tokens_of text ≡ Ok tokens
   pub unlabelled : label_in tokens ≡ None
+
+abbrev pub is_named : Token → Bool
+is_named t = is_name t.kind
+
+-- these are the letters of classes, as many as the user names
+abbrev pub AreClasses : List Token → List ℕ → List Class → Type 0
+AreClasses tokens letters classes = (letters ≡ letters_of classes) × (length classes ≡ length (names_of tokens))
 
 -- some instructions are done but not the last, and they leave these operands beneath a value
 pub record HasStack (code : List Instr) (done : ℕ) (operands : List Operand) : Type 0 where
@@ -90,3 +102,43 @@ IsAwaited awaits (Some c) = (listing : List ℕ) × IsMadeIn (text_of c) (waitin
 pub record IsBelow (awaits : Option Action) (standing : ℕ) (s : Below) : Type 0 where
   pub awaited : IsAwaited awaits s.below
   pub count : s.standing ≡ standing
+
+-- ---- locals of a call
+
+abbrev pub IsNamedBy : LocalField → Text → Type 0
+IsNamedBy f name = IsLine f.name name
+
+-- These are the locals of a header, with these values, and a field for each.
+pub record AreLocals (h : Header) (fs : List LocalField) (values : List (Option Arr)) (ls : List (Text × Option Arr)) : Type 0 where
+  pub names : map (λ l. l.0) ls ≡ names_in h
+  pub written : Pairwise IsNamedBy fs (names_in h)
+  pub given : map (λ l. l.1) ls ≡ values
+  pub locals : All IsLocal ls
+
+-- ---- statements and calls
+
+-- a statement, or a text that is executed, by a field but for its listing
+pub record IsStatementBy (f : StatementField) (stack : List Operand) (text : Text) (w : Waiting) : Type 0 where
+  pub tokens : List Token
+  pub line : IsStatementLine f.line text tokens
+  pub rest : IsWaitingBy tokens f.rest stack w
+
+-- the rest of a line of these tokens, by a field but for its listing
+abbrev pub IsRestBy : List Token → Option RestField → List Operand → Option Waiting → Type 0
+IsRestBy tokens None stack None = Unit {0}
+IsRestBy tokens (Some f) stack (Some w) = IsWaitingBy tokens f stack w
+IsRestBy tokens f stack rest = ⊥
+
+-- the same of what is made beside it
+abbrev pub IsRestMade : List Token → Option Waiting → Option Action → List ℕ → Type 0
+IsRestMade tokens None None listing = Unit {0}
+IsRestMade tokens (Some w) (Some action) listing = IsMade tokens w action listing
+IsRestMade tokens rest awaits listing = ⊥
+
+-- a call of this definition, by a field but for its listing
+pub record IsCallBy (d : Definition) (f : CallField) (values : List (Option Arr)) (stack : List Operand) (c : Standing) : Type 0 where
+  pub definition : c.definition ≡ d
+  pub at : c.at ≡ f.at
+  pub at_line : is_line d f.at ≡ true
+  pub locals : AreLocals d.header f.locals values c.locals
+  pub rest : (tokens : List Token) × (tokens_of (line_of d f.at) ≡ Ok tokens) × IsRestBy tokens f.rest stack c.rest

@@ -1,5 +1,5 @@
 //! Lines, their tokens and their classes.
-ghost use Rattle.std.specs.Prelude.{◌≡◌, ◌≢◌, List, false, length, map, IfOk, IfErr, Ok, is_some};
+ghost use Rattle.std.specs.Prelude.{◌≡◌, ◌≢◌, List, false, length, count_by, IfOk, IfErr, Ok, is_some};
 ghost use Rattle.apl_defn.specs.Defining.{label_in};
 ghost use Rattle.apl_defn.specs.Definitions.{Text as Line};
 ghost use Rattle.apl_tokens.specs.declared.token.Token.{Token as AToken};
@@ -7,7 +7,7 @@ ghost use Rattle.apl_tokens.specs.Tokens.{tokens_of};
 ghost use Rattle.apl_translate.specs.Binding.{bound_of, is_colon, is_name, names_of, without_label};
 ghost use Rattle.apl_translate.specs.Translation.{Translates};
 ghost use Rattle.apl_saved.specs.Spelled.{letter_of, letters_of};
-ghost use Rattle.apl_loading.specs.Made.{AreOfText, IsStatementLine};
+ghost use Rattle.apl_loading.specs.Made.{AreClasses, AreOfText, IsStatementLine, is_named};
 ghost use Rattle.apl_loading.specs.Numbers.{Refuses};
 ghost use Rattle.apl_loading.specs.declared.error.LoadFault.TheVariants as fault;
 
@@ -46,8 +46,8 @@ impl Field for u8 {
     }
 }
 
-/// The classes that these letters stand for.
-pub(crate) fn read_classes(alloc: Global, field: &TextField) -> Result<Vec<Class>, LoadFault>
+/// The classes that letters stand for.
+fn read_letters(alloc: Global, field: &TextField) -> Result<Vec<Class>, LoadFault>
     ensures found { IfOk result (λ v. field.now ≡ letters_of v.items) }
     ensures refused { IfErr result (Refuses fault.Context (λ classes. field.now ≡ letters_of classes)) }
 {
@@ -98,15 +98,38 @@ fn has_label(tokens: &[Token]) -> bool
     }
 }
 
+/// How many tokens are names.
+fn names_among(tokens: &[Token]) -> usize
+    ensures { result ≡ count_by is_named tokens.now }
+{
+    tokens
+        .iter()
+        .filter(|token| matches!(token.kind, Kind::Name(_)))
+        .count()
+}
+
 /// How many user names stand among the items of a line.
-#[tactic(auto, unfolding(apl_translate::specs::Binding::names_of))]
-pub(crate) fn count_names(tokens: &[Token]) -> usize
+fn count_names(tokens: &[Token]) -> usize
     ensures { result ≡ length (names_of tokens.now) }
 {
-    without_label(tokens)
-        .iter()
-        .filter(|token| is_name(&token.kind))
-        .count()
+    names_among(without_label(tokens))
+}
+
+/// The classes that letters stand for, as many as the user names of these tokens.
+pub(crate) fn read_classes(
+    alloc: Global,
+    tokens: &[Token],
+    field: &TextField,
+) -> Result<Vec<Class>, LoadFault>
+    ensures found { IfOk result (λ v. AreClasses tokens.now field.now v.items) }
+    ensures refused { IfErr result (Refuses fault.Context (λ classes. AreClasses tokens.now field.now classes)) }
+{
+    let classes = read_letters(alloc, field)?;
+    if classes.len() == count_names(tokens) {
+        Ok(classes)
+    } else {
+        Err(LoadFault::Context)
+    }
 }
 
 /// The code of the line of these tokens, a text's, whose names have these classes.

@@ -1,5 +1,5 @@
 -- What parts keep to, for a workspace file to hold them.
-use Rattle.std.specs.Prelude.{◌≡◌, ℕ, ◌+◌, ◌-◌, ◌<◌, ◌≤◌, false, true, List, [], ◌∷◌, map, take, length, reverse, All, Contains, Option, Some, None, Ok, is_none, slice_get}
+use Rattle.std.specs.Prelude.{◌≡◌, ◌⊎◌, ℕ, ◌+◌, ◌-◌, ◌<◌, ◌≤◌, false, true, List, [], ◌∷◌, map, take, length, reverse, All, Contains, Option, Some, None, Ok, is_none, slice_get}
 use Rattle.std.specs.declared.cmp.Ordering.TheVariants.{Less}
 use Rattle.apl_arrays.specs.Cells.{Arr}
 use Rattle.apl_symbols.specs.declared.primitive.Primitive.TheVariants as primitives

@@ -33,7 +33,7 @@ use Rattle.apl_workspace_file.specs.declared.fields.CallField.{CallField}
 use Rattle.apl_workspace_file.specs.declared.fields.LocalField.{LocalField}
 use Rattle.apl_workspace_file.specs.declared.fields.RestField.{RestField}
 use Rattle.apl_workspace_file.specs.declared.fields.OperandField.{OperandField}
-use Rattle.apl_workspace_file.specs.declared.fields.OperandField.TheVariants as fields
+use Rattle.apl_workspace_file.specs.declared.fields.OperandField.TheVariants as operand_fields
 
 -- two lists of one length, whose items stand in a relation pair by pair
 abbrev pub Pairwise : {A B : Type 0} → (A → B → Type 0) → List A → List B → Type 0
@@ -62,8 +62,8 @@ pub record IsArrayOf (f : ArrayField) (a : Arr) : Type 0 where
 
 -- an empty slot has no array
 abbrev pub IsOperandOf : OperandField → Operand → Type 0
-IsOperandOf (fields.Array f) (operands.Value a) = IsArrayOf f a
-IsOperandOf (fields.Slots fs) (operands.Slots slots) = Pairwise (BothOrNeither IsArrayOf) fs slots
+IsOperandOf (operand_fields.Array f) (operands.Value a) = IsArrayOf f a
+IsOperandOf (operand_fields.Slots fs) (operands.Slots slots) = Pairwise (BothOrNeither IsArrayOf) fs slots
 IsOperandOf f o = ⊥
 
 -- ---- lines that await an answer
@@ -95,8 +95,8 @@ pub record IsRestOf (f : RestField) (text : Text) (w : Waiting) : Type 0 where
 -- ---- definitions and contexts
 
 -- the function has this header, as it is written canonically, and these lines
-pub record IsDefinitionOf (head : List ℕ) (texts : List (List ℕ)) (d : Definition) : Type 0 where
-  pub header : IsLine head (canonical d.header)
+pub record IsDefinitionOf (heading : List ℕ) (texts : List (List ℕ)) (d : Definition) : Type 0 where
+  pub header : IsLine heading (canonical d.header)
   pub lines : Pairwise IsLine texts d.lines
 
 pub record IsLocalOf (f : LocalField) (l : Text × Option Arr) : Type 0 where
