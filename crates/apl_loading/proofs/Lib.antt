@@ -7,3 +7,5 @@ pub mod Taken
 pub mod OneFunction
 pub mod OneVariable
 pub mod OneLine
+pub mod OneCall
+pub mod OneContext

@@ -74,3 +74,9 @@ contains_later x y xs (k, lt, e) = (suc k, omega (arith, lt), e)
 
 pub contains_first : {X : Type 0} (x y : X) (xs : List X) → x ≡ y → Contains (x ∷ xs) y
 contains_first x y xs e = (0, omega arith, e)
+
+pub pair_length : {F P : Type 0} (R : F → P → Type 0) (fs : List F) (ps : List P) → Pairwise R fs ps → length fs ≡ length ps
+pair_length R [] [] h = refl
+pair_length R [] (p ∷ ps) h = absurd h
+pair_length R (f ∷ fs) [] h = absurd h
+pair_length R (f ∷ fs) (p ∷ ps) h = ap suc (pair_length R fs ps h.1)

@@ -60,3 +60,6 @@ not_headed head texts ts d p e other x g =
 
 pub not_true : (b : Bool) → b ≡ false → IsTrue b → ⊥
 not_true b e h = cc
+
+pub no_truth : IsTrue false → ⊥
+no_truth h = cc

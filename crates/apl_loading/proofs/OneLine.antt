@@ -23,9 +23,10 @@ use Rattle.apl_translate.specs.Binding.{bound_of, is_name, name_in, names_of, wi
 use Rattle.apl_translate.specs.Translation.{Translates}
 use Rattle.apl_parts.specs.Pieces.{Waiting}
 use Rattle.apl_workspace_file.specs.declared.fields.RestField.{RestField}
+use Rattle.apl_workspace_file.specs.declared.fields.StatementField.{StatementField}
 use Rattle.apl_saved.specs.Spelled.{Pairwise, letter_of, letters_of}
 use Rattle.apl_saved.specs.Rules.{IsPendentLine, kind_of}
-use Rattle.apl_loading.specs.Made.{HasStack, IsStatementLine, is_named}
+use Rattle.apl_loading.specs.Made.{AreClasses, HasStack, IsRestBy, IsStatementBy, IsStatementLine, IsWaitingBy, is_named}
 use Rattle.apl_loading.proofs.Lists.{one_list}
 use Rattle.apl_loading.proofs.StackKinds.{one_code}
 
@@ -122,3 +123,25 @@ pub no_stack : (tokens : List Token) (w : Waiting) (code : List Instr) → Trans
 no_stack tokens w code t none other l =
     let e : other ≡ code = one_code other code false (bound_of tokens w.classes).items l.translates t in
     none (subst (λ is. HasStack is w.done w.operands) e (record { begun = l.begun; runs = l.runs; stack = l.kinds }))
+
+-- ---- the rest of a line
+
+pub other_rest : (tokens : List Token) (f : RestField) (classes : List Class) (os : List Operand) → AreClasses tokens f.classes classes → ((code : List Instr) → ¬ IsPendentLine tokens (record { classes = classes; done = f.done; operands = os }) code) → (w : Waiting) → ¬ IsWaitingBy tokens f os w
+other_rest tokens f classes os a none w g =
+    let c : w.classes ≡ classes = one_classes f.classes w.classes classes g.0.classes a.0 in
+    let d : w.done ≡ f.done = sym g.0.done in
+    let o : w.operands ≡ os = g.0.operands in
+    let e : w ≡ record { classes = classes; done = f.done; operands = os } = λ k. record { classes = c k; done = d k; operands = o k } in
+    none g.1.0 (subst (λ x. IsPendentLine tokens x g.1.0) e g.1.1)
+
+pub no_call_line : (tokens : List Token) (o : Option RestField) (f : RestField) (os : List Operand) → o ≡ Some f → ((w : Waiting) → ¬ IsWaitingBy tokens f os w) → (rest : Option Waiting) → ¬ IsRestBy tokens o os rest
+no_call_line tokens o f os e none rest h = go rest (subst (λ x. IsRestBy tokens x os rest) e h)
+  where
+    go : (rest : Option Waiting) → ¬ IsRestBy tokens (Some f) os rest
+    go None h = absurd h
+    go (Some w) h = none w h
+
+pub no_statement : (f : StatementField) (text : Text) (tokens : List Token) (os : List Operand) → IsStatementLine f.line text tokens → ((w : Waiting) → ¬ IsWaitingBy tokens f.rest os w) → (other : Text) (w : Waiting) → ¬ IsStatementBy f os other w
+no_statement f text tokens os l none other w h =
+    let t : tokens ≡ h.tokens = same_tokens text tokens h.tokens l.read (ap tokens_of (one_text f.line text other l.line h.line.line) ∙ h.line.read) in
+    none w (subst (λ ts. IsWaitingBy ts f.rest os w) (sym t) h.rest)

@@ -1,5 +1,6 @@
 -- For private clauses: what is made of a context, beside its part.
-use Rattle.std.specs.Prelude.{◌≡◌, ℕ, ◌-◌, ◌<◌, ◌≤◌, Bool, true, false, All, List, [], ◌∷◌, length, map, reverse, take, Option, Some, None, Ok, slice_get}
+use Rattle.std.specs.Prelude.{◌≡◌, ℕ, ◌-◌, ◌<◌, ◌≤◌, Bool, true, false, List, [], ◌∷◌, length, map, reverse, take, Option, Some, None, Ok, slice_get}
+use Rattle.std.specs.List.{AllByRecursion}
 use Rattle.apl_arrays.specs.Cells.{Arr}
 use Rattle.apl_charset.specs.Text.{IsLine}
 use Rattle.apl_tokens.specs.declared.token.Token.{Token}
@@ -20,13 +21,16 @@ use Rattle.apl_order.specs.Kept.{names_in}
 use Rattle.apl_parts.specs.Pieces.{Waiting, Standing}
 use Rattle.apl_parts.specs.Restored.{waiting_in}
 use Rattle.apl_workspace_file.specs.declared.fields.ContextField.{ContextField}
+use Rattle.apl_workspace_file.specs.declared.fields.ContextField.TheVariants as fields
 use Rattle.apl_workspace_file.specs.declared.fields.StatementField.{StatementField}
 use Rattle.apl_workspace_file.specs.declared.fields.CallField.{CallField}
 use Rattle.apl_workspace_file.specs.declared.fields.LocalField.{LocalField}
 use Rattle.apl_workspace_file.specs.declared.fields.RestField.{RestField}
 use Rattle.apl_saved.specs.Spelled.{IsContextOf, Pairwise, letters_of}
 use Rattle.apl_saved.specs.Rules.{Calls, IsContext, IsLocal, IsPendentLine, IsStatement, kind_of, text_of}
-use Rattle.apl_loading.specs.Refusals.{Below, relisted}
+use Rattle.apl_loading.specs.Refusals.{Below, HasDefinition, Nothing, Unless, relisted}
+use Rattle.apl_loading.specs.declared.error.LoadFault.{LoadFault}
+use Rattle.apl_loading.specs.declared.error.LoadFault.TheVariants as fault
 
 -- the tokens are some text's
 abbrev pub AreOfText : List Token → Type 0
@@ -113,7 +117,7 @@ pub record AreLocals (h : Header) (fs : List LocalField) (values : List (Option 
   pub names : map (λ l. l.0) ls ≡ names_in h
   pub written : Pairwise IsNamedBy fs (names_in h)
   pub given : map (λ l. l.1) ls ≡ values
-  pub locals : All IsLocal ls
+  pub locals : AllByRecursion IsLocal ls
 
 -- ---- statements and calls
 
@@ -142,3 +146,25 @@ pub record IsCallBy (d : Definition) (f : CallField) (values : List (Option Arr)
   pub at_line : is_line d f.at ≡ true
   pub locals : AreLocals d.header f.locals values c.locals
   pub rest : (tokens : List Token) × (tokens_of (line_of d f.at) ≡ Ok tokens) × IsRestBy tokens f.rest stack c.rest
+
+-- ---- contexts
+
+-- it may stand above what awaits this, and it awaits an answer only where others stand behind it
+abbrev pub MayStand : Option Action → List ContextField → ContextPart → Type 0
+MayStand awaits behind c = Fits awaits c × (behind ≡ [] → waiting_in c ≡ None)
+
+-- What is refused of a field alone: a definition, and then all rules but that of the listing.
+abbrev pub RefusesPart : ContextField → LoadFault → Type 0
+RefusesPart f e =
+    Unless (HasDefinition f) fault.Definition
+    (Unless ((listing : List ℕ) × (c : ContextPart) × IsContextOf (relisted listing f) c × IsContext c) fault.Context Nothing) e
+
+abbrev pub IsListedRest : Option RestField → List ℕ → Type 0
+IsListedRest None listing = Unit {0}
+IsListedRest (Some f) listing = f.code ≡ listing
+
+-- the listing of its line, where it awaits an answer, is this one
+abbrev pub IsListed : ContextField → List ℕ → Type 0
+IsListed (fields.Statement f) listing = f.rest.code ≡ listing
+IsListed (fields.Call f) listing = IsListedRest f.rest listing
+IsListed (fields.Execute f) listing = f.rest.code ≡ listing

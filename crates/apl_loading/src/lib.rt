@@ -2,11 +2,13 @@
 #![tactic(auto)]
 
 mod arrays;
+mod contexts;
 mod definitions;
 mod error;
 mod field;
 mod functions;
 mod lines;
+mod links;
 mod locals;
 mod names;
 mod operands;

@@ -1,5 +1,6 @@
 //! Locals of a standing call.
-ghost use Rattle.std.specs.Prelude.{◌≡◌, ◌≢◌, ◌↔◌, ◌⊎◌, ◌++◌, All, IsTrue, IfOk, IfErr, OnOk, [], ◌∷◌, pos, length, map};
+ghost use Rattle.std.specs.Prelude.{◌≡◌, ◌≢◌, ◌↔◌, ◌⊎◌, ◌++◌, IsTrue, IfOk, IfErr, OnOk, [], ◌∷◌, pos, length, map};
+ghost use Rattle.std.specs.List.{AllByRecursion};
 ghost use Rattle.apl_arrays.specs.Cells.{Numbers};
 ghost use Rattle.apl_arrays.specs.Ravels.{items_of};
 ghost use Rattle.apl_charset.specs.Text.{IsLine};
@@ -108,7 +109,7 @@ fn is_local(local: &(Name, Option<Array>)) -> bool
 
 /// Whether each name may have its value.
 fn are_locals(locals: &[(Name, Option<Array>)]) -> bool
-    ensures { IsTrue result ↔ All IsLocal locals.now }
+    ensures { IsTrue result ↔ AllByRecursion IsLocal locals.now }
 {
     for local in locals {
         if !is_local(local) {

@@ -12,11 +12,10 @@ ghost use Rattle.apl_loading.specs.declared.error.LoadFault.TheVariants as fault
 use crate::error::LoadFault;
 use crate::lines::{StatementLine, code_of, read_classes, read_statement_line};
 use crate::stack::has_stack;
-use apl_charset::Text;
 use apl_code::{Action, Code};
 use apl_listing::listing;
 use apl_machine_state::Operand;
-use apl_parts::RestPart;
+use apl_parts::{RestPart, StatementPart};
 use apl_symbols::Class;
 use apl_tokens::Token;
 use apl_workspace_file::{RestField, StatementField};
@@ -86,11 +85,13 @@ pub(crate) fn read_rest(
     bound_rest(alloc, tokens, classes, field.done, operands)
 }
 
-/// A statement, or a text that is executed, that awaits an answer.
+/// A statement, or a text that is executed, that awaits an answer, what the last of its instructions
+/// that are done does, and its listing.
 #[derive(Drop)]
 pub(crate) struct PendentStatement {
-    pub(crate) text: Text,
-    pub(crate) line: PendentLine,
+    pub(crate) part: StatementPart,
+    pub(crate) action: Action,
+    pub(crate) listing: Vec<u8>,
 }
 
 /// The statement, or the text that is executed, that a field is, but for the listing.
@@ -99,13 +100,20 @@ pub(crate) fn read_statement(
     field: &StatementField,
     operands: Vec<Operand>,
 ) -> Result<PendentStatement, LoadFault>
-    ensures found { IfOk result (λ s. IsStatementBy field.now operands.items s.text s.line.rest) }
-    ensures made { IfOk result (λ s. IsMadeOf s.text s.line.rest s.line.action s.line.listing.items) }
+    ensures found { IfOk result (λ s. IsStatementBy field.now operands.items s.part.text s.part.rest) }
+    ensures made { IfOk result (λ s. IsMadeOf s.part.text s.part.rest s.action s.listing.items) }
     ensures refused { IfErr result (λ e. e ≢ fault.Memory → (e ≡ fault.Context) × ((text : Line) (w : Waiting) → ¬ IsStatementBy field.now operands.items text w)) }
 {
     let StatementLine { text, tokens } = read_statement_line(alloc, &field.line)?;
     let line = read_rest(alloc, tokens.as_slice(), &field.rest, operands)?;
-    Ok(PendentStatement { text, line })
+    Ok(PendentStatement {
+        part: StatementPart {
+            text,
+            rest: line.rest,
+        },
+        action: line.action,
+        listing: line.listing,
+    })
 }
 
 /// The line of a call, which may await an answer.
