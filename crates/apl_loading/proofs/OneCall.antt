@@ -6,9 +6,13 @@ use Rattle.std.proofs.lemmas.Bool.Decides.{nat_tests}
 use Rattle.apl_arrays.specs.Cells.{Arr}
 use Rattle.apl_defn.specs.Definitions.{Text, Definition, is_line, line_at, line_of}
 use Rattle.apl_machine_state.specs.declared.operand.Operand.{Operand}
-use Rattle.apl_parts.specs.Pieces.{Standing}
+use Rattle.apl_parts.specs.Pieces.{Standing, Waiting}
 use Rattle.apl_workspace_file.specs.declared.fields.CallField.{CallField}
-use Rattle.apl_loading.specs.Made.{IsCallBy}
+use Rattle.apl_workspace_file.specs.declared.fields.RestField.{RestField}
+use Rattle.apl_tokens.specs.declared.token.Token.{Token}
+use Rattle.apl_tokens.specs.Tokens.{tokens_of}
+use Rattle.apl_loading.specs.Made.{IsCallBy, IsRestBy, IsRestOfLine, IsWaitingBy}
+use Rattle.apl_loading.proofs.OneLine.{same_tokens}
 
 some_within : (lines : List Text) (n : ℕ) (t : Text) → line_at lines n ≡ Some t → (1 ≤ n) × (n ≤ length lines)
 some_within lines zero t h = cc
@@ -33,3 +37,20 @@ no_line d f values os h c g = beyond f.at h g.at_line
     beyond : (n : ℕ) → line_at d.lines n ≡ None → is_line d n ≡ true → ⊥
     beyond zero h b = cc
     beyond (suc k) h b = let le = none_beyond d.lines k h in grind (arith, nat_tests, le, b)
+
+-- ---- the line of a call
+
+pub rest_of_line : (text : Text) (tokens : List Token) (o : Option RestField) (os : List Operand) (rest : Option Waiting) → tokens_of text ≡ Ok tokens → IsRestBy tokens o os rest → IsRestOfLine text o os rest
+rest_of_line text tokens None os None r h = tt
+rest_of_line text tokens None os (Some w) r h = absurd h
+rest_of_line text tokens (Some f) os None r h = absurd h
+rest_of_line text tokens (Some f) os (Some w) r h = (tokens, r, h)
+
+pub rest_by_tokens : (text : Text) (tokens : List Token) (o : Option RestField) (os : List Operand) (rest : Option Waiting) → tokens_of text ≡ Ok tokens → IsRestOfLine text o os rest → IsRestBy tokens o os rest
+rest_by_tokens text tokens None os None r h = tt
+rest_by_tokens text tokens None os (Some w) r h = absurd h
+rest_by_tokens text tokens (Some f) os None r h = absurd h
+rest_by_tokens text tokens (Some f) os (Some w) r h = subst (λ ts. IsWaitingBy ts f os w) (same_tokens text h.0 tokens h.1 r) h.2
+
+pub no_call_rest : (d : Definition) (f : CallField) (values : List (Option Arr)) (os : List Operand) (tokens : List Token) → tokens_of (line_of d f.at) ≡ Ok tokens → ((rest : Option Waiting) → ¬ IsRestBy tokens f.rest os rest) → (c : Standing) → ¬ IsCallBy d f values os c
+no_call_rest d f values os tokens r none c g = none c.rest (rest_by_tokens (line_of d f.at) tokens f.rest os c.rest r g.rest)

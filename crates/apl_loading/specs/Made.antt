@@ -133,6 +133,12 @@ IsRestBy tokens None stack None = Unit {0}
 IsRestBy tokens (Some f) stack (Some w) = IsWaitingBy tokens f stack w
 IsRestBy tokens f stack rest = ⊥
 
+-- the same of the line of a text
+abbrev pub IsRestOfLine : Text → Option RestField → List Operand → Option Waiting → Type 0
+IsRestOfLine text None stack None = Unit {0}
+IsRestOfLine text (Some f) stack (Some w) = (tokens : List Token) × (tokens_of text ≡ Ok tokens) × IsWaitingBy tokens f stack w
+IsRestOfLine text f stack rest = ⊥
+
 -- the same of what is made beside it
 abbrev pub IsRestMade : List Token → Option Waiting → Option Action → List ℕ → Type 0
 IsRestMade tokens None None listing = Unit {0}
@@ -145,7 +151,7 @@ pub record IsCallBy (d : Definition) (f : CallField) (values : List (Option Arr)
   pub at : c.at ≡ f.at
   pub at_line : is_line d f.at ≡ true
   pub locals : AreLocals d.header f.locals values c.locals
-  pub rest : (tokens : List Token) × (tokens_of (line_of d f.at) ≡ Ok tokens) × IsRestBy tokens f.rest stack c.rest
+  pub rest : IsRestOfLine (line_of d f.at) f.rest stack c.rest
 
 -- ---- contexts
 
