@@ -9,3 +9,4 @@ pub mod OneVariable
 pub mod OneLine
 pub mod OneCall
 pub mod OneContext
+pub mod OneStep

@@ -8,7 +8,7 @@ use Rattle.apl_charset.proofs.Unique.{one_text}
 use Rattle.apl_symbols.specs.declared.class.Class.{Class}
 use Rattle.apl_tokens.specs.declared.token.Token.{Token}
 use Rattle.apl_tokens.specs.Tokens.{tokens_of}
-use Rattle.apl_defn.specs.Definitions.{Text, Definition, line_of, is_line}
+use Rattle.apl_defn.specs.Definitions.{Text, Definition, Header, line_of, is_line}
 use Rattle.apl_defn.specs.Defining.{IsDefined}
 use Rattle.apl_code.specs.declared.instr.Action.{Action}
 use Rattle.apl_machine_state.specs.declared.operand.Operand.{Operand}
@@ -229,6 +229,10 @@ pairs_same (l ∷ ls) (m ∷ ms) a b =
     let u : map (λ l. l.0) ls ≡ map (λ l. l.0) ms = cc in
     let v : map (λ l. l.1) ls ≡ map (λ l. l.1) ms = cc in
     ap (λ q. q ∷ ls) p ∙ ap (λ qs. m ∷ qs) (pairs_same ls ms u v)
+
+-- where these locals break a rule, no others keep to the rules
+pub no_locals : (h : Header) (fs : List LocalField) (values : List (Option Arr)) (ls seen : List (Text × Option Arr)) → map (λ l. l.0) ls ≡ names_in h → map (λ l. l.1) ls ≡ values → seen ≡ ls → ¬ AllByRecursion IsLocal seen → (ms : List (Text × Option Arr)) → ¬ AreLocals h fs values ms
+no_locals h fs values ls seen n v s none ms g = none (subst (AllByRecursion IsLocal) (pairs_same ms ls (g.names ∙ sym n) (g.given ∙ sym v) ∙ sym s) g.locals)
 
 call_same : (d : Definition) (f : CallField) (values : List (Option Arr)) (os : List Operand) (b c : Standing) → IsCallBy d f values os b → IsCallBy d f values os c → b ≡ c
 call_same d f values os b c g h =
