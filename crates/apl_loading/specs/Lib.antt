@@ -2,3 +2,4 @@ pub mod Numbers
 pub mod Small
 pub mod Refusals
 pub mod Made
+pub mod Held

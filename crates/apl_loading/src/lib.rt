@@ -9,6 +9,7 @@ mod field;
 mod functions;
 mod lines;
 mod links;
+mod loading;
 mod locals;
 mod names;
 mod operands;
@@ -19,3 +20,4 @@ mod values;
 mod variables;
 
 pub use error::LoadFault;
+pub use loading::parts_of;
