@@ -10,3 +10,6 @@ pub mod OneLine
 pub mod OneCall
 pub mod OneContext
 pub mod OneStep
+pub mod Ruled
+pub mod WholeParts
+pub mod Unrefused

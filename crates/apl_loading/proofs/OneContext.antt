@@ -95,12 +95,12 @@ execute_refused f os e o h = inr (tt, inl (λ x. go x.0 x.1 x.2 x.3, h.0))
 
 -- ---- calls
 
-all_by : {X : Type 0} (P : X → Type 0) (xs : List X) → AllByRecursion P xs → All P xs
+pub all_by : {X : Type 0} (P : X → Type 0) (xs : List X) → AllByRecursion P xs → All P xs
 all_by P [] h k d lt = absurd (omega (arith, lt))
 all_by P (x ∷ xs) h zero d lt = h.0
 all_by P (x ∷ xs) h (suc k) d lt = all_by P xs h.1 k d (omega (arith, lt))
 
-by_all : {X : Type 0} (P : X → Type 0) (xs : List X) → All P xs → AllByRecursion P xs
+pub by_all : {X : Type 0} (P : X → Type 0) (xs : List X) → All P xs → AllByRecursion P xs
 by_all P [] h = tt
 by_all P (x ∷ xs) h = (h 0 x (omega arith), by_all P xs (λ k d lt. h (suc k) d (omega (arith, lt))))
 
@@ -116,7 +116,7 @@ named_locals [] (l ∷ ls) h = absurd h
 named_locals (f ∷ fs) [] h = absurd h
 named_locals (f ∷ fs) (l ∷ ls) h = (h.0.name, named_locals fs ls h.1)
 
-valued_locals : (fs : List LocalField) (ls : List (Text × Option Arr)) → Pairwise IsLocalOf fs ls → Pairwise IsValueOf fs (map (λ l. l.1) ls)
+pub valued_locals : (fs : List LocalField) (ls : List (Text × Option Arr)) → Pairwise IsLocalOf fs ls → Pairwise IsValueOf fs (map (λ l. l.1) ls)
 valued_locals [] [] h = tt
 valued_locals [] (l ∷ ls) h = absurd h
 valued_locals (f ∷ fs) [] h = absurd h

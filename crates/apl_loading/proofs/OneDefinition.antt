@@ -13,7 +13,7 @@ use Rattle.apl_defn.proofs.Headings.{TokenLaws}
 use Rattle.apl_saved.specs.Spelled.{IsDefinitionOf, Pairwise}
 use Rattle.apl_loading.proofs.Lists.{one_list}
 
-laws : TokenLaws
+pub laws : TokenLaws
 laws = record { spelled = spelled_answer; spells = answer_spells }
 
 pub texts_of : (head : List ℕ) (texts : List (List ℕ)) (d : Definition) → IsDefinitionOf head texts d → Pairwise IsLine (head ∷ texts) (canonical d.header ∷ d.lines)

@@ -4,5 +4,5 @@ use Rattle.apl_loading.specs.Made.{IsBelow}
 use Rattle.apl_loading.proofs.Taken.{HasTaken}
 use Rattle.apl_loading.proofs.contexts.read_contexts.Given as goal
 
-abbrev pub invariant-loop-field : goal.invariant-loop-field
-invariant-loop-field l = (l.standing ≤ 256) × ((s : Below) × IsBelow l.awaits l.standing s × HasTaken TakesContext RefusesContext context_after nothing_below l.fields s (drop l.i l.fields) l.contexts.items)
+abbrev pub invariant-loop-i : goal.invariant-loop-i
+invariant-loop-i l = (l.standing ≤ 256) × ((s : Below) × IsBelow l.awaits l.standing s × HasTaken TakesContext RefusesContext context_after nothing_below l.fields s (drop l.i l.fields) l.contexts.items)
