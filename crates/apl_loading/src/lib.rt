@@ -21,3 +21,6 @@ mod variables;
 
 pub use error::LoadFault;
 pub use loading::parts_of;
+
+#[cfg(test)]
+mod tests;
