@@ -26,7 +26,7 @@ use Rattle.apl_loading.specs.Refusals.{AreSmall, AreValues, Below, HasDefinition
 use Rattle.apl_loading.specs.Made.{Fits, IsAwaited, IsBelow, IsBuilt, IsListed, IsListedRest, IsMadeIn, IsMadeOf, MayStand, RefusesPart}
 use Rattle.apl_loading.proofs.OneContext.{same_context}
 use Rattle.apl_loading.proofs.OneLine.{same_tokens}
-use Rattle.apl_loading.proofs.StackKinds.{one_code}
+use Rattle.apl_saved.proofs.StackKinds.{one_code}
 
 -- ---- what awaits, and what stands above
 

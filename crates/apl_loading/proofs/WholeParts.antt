@@ -31,7 +31,7 @@ use Rattle.apl_saved.specs.Rules.{AreContexts, AreRuled, Calls, Ends, Follows, I
 use Rattle.apl_loading.proofs.Lists.{append_nil}
 use Rattle.apl_loading.proofs.OneContext.{all_by, by_all}
 use Rattle.apl_loading.proofs.OneDefinition.{laws}
-use Rattle.apl_loading.proofs.StackKinds.{one_code, pendent_kinds}
+use Rattle.apl_saved.proofs.StackKinds.{one_code, pendent_kinds}
 
 -- ---- lines that await an answer
 
