@@ -1,18 +1,14 @@
 -- A workspace has one file of each version.
-use Rattle.std.proofs.Common.{◌≡◌, ℕ, Bool, false, List, [], ◌∷◌, ◌++◌, take, drop, Option, Some, None, Ok, sym, ap, ◌∙◌}
+use Rattle.std.proofs.Common.{◌≡◌, ℕ, false, List, Option, Ok, sym, ap, ◌∙◌}
 use Rattle.apl_charset.specs.Text.{IsLine}
 use Rattle.apl_symbols.specs.declared.class.Class.{Class}
 use Rattle.apl_tokens.specs.declared.token.Token.{Token}
 use Rattle.apl_tokens.specs.Tokens.{tokens_of}
 use Rattle.apl_arrays.specs.Cells.{Arr, Items}
 use Rattle.apl_arrays.specs.Cells as cells
-use Rattle.apl_code.specs.declared.instr.Instr.{Instr}
-use Rattle.apl_code.specs.declared.row.Row.{Row}
 use Rattle.apl_listing.specs.Listing.{listed}
-use Rattle.apl_translate.specs.declared.form.Placed.{Placed}
 use Rattle.apl_translate.specs.Binding.{bound_of}
-use Rattle.apl_translate.specs.Phrase.{assigns, phrase}
-use Rattle.apl_translate.specs.Translation.{Follows, Translates, kinds, reduced}
+use Rattle.apl_translate.specs.Translation.{Translates}
 use Rattle.apl_defn.specs.Definitions.{Text, line_of}
 use Rattle.apl_machine_state.specs.declared.operand.Operand.{Operand}
 use Rattle.apl_machine_state.specs.declared.operand.Operand.TheVariants as operands
@@ -37,7 +33,7 @@ use Rattle.apl_workspace_file.specs.declared.fields.OperandField.{OperandField}
 use Rattle.apl_workspace_file.specs.declared.fields.OperandField.TheVariants as stacked
 use Rattle.apl_saved.specs.Spelled.{AreElements, BothOrNeither, IsArrayOf, IsCallOf, IsContextOf, IsFileOf, IsFunctionOf, IsListingOf, IsLocalOf, IsOperandOf, IsRestOf, IsStatementOf, IsVariableOf, Pairwise}
 use Rattle.apl_saved.proofs.StackKinds.{one_code}
-use Rattle.apl_saved.proofs.Pairs.{both_cons, both_same, both_turned, pairs_same, pairs_turned, turned}
+use Rattle.apl_saved.proofs.Pairs.{both_same, both_turned, pairs_same, pairs_turned, turned}
 
 -- two lists of fields of the same items are one, and two fields that may be missing
 fields_same : {A B : Type 0} (R : A → B → Type 0) → ((y : B) (x z : A) → R x y → R z y → x ≡ z) → (xs zs : List A) (ys : List B) → Pairwise R xs ys → Pairwise R zs ys → xs ≡ zs
