@@ -1,6 +1,7 @@
 -- A file of version 2 that holds parts which keep to the rules fits.
 use Rattle.std.proofs.Common.{◌≡◌, ℕ, ℤ, pos, negsuc, ◌+◌, ◌*◌, ◌<◌, ◌≤◌, ◌^◌, ◌&&◌, max, nat_le, Bool, true, false, All, List, [], ◌∷◌, length, Option, Some, None, FitsSigned, refl, sym, ap, subst, ◌∙◌, arith}
 use Rattle.std.specs.Int.{w64}
+use Rattle.std.proofs.lemmas.Int.{ints}
 use Rattle.std.specs.List.{AllByRecursion}
 use Rattle.std.proofs.lemmas.List.Elements.{All-head, All-tail, recursion_from_All}
 use Rattle.apl_arrays.specs.Cells.{Arr, Items, AreStorable, IsArray}
@@ -37,22 +38,22 @@ use Rattle.apl_workspace_file.specs.declared.fields.RestField.{RestField}
 use Rattle.apl_workspace_file.specs.declared.fields.OperandField.{OperandField}
 use Rattle.apl_workspace_file.specs.declared.fields.OperandField.TheVariants as stacked
 use Rattle.apl_saved.specs.Spelled.{AreElements, BothOrNeither, IsArrayOf, IsCallOf, IsContextOf, IsFileOf, IsFunctionOf, IsLocalOf, IsOperandOf, IsRestOf, IsStatementOf, IsVariableOf, Pairwise}
-use Rattle.apl_saved.specs.Rules.{AreContexts, AreRuled, IsCall, IsContext, IsPendent, IsPendentIn}
+use Rattle.apl_saved.specs.Rules.{AreContexts, AreRuled, IsCall, IsContext, IsPendent, IsPendentIn, counted}
 use Rattle.apl_savable.proofs.Fits.{code-few, line-fits}
 
 -- what holds of the fields of items
 pairs_fit : {A B : Type 0} (R : A → B → Type 0) (P : A → Type 0) → ((x : A) (y : B) → R x y → P x) → (xs : List A) (ys : List B) → Pairwise R xs ys → AllByRecursion P xs
-pairs_fit R P one [] ys h = ()
+pairs_fit R P one [] ys h = tt
 pairs_fit R P one (x ∷ xs) [] h = absurd h
 pairs_fit R P one (x ∷ xs) (y ∷ ys) h = (one x y h.0, pairs_fit R P one xs ys h.1)
 
 good_fit : {A B : Type 0} (R : A → B → Type 0) (Q : B → Type 0) (P : A → Type 0) → ((x : A) (y : B) → R x y → Q y → P x) → (xs : List A) (ys : List B) → Pairwise R xs ys → All Q ys → AllByRecursion P xs
-good_fit R Q P one [] ys h q = ()
+good_fit R Q P one [] ys h q = tt
 good_fit R Q P one (x ∷ xs) [] h q = absurd h
 good_fit R Q P one (x ∷ xs) (y ∷ ys) h q = (one x y h.0 (All-head Q y ys q), good_fit R Q P one xs ys h.1 (All-tail Q y ys q))
 
 both_fit : {A B : Type 0} (R : A → B → Type 0) (P : A → Type 0) → ((x : A) (y : B) → R x y → P x) → (x : Option A) (y : Option B) → BothOrNeither R x y → FitsOption P x
-both_fit R P one None y h = ()
+both_fit R P one None y h = tt
 both_fit R P one (Some x) None h = absurd h
 both_fit R P one (Some x) (Some y) h = one x y h
 
@@ -60,7 +61,7 @@ both_fit R P one (Some x) (Some y) h = one x y h
 
 -- each axis of a shape within the limits is short
 axes_fit : (shape : List ℕ) → shape_bound shape ≤ 1000000 → AllByRecursion IsWhole shape
-axes_fit [] h = ()
+axes_fit [] h = tt
 axes_fit (n ∷ ns) h =
     let here : max n 1 ≤ max n 1 * shape_bound ns = mul_low (max n 1) (shape_bound ns) (bound_of-pos ns) in
     let behind : shape_bound ns ≤ shape_bound ns * max n 1 = mul_low (shape_bound ns) (max n 1) (omega arith) in
@@ -71,11 +72,11 @@ number_fits (pos n) h = omega (arith, ints)
 number_fits (negsuc n) h = omega (arith, ints)
 
 numbers_fit : (zs : List ℤ) → All (λ z. FitsSigned w64 z) zs → AllByRecursion IsNumber zs
-numbers_fit [] h = ()
+numbers_fit [] h = tt
 numbers_fit (z ∷ zs) h = (number_fits z (All-head (λ y. FitsSigned w64 y) z zs h), numbers_fit zs (All-tail (λ y. FitsSigned w64 y) z zs h))
 
 elements_fit : (e : Elements) (i : Items) → AreElements e i → AreStorable i → FitsElements e
-elements_fit (elements.Text s) i h k = ()
+elements_fit (elements.Text s) i h k = tt
 elements_fit (elements.Numbers zs) (cells.Characters cs) h k = absurd h
 elements_fit (elements.Numbers zs) (cells.Numbers ns) h k = subst (λ (ms : List ℤ). AllByRecursion IsNumber ms) (sym h) (numbers_fit ns k)
 
@@ -109,7 +110,7 @@ local_fits : (f : LocalField) (l : Text × Option Arr) → IsLocalOf f l → Fit
 local_fits f l h = slot_fits f.value l.1 h.value
 
 rest_in_fits : (text : Text) (f : Option RestField) (w : Option Waiting) → BothOrNeither (λ r v. IsRestOf r text v) f w → IsPendentIn text w → FitsOption FitsRest f
-rest_in_fits text None w h k = ()
+rest_in_fits text None w h k = tt
 rest_in_fits text (Some f) None h k = absurd h
 rest_in_fits text (Some f) (Some w) h k = rest_fits text f w h k
 
@@ -121,7 +122,7 @@ call_fits f c h k =
     let few : length c.definition.lines ≤ 999 = few_lines c.definition k.defined in
     let within : c.at ≤ length c.definition.lines = line_within c.at (length c.definition.lines) k.at_line in
     let short : c.at < 2 ^ 63 = omega (arith, few, within) in
-    (subst (λ (n : ℕ). IsWhole n) (sym h.at) short, (pairs_fit IsLocalOf FitsLocal local_fits f.locals c.locals h.locals, rest_in_fits (line_of c.definition c.at) f.rest c.rest h.rest k.rest))
+    (subst (λ (n : ℕ). IsWhole n) (sym h.at) short, pairs_fit IsLocalOf FitsLocal local_fits f.locals c.locals h.locals, rest_in_fits (line_of c.definition c.at) f.rest c.rest h.rest k.rest)
 
 context_fits : (f : ContextField) (c : ContextPart) → IsContextOf f c → IsContext c → FitsContext f
 context_fits (fields.Statement f) (parts.Statement s) h k = statement_fits f s h k.1
@@ -135,14 +136,14 @@ context_fits (fields.Execute f) (parts.Call c) h k = absurd h
 context_fits (fields.Execute f) (parts.Execute s) h k = statement_fits f s h k.1
 
 contexts_fit : (below : Option ContextPart) (standing : ℕ) (fs : List ContextField) (cs : List ContextPart) → Pairwise IsContextOf fs cs → AreContexts below standing cs → AllByRecursion FitsContext fs
-contexts_fit below standing [] cs h k = ()
+contexts_fit below standing [] cs h k = tt
 contexts_fit below standing (f ∷ fs) [] h k = absurd h
-contexts_fit below standing (f ∷ fs) (c ∷ cs) h k = (context_fits f c h.0 k.1.1.0, contexts_fit _ _ fs cs h.1 k.1.1.1)
+contexts_fit below standing (f ∷ fs) (c ∷ cs) h k = (context_fits f c h.0 k.2, contexts_fit (Some c) (standing + counted c) fs cs h.1 k.3)
 
 -- ---- global objects
 
 lines_fit : (most : ℕ) (lines : List ℕ) → most ≤ 999 → AreAtMost most lines → AllByRecursion IsWhole lines
-lines_fit most [] few h = ()
+lines_fit most [] few h = tt
 lines_fit most (n ∷ ns) few h = (omega (arith, h.0), lines_fit most ns few h.1)
 
 function_fits : (f : FunctionField) (w : Watched) → IsFunctionOf f w → IsWatched w → FitsFunction f
