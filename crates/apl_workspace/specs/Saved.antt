@@ -1,5 +1,5 @@
--- Which bytes are the file of a workspace, and which file is refused for what.
-use Rattle.std.specs.Prelude.{◌≡◌, ℕ, List}
+-- Which bytes are the file of a workspace.
+use Rattle.std.specs.Prelude.{◌≡◌, ℕ, List, [], None}
 use Rattle.serde_json.specs.Data.{Data}
 use Rattle.serde_json.specs.Written.{compact_text}
 use Rattle.apl_workspace_file.specs.Fitting.{Fits}
@@ -13,13 +13,6 @@ use Rattle.apl_parts.specs.Taken.{parts_of}
 use Rattle.apl_parts.specs.Restored.{state_of}
 use Rattle.apl_saved.specs.Spelled.{IsFileOf}
 use Rattle.apl_saved.specs.Rules.{AreRuled}
-use Rattle.apl_loading.specs.Refusals.{IsRefused}
-use Rattle.apl_loading.specs.declared.error.LoadFault.{LoadFault}
-use Rattle.apl_loading.specs.declared.error.LoadFault.TheVariants as fault
-use Rattle.apl_workspace_file.specs.declared.error.ReadError.{ReadError}
-use Rattle.apl_workspace_file.specs.declared.error.ReadError.TheVariants as read
-use Rattle.apl_workspace.specs.declared.error.LoadError.{LoadError}
-use Rattle.apl_workspace.specs.declared.error.LoadError.TheVariants.{NotJson, Form, Array, Definition, Context, Code, Limit, Memory}
 
 -- A tree stands for a state: it is that of a file whose fields hold parts that keep to the rules, and the state is that of these parts.
 pub record IsSaved (tree : Data) (s : State) : Type 0 where
@@ -42,34 +35,6 @@ pub record IsSavedAs (bytes : List ℕ) (s : State) : Type 0 where
 abbrev pub IsLoaded : List ℕ → State → Type 0
 IsLoaded bytes s = (tree : Data) × IsJson bytes tree × IsSaved tree s
 
--- the bytes are those of a file of the right form that is refused for this
-pub record IsRefusedFor (bytes : List ℕ) (fault : LoadFault) : Type 0 where
-  pub file : File
-  pub fits : Fits file
-  pub json : IsJson bytes (tree_of file)
-  pub refused : IsRefused file fault
-
--- Why bytes aren't loaded: they are no JSON; they are JSON of a tree that no file has; or of a file that is refused.
-abbrev pub IsUnloaded : List ℕ → LoadError → Type 0
-IsUnloaded bytes NotJson = (tree : Data) → ¬ IsJson bytes tree
-IsUnloaded bytes Form = (tree : Data) × IsJson bytes tree × ((file : File) → Fits file → ¬ (tree_of file ≡ tree))
-IsUnloaded bytes Array = IsRefusedFor bytes fault.Array
-IsUnloaded bytes Definition = IsRefusedFor bytes fault.Definition
-IsUnloaded bytes Context = IsRefusedFor bytes fault.Context
-IsUnloaded bytes Code = IsRefusedFor bytes fault.Code
-IsUnloaded bytes Limit = IsRefusedFor bytes fault.Limit
-IsUnloaded bytes Memory = Unit {0}
-
--- the refusal for what reading answers, and for what the parts are refused for
-abbrev pub error_of_read : ReadError → LoadError
-error_of_read read.NotJson = NotJson
-error_of_read read.Form = Form
-error_of_read read.Memory = Memory
-
-abbrev pub error_of_fault : LoadFault → LoadError
-error_of_fault fault.Array = Array
-error_of_fault fault.Definition = Definition
-error_of_fault fault.Context = Context
-error_of_fault fault.Code = Code
-error_of_fault fault.Limit = Limit
-error_of_fault fault.Memory = Memory
+-- a state without its open definition, all its output taken
+abbrev pub settled : State → State
+settled s = record s { definition = None; output = [] }

@@ -1,12 +1,10 @@
-//! Workspaces as files: saved, and loaded again.
+//! Workspaces as files: saved.
 #![tactic(auto)]
 
 mod error;
-mod loading;
 mod saving;
 
-pub use error::{LoadError, SaveError};
-pub use loading::load;
+pub use error::SaveError;
 pub use saving::save;
 
 #[cfg(test)]
