@@ -17,13 +17,16 @@ use Rattle.apl_workspace.proofs.Fitting.{file_fits}
 pub is_loaded : (bytes : List ℕ) (f : File) (p : Pieces) (s : State) → IsJson bytes (tree_of f) → IsFileOf f p → p ≡ parts_of s → f.version ≡ Two → is_idle s ≡ true → IsSavable s → IsLoaded bytes (settled s)
 is_loaded bytes f p s json holds is two idle h =
     let whole : IsFileOf f (parts_of s) = subst (λ (q : Pieces). IsFileOf f q) is holds in
-    let ruled = parts-ruled s h idle in
-    (tree_of f, json, record {
-      file = f;
-      is_tree = refl;
-      fits = file_fits f (parts_of s) whole ruled two;
-      parts = parts_of s;
-      holds = whole;
-      ruled = ruled;
-      state = sym (saved-same s h idle);
-    })
+    let ruled = parts-ruled s h idle in (
+      tree_of f,
+      json,
+      record {
+        file = f;
+        is_tree = refl;
+        fits = file_fits f (parts_of s) whole ruled two;
+        parts = parts_of s;
+        holds = whole;
+        ruled = ruled;
+        state = sym (saved-same s h idle);
+      },
+    )
