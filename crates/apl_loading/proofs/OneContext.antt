@@ -52,9 +52,10 @@ pending text w action listing m = record { tokens = m.tokens; read = m.read; cod
 -- and a rest of any listing is one by the field
 rest_by : (f : RestField) (os : List Operand) (text : Text) (w : Waiting) (listing : List ℕ) (tokens : List Token) → Pairwise IsOperandOf f.operands os → tokens_of text ≡ Ok tokens → IsRestOf (with_listing listing f) text w → IsPendent text w → IsWaitingBy tokens f os w
 rest_by f os text w listing tokens o r g p =
-    let t : p.tokens ≡ tokens = same_tokens text p.tokens tokens p.read r in
-    (record { classes = g.classes; done = g.done; operands = one_list IsOperandOf one_operand f.operands w.operands os g.operands o },
-     (p.code, subst (λ ts. IsPendentLine ts w p.code) t p.line))
+    let t : p.tokens ≡ tokens = same_tokens text p.tokens tokens p.read r in (
+      record { classes = g.classes; done = g.done; operands = one_list IsOperandOf one_operand f.operands w.operands os g.operands o },
+      (p.code, subst (λ ts. IsPendentLine ts w p.code) t p.line),
+    )
 
 -- ---- statements
 

@@ -16,4 +16,5 @@ no_function before f d g other w n =
     other (
       subst (λ (x : Definition). IsBehind before x.header.name) e n.behind,
       subst (λ x. AreLines x f.stop) e (subst (AreLines w.definition) (sym n.field.stops) n.watched.stops),
-      subst (λ x. AreLines x f.trace) e (subst (AreLines w.definition) (sym n.field.traces) n.watched.traces))
+      subst (λ x. AreLines x f.trace) e (subst (AreLines w.definition) (sym n.field.traces) n.watched.traces),
+    )

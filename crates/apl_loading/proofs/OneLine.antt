@@ -115,6 +115,7 @@ beneath b ks turned below os r p h =
   where
     tails : (xs ys : List Stacked) → stacked.Value ∷ xs ≡ stacked.Value ∷ ys → xs ≡ ys
     tails xs ys e = cc
+
     back : (xs ys : List Stacked) → stacked.Value ∷ reverse xs ≡ stacked.Value ∷ reverse ys → xs ≡ ys
     back xs ys e = sym (reverse-reverse xs) ∙ ap reverse (tails (reverse xs) (reverse ys) e) ∙ reverse-reverse ys
 

@@ -175,6 +175,7 @@ module _ (awaits : Option Action) (standing : ℕ) (s : Below) (behind : List Co
           other (is_listed f c calls listing (subst (IsContextOf f) e n.field) b.made)
 
   pub taken : MayStand awaits behind c → IsListed f listing → TakesContext s behind f c
-  taken h k =
-      (subst (λ n. n + counted c ≤ 256) (sym below.count) (subst (λ n. standing + n ≤ 256) (sym (same_count f listing c b.field)) l.few),
-       subst (λ g. IsNextContext s behind g c) (relisted_again f listing k) (next h))
+  taken h k = (
+    subst (λ n. n + counted c ≤ 256) (sym below.count) (subst (λ n. standing + n ≤ 256) (sym (same_count f listing c b.field)) l.few),
+    subst (λ g. IsNextContext s behind g c) (relisted_again f listing k) (next h),
+  )

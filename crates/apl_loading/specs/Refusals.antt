@@ -197,6 +197,6 @@ abbrev pub IsRefused : File → LoadFault → Type 0
 IsRefused f e =
     IsRefusedIn TakesFunction RefusesFunction function_after None f.functions e
     ⊎ ((ws : List Watched) × AreFunctions f.functions ws
-        × (IsRefusedIn (TakesVariable (function_names ws)) (RefusesVariable (function_names ws)) variable_after None f.variables e
-        ⊎ ((vs : List (Text × Arr)) × AreVariables (function_names ws) f.variables vs
-            × IsRefusedIn TakesContext RefusesContext context_after nothing_below f.contexts e)))
+    × (IsRefusedIn (TakesVariable (function_names ws)) (RefusesVariable (function_names ws)) variable_after None f.variables e
+    ⊎ ((vs : List (Text × Arr)) × AreVariables (function_names ws) f.variables vs
+    × IsRefusedIn TakesContext RefusesContext context_after nothing_below f.contexts e)))

@@ -5,7 +5,7 @@ use crate::lacks::Lack;
 use crate::parts::write_parts;
 use crate::words::{count, name};
 use crate::writing::{
-    write_class, write_numbers, write_line, write_named, write_operands, write_value,
+    write_class, write_line, write_named, write_numbers, write_operands, write_value,
 };
 use apl_debug::{state_indicator, stops, traces};
 use apl_machine::{Frame, Level, Machine};

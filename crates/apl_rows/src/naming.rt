@@ -8,7 +8,7 @@
 use crate::functions::definition_of;
 use crate::lacks::Lack;
 use crate::words::{count, counts, element, find, name, next_word};
-use crate::writing::{write_class, write_numbers, write_line, write_named, write_value};
+use crate::writing::{write_class, write_line, write_named, write_numbers, write_value};
 use apl_arrays::{Array, Cell};
 use apl_names::{Binding, DefinedFunction, Names};
 use apl_symbols::Name;

@@ -1,7 +1,7 @@
 //! Workspaces taken apart.
 
 use crate::writing::{
-    write_class, write_numbers, write_line, write_named, write_operands, write_text, write_value,
+    write_class, write_line, write_named, write_numbers, write_operands, write_text, write_value,
 };
 use apl_arrays::Array;
 use apl_machine::{CallPart, ContextPart, FunctionPart, Machine, Parts, RestPart, StatementPart};
