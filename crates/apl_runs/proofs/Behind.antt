@@ -36,7 +36,7 @@ use Rattle.apl_resume.specs.Cut.{after_stop, cut_steps, resume_line, resumed}
 use Rattle.apl_resume.proofs.Stops.{applied-stops}
 use Rattle.apl_runs.specs.Ways.{IsInOrder}
 use Rattle.apl_runs.specs.Output.{written, silent}
-use Rattle.apl_runs.specs.Sessions.{on_session, plain_line, answered_line, line_events}
+use Rattle.apl_runs.specs.Sessions.{on_session, line_events}
 use Rattle.apl_runs.specs.Manners.{does, way}
 use Rattle.apl_runs.specs.declared.manner.Manner.{Manner}
 use Rattle.apl_runs.specs.declared.manner.Manner.TheVariants.{Plain, Answered}

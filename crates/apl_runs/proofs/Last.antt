@@ -1,6 +1,6 @@
 -- The last line of an input, and its end.
-use Rattle.std.proofs.Common.{◌≡◌, ℕ, ◌==◌, List, [], ◌∷◌, ◌++◌, ap, ◌∙◌, sym, refl, append_assoc, length, subst, Bool, false}
-use Rattle.std.specs.Prelude.{IsTrue, Result, Ok, Err, OnOk}
+use Rattle.std.proofs.Common.{◌≡◌, ℕ, ◌==◌, List, [], ◌∷◌, ◌++◌, sym, refl, length, subst, Bool, false}
+use Rattle.std.specs.Prelude.{IsTrue, Result, Err}
 use Rattle.apl_runs.specs.Transcript.{last_line}
 use Rattle.apl_runs.specs.Ways.{Way, IsInOrder}
 use Rattle.apl_runs.specs.Runs.{Writes}

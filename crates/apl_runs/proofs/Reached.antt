@@ -2,7 +2,7 @@
 use Rattle.std.proofs.Common.{◌≡◌, ◌≢◌, ℕ, ◌+◌, ◌≤◌, ◌<◌, List, [], ◌∷◌, ◌++◌, Bool, true, false, ap, ◌∙◌, sym, refl, append_assoc, append-nil, length, length-append, map, arith, subst}
 use Rattle.std.specs.Prelude.{IsTrue, Result, Ok, Err, OnOk}
 use Rattle.std.specs.List.{AllByRecursion}
-use Rattle.apl_runs.specs.Transcript.{ended, unfinished, complete_lines, last_line, lines_of, without_return, after_lines, transcript_of, after_input, transcript}
+use Rattle.apl_runs.specs.Transcript.{ended, unfinished, complete_lines, last_line, lines_of, without_return, after_lines, transcript_of, transcript}
 use Rattle.apl_devices.specs.Devices.{Extends}
 use Rattle.apl_runs.specs.Ways.{Way, IsInOrder}
 use Rattle.apl_runs.specs.Runs.{IsWithinLimits, HasEnded, IsDue, IsWritten, text_taken, StoppedAt, EndsRun, StopsWriting, Writes, ReadsLine, ReadsEnd, IsPiece, BeginsWithLine, IsLast}

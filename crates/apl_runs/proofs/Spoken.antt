@@ -1,7 +1,7 @@
 -- To whom a line is, and what it says.
-use Rattle.std.proofs.Common.{◌≡◌, ℕ, suc, ◌+◌, ◌-◌, ◌<◌, ◌≤◌, ◌==◌, nat_eq, List, [], ◌∷◌, ◌++◌, Bool, true, false, ◌&&◌, cond, ap, ◌∙◌, sym, refl, length, take, drop, Option, Some, None, arith}
+use Rattle.std.proofs.Common.{◌≡◌, ℕ, suc, ◌+◌, ◌-◌, ◌<◌, ◌≤◌, ◌==◌, nat_eq, List, [], ◌∷◌, ◌++◌, Bool, true, false, ◌&&◌, cond, ap, ◌∙◌, refl, length, take, drop, Option, Some, None, arith}
 use Rattle.std.specs.Cmp.Lexicographic.{pointwise}
-use Rattle.apl_runs.specs.Rounds.{behind, label, Spoken, spoken, spoken_or, spoken_from}
+use Rattle.apl_runs.specs.Rounds.{behind, label, spoken_or, spoken_from}
 
 test-some : (t u : Bool) (x y : Option (List ℕ)) → t && u ≡ true → (u ≡ true → x ≡ y) → cond t x None ≡ y
 test-some true u x y e ih = ih e

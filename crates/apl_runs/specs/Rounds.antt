@@ -25,25 +25,26 @@ behind [] line = Some line
 behind (c ∷ front) [] = None
 behind (c ∷ front) (d ∷ line) = if d == c then behind front line else None
 
--- a number of a session, and what is typed to it
+-- what a line says: the number of a session, and what is typed to it
 pub record Spoken : Type 0 where
   pub number : ℕ
   pub text : List ℕ
 
+-- what it says to session k, if it begins with that one's label, or else to others
 abbrev pub spoken_or : ℕ → Option (List ℕ) → Option Spoken → Option Spoken
 spoken_or k (Some text) others = Some (record { number = k; text = text })
 spoken_or k None others = others
 
--- what a line says to one of n sessions from number k on: it begins with the session's label
+-- what it says to one of n sessions from number k on
 abbrev pub spoken_from : ℕ → ℕ → List ℕ → Option Spoken
 spoken_from k zero line = None
 spoken_from k (suc n) line = spoken_or k (behind (label k) line) (spoken_from (k + 1) n line)
 
--- what a line says to one of so many sessions
+-- what it says to one of so many sessions
 abbrev pub spoken : ℕ → List ℕ → Option Spoken
 spoken count line = spoken_from 0 count line
 
--- what the desk itself answers: a line for no session has none, and one for a session that runs is lost
+-- what the desk itself answers: a line may be for no session, and one for a session that runs is lost
 abbrev pub answer_to : List State → Option Spoken → List ℕ
 answer_to sessions None = codes "NO SESSION\n"
 answer_to sessions (Some s) = if is_idle (session sessions s.number) then [] else label s.number ++ codes "BUSY\n"

@@ -1,7 +1,7 @@
 -- How a run over an input reads its lines, and where it stands when it ends.
 use Rattle.std.specs.Prelude.{◌≡◌, ◌≢◌, ℕ, ◌<◌, ◌≤◌, ◌==◌, Bool, not, true, false, List, [], ◌∷◌, ◌++◌, length, IsTrue, Result, Ok, Err, ⊤}
 use Rattle.std.specs.List.{AllByRecursion, list_all}
-use Rattle.apl_runs.specs.Transcript.{ended, unfinished, complete_lines, lines_of, without_return, after_lines, transcript_of, after_input, transcript}
+use Rattle.apl_runs.specs.Transcript.{ended, unfinished, complete_lines, lines_of, without_return, transcript_of, after_input, transcript}
 use Rattle.apl_runs.specs.Ways.{Way}
 use Rattle.apl_devices.specs.Devices.{Extends}
 use Rattle.apl_runs.specs.declared.runs.RunError.{RunError}

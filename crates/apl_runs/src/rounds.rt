@@ -1,6 +1,5 @@
 // Rounds over the sessions of a desk.
-ghost use Rattle.std.specs.Prelude.{◌≡◌, ◌∷◌, ◌++◌, [], ◌<◌, ◌≤◌, List, length, map, IfOk, OnOk, MatchOption, None, Some, codes, decimal, slice_get};
-ghost use Rattle.apl_machine_state.specs.State.{State};
+ghost use Rattle.std.specs.Prelude.{◌≡◌, ◌++◌, ◌<◌, length, map, IfOk, IfSome, OnOk, MatchOption, None, Some, codes};
 ghost use Rattle.apl_session.specs.Events.{after_event};
 ghost use Rattle.apl_session.specs.Views.{event as event_view};
 ghost use Rattle.apl_runs.specs.Output.{labelled, silent};
@@ -24,7 +23,7 @@ pub struct Board {
 }
 
 impl Model for Board {
-    ghost use Rattle.std.specs.Prelude.{[], length, ◌≤◌};
+    ghost use Rattle.std.specs.Prelude.{length, ◌≤◌};
     ghost use Rattle.apl_runs.specs.Rounds as model;
 
     ghost Value = { model.Board };
@@ -55,7 +54,7 @@ fn text_behind(line: &[u8], number: usize) -> Option<&[u8]>
 /// What a line says to one of so many sessions: a number and the text for it.
 fn spoken(line: &[u8], count: usize) -> Option<(usize, &[u8])>
     ensures said { MatchOption result (model.spoken count line.now ≡ None) (λ said. model.spoken count line.now ≡ Some (record { number = said.0; text = said.1.now })) }
-    ensures within { MatchOption result (0 ≤ count) (λ said. said.0 < count) }
+    ensures within { IfSome result (λ said. said.0 < count) }
 {
     for number in 0..count {
         if let Some(text) = text_behind(line, number) {

@@ -17,7 +17,7 @@ use apl_session::Session;
 use std::alloc::{AllocError, AllocFailed, Global};
 use thiserror::Error;
 
-/// Why a run ended early. The machine is dropped then.
+/// Why a run ended early. The machine or the desk is dropped then.
 #[derive(Clone, Copy, Debug, PartialEq, Eq, Error)]
 pub enum RunError {
     /// The reader failed. All that the complete lines before write is written.

@@ -1,6 +1,5 @@
 pub mod Clear
 pub mod Classes
-pub mod StackKinds
 pub mod Lines
 pub mod Objects
 pub mod Origins

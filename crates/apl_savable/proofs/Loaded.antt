@@ -44,7 +44,7 @@ use Rattle.apl_saved.specs.Rules.{AreContexts, AreRuled, Awaits, Calls, Ends, Fo
 use Rattle.apl_savable.specs.Savable.{AreSavable, HasCalled, HasCalledIn, IsCalledBy, IsNamed, IsOriginBy, IsSavableContext, IsUnderWay, IsUnderWayIn}
 use Rattle.apl_savable.specs.Promises.{LoadedIsSavable}
 use Rattle.apl_savable.proofs.Fits.{code-few, line-fits}
-use Rattle.apl_savable.proofs.StackKinds.{one_code, pendent_kinds}
+use Rattle.apl_saved.proofs.StackKinds.{one_code, pendent_kinds}
 
 -- ---- lines
 

@@ -1,3 +1,4 @@
 pub mod Pairs
+pub mod StackKinds
 pub mod OneWorkspace
 pub mod OneFile

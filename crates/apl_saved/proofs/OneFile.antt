@@ -1,18 +1,14 @@
 -- A workspace has one file of each version.
-use Rattle.std.proofs.Common.{◌≡◌, ℕ, Bool, false, List, [], ◌∷◌, ◌++◌, take, drop, Option, Some, None, Ok, sym, ap, ◌∙◌}
+use Rattle.std.proofs.Common.{◌≡◌, ℕ, false, List, Option, Ok, sym, ap, ◌∙◌}
 use Rattle.apl_charset.specs.Text.{IsLine}
 use Rattle.apl_symbols.specs.declared.class.Class.{Class}
 use Rattle.apl_tokens.specs.declared.token.Token.{Token}
 use Rattle.apl_tokens.specs.Tokens.{tokens_of}
 use Rattle.apl_arrays.specs.Cells.{Arr, Items}
 use Rattle.apl_arrays.specs.Cells as cells
-use Rattle.apl_code.specs.declared.instr.Instr.{Instr}
-use Rattle.apl_code.specs.declared.row.Row.{Row}
 use Rattle.apl_listing.specs.Listing.{listed}
-use Rattle.apl_translate.specs.declared.form.Placed.{Placed}
 use Rattle.apl_translate.specs.Binding.{bound_of}
-use Rattle.apl_translate.specs.Phrase.{assigns, phrase}
-use Rattle.apl_translate.specs.Translation.{Follows, Translates, kinds, reduced}
+use Rattle.apl_translate.specs.Translation.{Translates}
 use Rattle.apl_defn.specs.Definitions.{Text, line_of}
 use Rattle.apl_machine_state.specs.declared.operand.Operand.{Operand}
 use Rattle.apl_machine_state.specs.declared.operand.Operand.TheVariants as operands
@@ -36,7 +32,8 @@ use Rattle.apl_workspace_file.specs.declared.fields.RestField.{RestField}
 use Rattle.apl_workspace_file.specs.declared.fields.OperandField.{OperandField}
 use Rattle.apl_workspace_file.specs.declared.fields.OperandField.TheVariants as stacked
 use Rattle.apl_saved.specs.Spelled.{AreElements, BothOrNeither, IsArrayOf, IsCallOf, IsContextOf, IsFileOf, IsFunctionOf, IsListingOf, IsLocalOf, IsOperandOf, IsRestOf, IsStatementOf, IsVariableOf, Pairwise}
-use Rattle.apl_saved.proofs.Pairs.{both_cons, both_same, both_turned, pairs_same, pairs_turned, turned}
+use Rattle.apl_saved.proofs.StackKinds.{one_code}
+use Rattle.apl_saved.proofs.Pairs.{both_same, both_turned, pairs_same, pairs_turned, turned}
 
 -- two lists of fields of the same items are one, and two fields that may be missing
 fields_same : {A B : Type 0} (R : A → B → Type 0) → ((y : B) (x z : A) → R x y → R z y → x ≡ z) → (xs zs : List A) (ys : List B) → Pairwise R xs ys → Pairwise R zs ys → xs ≡ zs
@@ -72,17 +69,6 @@ operand_one (operands.Slots ss) (stacked.Slots fs) (stacked.Array g) h k = absur
 operand_one (operands.Slots ss) (stacked.Slots fs) (stacked.Slots gs) h k = ap stacked.Slots (fields_same (BothOrNeither IsArrayOf) (field_same IsArrayOf array_one) fs gs ss h k)
 
 -- ---- lines that await an answer
-
--- items have one code
-one_step : (i j : Instr) (is js : List Instr) (assigned : Bool) (items : List Placed) (found : Option (ℕ × Row)) → ((after : Bool) (left : List Placed) → Translates is after left → Translates js after left → is ≡ js)
-    → Follows assigned items i is (Translates is) found → Follows assigned items j js (Translates js) found → i ∷ is ≡ j ∷ js
-one_step i j is js assigned items None others h k = both_cons i j is js (h.0 ∙ sym k.0) (h.1 ∙ sym k.1)
-one_step i j is js assigned items (Some p) others h k = both_cons i j is js (h.0 ∙ sym k.0) (others (assigns p.1) (take p.0 items ++ reduced p.1 (drop p.0 items)) h.1 k.1)
-
-one_code : (code kin : List Instr) (assigned : Bool) (items : List Placed) → Translates code assigned items → Translates kin assigned items → code ≡ kin
-one_code [] kin assigned items h k = absurd h
-one_code (i ∷ is) [] assigned items h k = absurd k
-one_code (i ∷ is) (j ∷ js) assigned items h k = one_step i j is js assigned items (phrase None (kinds items)) (one_code is js) h k
 
 one_reading : (text : Text) (ts us : List Token) → tokens_of text ≡ Ok ts → tokens_of text ≡ Ok us → ts ≡ us
 one_reading text ts us h k = let both = sym h ∙ k in cc

@@ -1,10 +1,9 @@
-use Rattle.std.proofs.Common.{◌≡◌, ◌∙◌, ℕ, ◌+◌, ◌<◌, ◌≤◌, length, get_or, ap, sym, rules, arith}
+use Rattle.std.proofs.Common.{◌∙◌, ◌<◌, length, get_or, arith}
 use Rattle.std.proofs.lemmas.Result.{err_from_is_err_and}
 use Rattle.apl_machine_state.specs.State.{State}
 use Rattle.apl_session.specs.Events.{after_event}
 use Rattle.apl_session.specs.Views.{event as event_view}
-use Rattle.apl_runs.specs.Output.{silent}
-use Rattle.apl_runs.proofs.Served.{served, served-more, served-all, next-session, wrote-session, extends-session}
+use Rattle.apl_runs.proofs.Served.{served-more, served-all, next-session, wrote-session, extends-session}
 use Rattle.apl_runs.proofs.rounds.serve_all.Goals as goal
 
 pub returns-in_err-serve-clause-wrote : goal.returns-in_err-serve-clause-wrote

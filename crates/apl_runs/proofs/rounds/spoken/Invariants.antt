@@ -1,4 +1,4 @@
-use Rattle.std.proofs.Common.{◌≡◌, ◌-◌, length}
+use Rattle.std.proofs.Common.{◌≡◌, ◌-◌}
 use Rattle.apl_runs.specs.Rounds.{spoken, spoken_from}
 use Rattle.apl_runs.proofs.rounds.spoken.Given as goal
 

@@ -1,0 +1,14 @@
+pub mod OneArray
+pub mod Lists
+pub mod OneDefinition
+pub mod Letters
+pub mod Taken
+pub mod OneFunction
+pub mod OneVariable
+pub mod OneLine
+pub mod OneCall
+pub mod OneContext
+pub mod OneStep
+pub mod Ruled
+pub mod WholeParts
+pub mod Unrefused

@@ -1,0 +1,5 @@
+pub mod Numbers
+pub mod Small
+pub mod Refusals
+pub mod Made
+pub mod Held

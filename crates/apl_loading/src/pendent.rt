@@ -1,0 +1,155 @@
+//! Lines that await an answer.
+ghost use Rattle.std.specs.Prelude.{◌≡◌, ◌≢◌, ◌-◌, ◌≤◌, length, List, ℕ, IfOk, IfErr, Option, Some, slice_get};
+ghost use Rattle.apl_code.specs.declared.instr.Instr.{Instr as AnInstr};
+ghost use Rattle.apl_saved.specs.Rules.{IsPendentLine};
+ghost use Rattle.apl_translate.specs.Binding.{names_of};
+ghost use Rattle.apl_defn.specs.Definitions.{Text as Line};
+ghost use Rattle.apl_parts.specs.Pieces.{Waiting};
+ghost use Rattle.apl_loading.specs.Made.{Agrees, AreOfText, IsMade, IsMadeOf, IsRestBy, IsRestMade, IsStatementBy, IsStatementLine, IsWaitingBy};
+ghost use Rattle.apl_loading.specs.Numbers.{Refuses};
+ghost use Rattle.apl_loading.specs.declared.error.LoadFault.TheVariants as fault;
+
+use crate::error::LoadFault;
+use crate::lines::{StatementLine, code_of, read_classes, read_statement_line};
+use crate::stack::has_stack;
+use apl_code::{Action, Code};
+use apl_listing::listing;
+use apl_machine_state::Operand;
+use apl_parts::{RestPart, StatementPart};
+use apl_symbols::Class;
+use apl_tokens::Token;
+use apl_workspace_file::{RestField, StatementField};
+use std::alloc::Global;
+
+/// A line that awaits an answer, what the last of its instructions that are done does, and its listing.
+#[derive(Drop)]
+pub(crate) struct PendentLine {
+    pub(crate) rest: RestPart,
+    pub(crate) action: Action,
+    pub(crate) listing: Vec<u8>,
+}
+
+/// What the last of so many instructions does.
+fn last_action(code: &Code, done: usize) -> Action
+    requires begun { 1 ≤ done }
+    requires runs { done ≤ length code.now }
+    ensures { (last : AnInstr) × (slice_get code.now (done - 1) ≡ Some last) × (last.action ≡ result) }
+{
+    let Some(instr) = code.instr(done - 1) else {
+        unreachable!()
+    };
+    instr.action
+}
+
+/// The line of these tokens under these classes, where so many of its instructions are done and leave
+/// these operands.
+fn bound_rest(
+    alloc: Global,
+    tokens: &[Token],
+    classes: Vec<Class>,
+    done: usize,
+    operands: Vec<Operand>,
+) -> Result<PendentLine, LoadFault>
+    requires text { AreOfText tokens.now }
+    requires classes { length classes.items ≡ length (names_of tokens.now) }
+    ensures rest { IfOk result (λ l. l.rest ≡ record { classes = classes.items; done = done; operands = operands.items }) }
+    ensures made { IfOk result (λ l. IsMade tokens.now l.rest l.action l.listing.items) }
+    ensures refused { IfErr result (λ e. e ≢ fault.Memory → (e ≡ fault.Context) × ((code : List AnInstr) → ¬ IsPendentLine tokens.now (record { classes = classes.items; done = done; operands = operands.items }) code)) }
+{
+    let code = code_of(alloc, tokens, classes.as_slice())?;
+    if !has_stack(alloc, &code, done, operands.as_slice())? {
+        return Err(LoadFault::Context);
+    }
+    let action = last_action(&code, done);
+    let listing = listing(alloc, &code)?;
+    Ok(PendentLine {
+        rest: RestPart::new(classes, done, operands),
+        action,
+        listing,
+    })
+}
+
+/// The line of these tokens, a text's, as a field says that it awaits an answer, but for the listing.
+pub(crate) fn read_rest(
+    alloc: Global,
+    tokens: &[Token],
+    field: &RestField,
+    operands: Vec<Operand>,
+) -> Result<PendentLine, LoadFault>
+    requires { AreOfText tokens.now }
+    ensures rest { IfOk result (λ l. Agrees field.now operands.items l.rest) }
+    ensures made { IfOk result (λ l. IsMade tokens.now l.rest l.action l.listing.items) }
+    ensures refused { IfErr result (Refuses fault.Context (λ w. IsWaitingBy tokens.now field.now operands.items w)) }
+{
+    let classes = read_classes(alloc, tokens, &field.classes)?;
+    bound_rest(alloc, tokens, classes, field.done, operands)
+}
+
+/// A statement, or a text that is executed, that awaits an answer, what the last of its instructions
+/// that are done does, and its listing.
+#[derive(Drop)]
+pub(crate) struct PendentStatement {
+    pub(crate) part: StatementPart,
+    pub(crate) action: Action,
+    pub(crate) listing: Vec<u8>,
+}
+
+/// The statement, or the text that is executed, that a field is, but for the listing.
+pub(crate) fn read_statement(
+    alloc: Global,
+    field: &StatementField,
+    operands: Vec<Operand>,
+) -> Result<PendentStatement, LoadFault>
+    ensures found { IfOk result (λ s. IsStatementBy field.now operands.items s.part.text s.part.rest) }
+    ensures made { IfOk result (λ s. IsMadeOf s.part.text s.part.rest s.action s.listing.items) }
+    ensures refused { IfErr result (λ e. e ≢ fault.Memory → (e ≡ fault.Context) × ((text : Line) (w : Waiting) → ¬ IsStatementBy field.now operands.items text w)) }
+{
+    let StatementLine { text, tokens } = read_statement_line(alloc, &field.line)?;
+    let line = read_rest(alloc, tokens.as_slice(), &field.rest, operands)?;
+    Ok(PendentStatement {
+        part: StatementPart {
+            text,
+            rest: line.rest,
+        },
+        action: line.action,
+        listing: line.listing,
+    })
+}
+
+/// The line of a call, which may await an answer.
+#[derive(Drop)]
+pub(crate) struct CallLine {
+    pub(crate) rest: Option<RestPart>,
+    pub(crate) awaits: Option<Action>,
+    pub(crate) listing: Vec<u8>,
+}
+
+/// The line of these tokens, a text's, as a field says that it awaits an answer, if it does, but for
+/// the listing.
+pub(crate) fn read_call_line(
+    alloc: Global,
+    tokens: &[Token],
+    field: &Option<RestField>,
+    operands: Vec<Operand>,
+) -> Result<CallLine, LoadFault>
+    requires { AreOfText tokens.now }
+    ensures rest { IfOk result (λ l. IsRestBy tokens.now field.now operands.items l.rest) }
+    ensures made { IfOk result (λ l. IsRestMade tokens.now l.rest l.awaits l.listing.items) }
+    ensures refused { IfErr result (Refuses fault.Context (λ rest. IsRestBy tokens.now field.now operands.items rest)) }
+{
+    match field {
+        None => Ok(CallLine {
+            rest: None,
+            awaits: None,
+            listing: Vec::new(alloc),
+        }),
+        Some(field) => {
+            let line = read_rest(alloc, tokens, field, operands)?;
+            Ok(CallLine {
+                rest: Some(line.rest),
+                awaits: Some(line.action),
+                listing: line.listing,
+            })
+        }
+    }
+}
