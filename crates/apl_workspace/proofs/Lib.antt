@@ -1,2 +1,4 @@
 pub mod Fitting
 pub mod Again
+pub mod Idle
+pub mod Refused

@@ -1,2 +1,3 @@
 pub mod Saved
 pub mod Numbers
+pub mod Refusals

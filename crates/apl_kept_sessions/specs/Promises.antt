@@ -1,0 +1,18 @@
+-- What is promised of whole sessions.
+use Rattle.std.specs.Prelude.{◌≡◌, List, [], true, None}
+use Rattle.apl_machine_state.specs.State.{State, clear, is_idle}
+use Rattle.apl_parts.specs.Taken.{parts_of}
+use Rattle.apl_parts.specs.Restored.{state_of}
+use Rattle.apl_saved.specs.Rules.{AreRuled}
+use Rattle.apl_savable.specs.Savable.{IsSavable}
+use Rattle.apl_session.specs.Events.{Event, after}
+
+-- whatever happens to a state that can be saved, the state after it can be saved
+abbrev pub SessionsKeepSavable : Type 0
+SessionsKeepSavable = (s : State) (events : List Event) → IsSavable s → IsSavable (after s events)
+
+-- Whatever happens to a clear workspace: where nothing runs then, its parts keep to the rules of a file, and what is loaded of them is that state,
+-- without its open definition, all its output taken.
+abbrev pub SessionsAreTheSame : Type 0
+SessionsAreTheSame = (events : List Event) → is_idle (after clear events) ≡ true
+    → AreRuled (parts_of (after clear events)) × (state_of (parts_of (after clear events)) ≡ record (after clear events) { definition = None; output = [] })

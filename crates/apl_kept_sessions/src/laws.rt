@@ -1,0 +1,16 @@
+//! Laws of sessions.
+ghost use Rattle.apl_kept_sessions.specs.Promises.{SessionsAreTheSame, SessionsKeepSavable};
+
+/// The law that events make a state that can be saved of such a state: lines that are typed, commands
+/// and definitions among them, steps and interrupts.
+pub fn sessions_keep_savable()
+    ensures { SessionsKeepSavable }
+{
+    // Nothing is done: the law is of the definitions.
+}
+
+/// The law that a new machine comes by events to states alone that are the same when they are saved
+/// and loaded again, and whose parts keep to the rules of a workspace file.
+pub fn sessions_are_the_same()
+    ensures { SessionsAreTheSame }
+{}
