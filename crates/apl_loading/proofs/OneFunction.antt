@@ -1,5 +1,5 @@
 -- Functions of a file.
-use Rattle.std.proofs.Common.{◌≡◌, List, Option, sym, subst}
+use Rattle.std.proofs.Common.{◌≡◌, Option, sym, subst}
 use Rattle.apl_defn.specs.Definitions.{Text, Definition}
 use Rattle.apl_defn.specs.Defining.{IsDefined}
 use Rattle.apl_order.specs.Kept.{AreLines}
@@ -16,4 +16,5 @@ no_function before f d g other w n =
     other (
       subst (λ (x : Definition). IsBehind before x.header.name) e n.behind,
       subst (λ x. AreLines x f.stop) e (subst (AreLines w.definition) (sym n.field.stops) n.watched.stops),
-      subst (λ x. AreLines x f.trace) e (subst (AreLines w.definition) (sym n.field.traces) n.watched.traces))
+      subst (λ x. AreLines x f.trace) e (subst (AreLines w.definition) (sym n.field.traces) n.watched.traces),
+    )

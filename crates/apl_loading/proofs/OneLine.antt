@@ -1,5 +1,5 @@
 -- Lines of a file.
-use Rattle.std.proofs.Common.{◌≡◌, ◌≢◌, ◌↔◌, ℕ, suc, ◌+◌, ◌-◌, ◌<◌, ◌≤◌, Bool, true, false, cond, zero-add, List, [], ◌∷◌, ◌++◌, length, map, reverse, take, Option, Some, None, Result, Ok, Err, refl, sym, ap, ◌∙◌, subst, arith}
+use Rattle.std.proofs.Common.{◌≡◌, ◌↔◌, ℕ, ◌+◌, Bool, true, false, cond, List, [], ◌∷◌, ◌++◌, length, map, reverse, Option, Some, None, Result, Ok, refl, sym, ap, ◌∙◌, subst, arith}
 use Rattle.std.specs.Prelude.{IsTrue, is_some}
 use Rattle.std.specs.List.{count_by, flat_map}
 use Rattle.std.proofs.lemmas.List.{reverse-append, reverse-reverse}
@@ -115,6 +115,7 @@ beneath b ks turned below os r p h =
   where
     tails : (xs ys : List Stacked) → stacked.Value ∷ xs ≡ stacked.Value ∷ ys → xs ≡ ys
     tails xs ys e = cc
+
     back : (xs ys : List Stacked) → stacked.Value ∷ reverse xs ≡ stacked.Value ∷ reverse ys → xs ≡ ys
     back xs ys e = sym (reverse-reverse xs) ∙ ap reverse (tails (reverse xs) (reverse ys) e) ∙ reverse-reverse ys
 

@@ -1,5 +1,5 @@
 -- Variables of a file.
-use Rattle.std.proofs.Common.{◌≡◌, ◌↔◌, ◌⊎◌, inl, inr, ℕ, ◌+◌, ◌<◌, List, [], ◌∷◌, length, drop, get_or, map, Option, Contains, sym, ap, ◌∙◌, subst}
+use Rattle.std.proofs.Common.{◌≡◌, ◌↔◌, ◌⊎◌, inl, inr, ℕ, ◌+◌, ◌<◌, List, ◌∷◌, length, drop, get_or, Option, Contains, sym, ap, subst}
 use Rattle.apl_arrays.specs.Cells.{Arr}
 use Rattle.apl_charset.specs.Text.{IsLine}
 use Rattle.apl_charset.proofs.Unique.{one_text}
@@ -19,9 +19,10 @@ no_variable functions before f name l other v n =
 -- a function of another name is passed over
 pub other_function : (fs : List Watched) (i : ℕ) (f : Watched) (name : Text) (X : Type 0) → i < length fs → f ≡ get_or fs i f → ¬ (f.definition.header.name ≡ name) → (Contains (function_names (drop i fs)) name ↔ X) → Contains (function_names (drop (i + 1) fs)) name ↔ X
 other_function fs i f name X lt e other h =
-    let s : function_names (drop i fs) ≡ f.definition.header.name ∷ function_names (drop (i + 1) fs) = ap function_names (next_at fs i f lt e) in
-    (λ c. h.0 (subst (λ ns. Contains ns name) (sym s) (contains_later f.definition.header.name name (function_names (drop (i + 1) fs)) c)),
-     λ x. past (contains_now f.definition.header.name name (function_names (drop (i + 1) fs)) (subst (λ ns. Contains ns name) s (h.1 x))))
+    let s : function_names (drop i fs) ≡ f.definition.header.name ∷ function_names (drop (i + 1) fs) = ap function_names (next_at fs i f lt e) in (
+      λ c. h.0 (subst (λ ns. Contains ns name) (sym s) (contains_later f.definition.header.name name (function_names (drop (i + 1) fs)) c)),
+      λ x. past (contains_now f.definition.header.name name (function_names (drop (i + 1) fs)) (subst (λ ns. Contains ns name) s (h.1 x))),
+    )
   where
     past : (f.definition.header.name ≡ name) ⊎ Contains (function_names (drop (i + 1) fs)) name → Contains (function_names (drop (i + 1) fs)) name
     past (inl k) = absurd (other k)

@@ -1,5 +1,5 @@
 -- The instructions of a line leave on the operand stack what its forms want.
-use Rattle.std.proofs.Common.{◌≡◌, ℕ, zero, suc, ◌+◌, ◌<◌, Bool, true, false, cond, zero-add, List, [], ◌∷◌, ◌++◌, length, take, drop, map, reverse, Option, Some, None, refl, sym, ap, ◌∙◌, subst, arith}
+use Rattle.std.proofs.Common.{◌≡◌, ℕ, zero, suc, ◌+◌, ◌<◌, Bool, true, false, cond, zero-add, List, [], ◌∷◌, ◌++◌, length, take, drop, map, reverse, Option, Some, None, refl, sym, ap, ◌∙◌, arith}
 use Rattle.std.specs.List.{count_by, drop-map}
 use Rattle.std.proofs.lemmas.List.Sums.{sum_by-cons}
 use Rattle.std.proofs.Math.Seq.{drop-append_seam}
@@ -17,7 +17,7 @@ use Rattle.apl_translate.specs.declared.form.Form.{Form}
 use Rattle.apl_translate.specs.declared.form.Form.TheVariants as forms
 use Rattle.apl_translate.specs.declared.form.Placed.{Placed}
 use Rattle.apl_translate.specs.Phrase.{Kind, B, K, phrase, width, assigns}
-use Rattle.apl_translate.specs.Translation.{Cell, kind_of, kinds, source, sources, held, slots, arguments, action_of, result_of, reduced, instruction, last_instruction, Follows, Translates}
+use Rattle.apl_translate.specs.Translation.{Cell, kind_of, kinds, source, sources, held, slots, arguments, action_of, result_of, reduced, instruction, Follows, Translates}
 use Rattle.apl_translate.specs.Forms.{wanted, wanted_kinds, IsFresh, forms_after, next_forms}
 use Rattle.apl_translate.proofs.Settled.{IsSettled, settled_first, settled_fresh, settled_next, wanted-append, result_wanted}
 use Rattle.apl_machine_state.specs.declared.operand.Operand.{Operand}

@@ -11,15 +11,11 @@ use Rattle.apl_machine_state.specs.declared.operand.Operand.{Operand}
 use Rattle.apl_parts.specs.declared.parts.ContextPart.{ContextPart}
 use Rattle.apl_parts.specs.Pieces.{Watched}
 use Rattle.apl_parts.specs.Restored.{IsWatched, waiting_in}
-use Rattle.apl_workspace_file.specs.Fitting.{FitsOption}
 use Rattle.apl_workspace_file.specs.declared.fields.File.{File}
 use Rattle.apl_workspace_file.specs.declared.fields.FunctionField.{FunctionField}
 use Rattle.apl_workspace_file.specs.declared.fields.VariableField.{VariableField}
-use Rattle.apl_workspace_file.specs.declared.fields.ArrayField.{ArrayField}
 use Rattle.apl_workspace_file.specs.declared.fields.ContextField.{ContextField}
 use Rattle.apl_workspace_file.specs.declared.fields.ContextField.TheVariants as fields
-use Rattle.apl_workspace_file.specs.declared.fields.StatementField.{StatementField}
-use Rattle.apl_workspace_file.specs.declared.fields.CallField.{CallField}
 use Rattle.apl_workspace_file.specs.declared.fields.LocalField.{LocalField}
 use Rattle.apl_workspace_file.specs.declared.fields.RestField.{RestField}
 use Rattle.apl_workspace_file.specs.declared.fields.OperandField.{OperandField}
@@ -197,6 +193,6 @@ abbrev pub IsRefused : File → LoadFault → Type 0
 IsRefused f e =
     IsRefusedIn TakesFunction RefusesFunction function_after None f.functions e
     ⊎ ((ws : List Watched) × AreFunctions f.functions ws
-        × (IsRefusedIn (TakesVariable (function_names ws)) (RefusesVariable (function_names ws)) variable_after None f.variables e
-        ⊎ ((vs : List (Text × Arr)) × AreVariables (function_names ws) f.variables vs
-            × IsRefusedIn TakesContext RefusesContext context_after nothing_below f.contexts e)))
+    × (IsRefusedIn (TakesVariable (function_names ws)) (RefusesVariable (function_names ws)) variable_after None f.variables e
+    ⊎ ((vs : List (Text × Arr)) × AreVariables (function_names ws) f.variables vs
+    × IsRefusedIn TakesContext RefusesContext context_after nothing_below f.contexts e)))

@@ -69,11 +69,31 @@ fn a_clear_workspace_has_no_parts(rt: HostRuntime) -> Result<(), Fail> {
 fn global_objects_are_refused(rt: HostRuntime) -> Result<(), Fail> {
     let alloc = rt.alloc();
     let rows = [
-        ("{\"header\":\"L \",\"lines\":[],\"stop\":[],\"trace\":[]}", "", LoadFault::Definition),
-        ("{\"header\":\"L\",\"lines\":[],\"stop\":[1],\"trace\":[]}", "", LoadFault::Definition),
-        ("", "{\"name\":\"A\",\"value\":{\"nums\":[1,2],\"shape\":[3]}}", LoadFault::Array),
-        ("", "{\"name\":\"A\",\"value\":{\"nums\":[],\"shape\":[1000001]}}", LoadFault::Limit),
-        (FUNCTION, "{\"name\":\"L\",\"value\":{\"nums\":[],\"shape\":[0]}}", LoadFault::Definition),
+        (
+            "{\"header\":\"L \",\"lines\":[],\"stop\":[],\"trace\":[]}",
+            "",
+            LoadFault::Definition,
+        ),
+        (
+            "{\"header\":\"L\",\"lines\":[],\"stop\":[1],\"trace\":[]}",
+            "",
+            LoadFault::Definition,
+        ),
+        (
+            "",
+            "{\"name\":\"A\",\"value\":{\"nums\":[1,2],\"shape\":[3]}}",
+            LoadFault::Array,
+        ),
+        (
+            "",
+            "{\"name\":\"A\",\"value\":{\"nums\":[],\"shape\":[1000001]}}",
+            LoadFault::Limit,
+        ),
+        (
+            FUNCTION,
+            "{\"name\":\"L\",\"value\":{\"nums\":[],\"shape\":[0]}}",
+            LoadFault::Definition,
+        ),
     ];
     for (functions, variables, fault) in rows {
         let text = file(alloc, functions, variables, &[])?;

@@ -10,8 +10,8 @@ pub returns-in_err-function-clause-refused : goal.returns-in_err-function-clause
 returns-in_err-function-clause-refused c =
     let p = err_from_is_err_and c.from_residual-in_err-function.result c.from_residual-in_err-function.ensures.1 in
     rw (p.1, p.2) (λ m.
-      let r = c.in_err-function.ensures.refused m in
-      not_taken TakesFunction RefusesFunction function_after None c.args.fields.now c.loop-field.before c.loop-field.field-index c.loop-field.functions.items c.field-item.result c.in_err-function.field-0.0 c.loop-field.invariant c.loop-field-test.true c.field-item.is (inl (λ w. r.1 w.0 w.1, r.0)))
+    let r = c.in_err-function.ensures.refused m in
+    not_taken TakesFunction RefusesFunction function_after None c.args.fields.now c.loop-field.before c.loop-field.field-index c.loop-field.functions.items c.field-item.result c.in_err-function.field-0.0 c.loop-field.invariant c.loop-field-test.true c.field-item.is (inl (λ w. r.1 w.0 w.1, r.0)))
 
 pub loop-field-preserved : goal.loop-field-preserved
 loop-field-preserved c =

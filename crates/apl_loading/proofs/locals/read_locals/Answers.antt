@@ -11,5 +11,8 @@ paired-requires c =
     ap length (c.as_slice-2.ensures.value ∙ sym c.as_slice.ensures.value) ∙ sym p ∙ c.requires
 
 pub returns-then-not-are_locals-clause-refused : goal.returns-then-not-are_locals-clause-refused
-returns-then-not-are_locals-clause-refused c m = (refl, no_locals c.args.header.now c.args.fields.now c.args.values.items c.in_ok-locals.locals.items c.as_slice-3.result.now
-    (c.in_ok-locals.ensures.names ∙ c.as_slice-2.ensures.value ∙ c.in_ok-names.ensures) c.in_ok-locals.ensures.values c.as_slice-3.ensures.value (λ h. not_true c.are_locals.result c.if-not-are_locals.true (c.are_locals.ensures.1 h)))
+returns-then-not-are_locals-clause-refused c m = (
+  refl,
+  no_locals c.args.header.now c.args.fields.now c.args.values.items c.in_ok-locals.locals.items c.as_slice-3.result.now
+      (c.in_ok-locals.ensures.names ∙ c.as_slice-2.ensures.value ∙ c.in_ok-names.ensures) c.in_ok-locals.ensures.values c.as_slice-3.ensures.value (λ h. not_true c.are_locals.result c.if-not-are_locals.true (c.are_locals.ensures.1 h)),
+)

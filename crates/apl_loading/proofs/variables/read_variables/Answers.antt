@@ -1,4 +1,4 @@
-use Rattle.std.proofs.Common.{◌≡◌, ◌+◌, drop, None, Some, sym, ap, ◌∙◌, subst}
+use Rattle.std.proofs.Common.{◌+◌, drop, None, Some, sym, subst}
 use Rattle.std.proofs.lemmas.Result.{err_from_is_err_and}
 use Rattle.apl_saved.specs.Rules.{function_names}
 use Rattle.apl_loading.specs.Refusals.{TakesVariable, RefusesVariable, variable_after}
@@ -11,7 +11,7 @@ returns-in_err-variable-clause-refused c =
     let p = err_from_is_err_and c.from_residual-in_err-variable.result c.from_residual-in_err-variable.ensures.1 in
     let names = function_names c.args.functions.now in
     rw (p.1, p.2) (λ m.
-      not_taken (TakesVariable names) (RefusesVariable names) variable_after None c.args.fields.now c.loop-field.before c.loop-field.field-index c.loop-field.variables.items c.field-item.result c.in_err-variable.field-0.0 c.loop-field.invariant c.loop-field-test.true c.field-item.is (c.in_err-variable.ensures.refused m))
+    not_taken (TakesVariable names) (RefusesVariable names) variable_after None c.args.fields.now c.loop-field.before c.loop-field.field-index c.loop-field.variables.items c.field-item.result c.in_err-variable.field-0.0 c.loop-field.invariant c.loop-field-test.true c.field-item.is (c.in_err-variable.ensures.refused m))
 
 pub loop-field-preserved : goal.loop-field-preserved
 loop-field-preserved c =
