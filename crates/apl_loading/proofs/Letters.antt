@@ -1,5 +1,5 @@
 -- The classes of characters.
-use Rattle.std.proofs.Common.{◌≡◌, ◌↔◌, ℕ, ◌<◌, Bool, true, false, Option, Some, None, List, [], ◌∷◌, length, refl, ap, ◌∙◌, sym, subst, arith}
+use Rattle.std.proofs.Common.{◌≡◌, ◌↔◌, ℕ, ◌<◌, Bool, true, false, Option, Some, None, List, [], ◌∷◌, length, refl, ◌∙◌, sym, subst, arith}
 use Rattle.std.specs.Prelude.{IsTrue}
 use Rattle.apl_charset.specs.Text.{IsLine}
 use Rattle.apl_charset.proofs.Unique.{one_text}

@@ -1,6 +1,5 @@
 -- Arrays of a file.
-use Rattle.std.proofs.Common.{◌≡◌, ◌≢◌, ℕ, ℤ, List, Option, Some, None, map, length, refl, sym, ap, ◌∙◌, subst}
-use Rattle.apl_charset.specs.Text.{IsLine}
+use Rattle.std.proofs.Common.{◌≡◌, ◌≢◌, ℕ, List, Option, Some, None, length, refl, sym, ap, ◌∙◌, subst}
 use Rattle.apl_charset.proofs.Unique.{one_text}
 use Rattle.apl_arrays.specs.Cells.{Arr, Items, IsArray, cells_of}
 use Rattle.apl_arrays.specs.Cells as cells

@@ -1,11 +1,8 @@
 -- Contexts of a file.
-use Rattle.std.proofs.Common.{◌≡◌, ◌≢◌, ◌↔◌, ◌⊎◌, inl, inr, ℕ, zero, suc, ◌+◌, ◌-◌, ◌<◌, ◌≤◌, Bool, true, false, All, List, [], ◌∷◌, length, map, Option, Some, None, Ok, slice_index_or, refl, sym, ap, ◌∙◌, subst, arith}
-use Rattle.std.specs.Prelude.{IsTrue}
+use Rattle.std.proofs.Common.{◌≡◌, inl, inr, ℕ, zero, suc, true, All, List, [], ◌∷◌, map, Option, Some, None, Ok, refl, sym, ap, ◌∙◌, subst, arith}
 use Rattle.std.specs.List.{AllByRecursion}
 use Rattle.apl_arrays.specs.Cells.{Arr}
-use Rattle.apl_charset.specs.Text.{IsLine}
 use Rattle.apl_charset.proofs.Unique.{one_text}
-use Rattle.apl_symbols.specs.declared.class.Class.{Class}
 use Rattle.apl_tokens.specs.declared.token.Token.{Token}
 use Rattle.apl_tokens.specs.Tokens.{tokens_of}
 use Rattle.apl_defn.specs.Definitions.{Text, Definition, Header, line_of, is_line}
@@ -17,14 +14,13 @@ use Rattle.apl_parts.specs.declared.parts.ContextPart.{ContextPart}
 use Rattle.apl_parts.specs.declared.parts.ContextPart.TheVariants as parts
 use Rattle.apl_parts.specs.declared.parts.StatementPart.{StatementPart}
 use Rattle.apl_parts.specs.Pieces.{Waiting, Standing}
-use Rattle.apl_parts.specs.Restored.{waiting_in}
 use Rattle.apl_workspace_file.specs.declared.fields.ContextField.{ContextField}
 use Rattle.apl_workspace_file.specs.declared.fields.ContextField.TheVariants as fields
 use Rattle.apl_workspace_file.specs.declared.fields.CallField.{CallField}
 use Rattle.apl_workspace_file.specs.declared.fields.LocalField.{LocalField}
 use Rattle.apl_workspace_file.specs.declared.fields.StatementField.{StatementField}
 use Rattle.apl_workspace_file.specs.declared.fields.RestField.{RestField}
-use Rattle.apl_saved.specs.Spelled.{BothOrNeither, IsArrayOf, IsCallOf, IsContextOf, IsDefinitionOf, IsLocalOf, IsOperandOf, IsRestOf, IsStatementOf, Pairwise}
+use Rattle.apl_saved.specs.Spelled.{BothOrNeither, IsCallOf, IsContextOf, IsDefinitionOf, IsLocalOf, IsOperandOf, IsRestOf, IsStatementOf, Pairwise}
 use Rattle.apl_saved.specs.Rules.{HasNoLabel, IsCall, IsContext, IsLocal, IsPendent, IsPendentIn, IsPendentLine}
 use Rattle.apl_loading.specs.declared.error.LoadFault.{LoadFault}
 use Rattle.apl_loading.specs.declared.error.LoadFault.TheVariants as fault

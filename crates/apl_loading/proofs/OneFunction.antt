@@ -1,5 +1,5 @@
 -- Functions of a file.
-use Rattle.std.proofs.Common.{◌≡◌, List, Option, sym, subst}
+use Rattle.std.proofs.Common.{◌≡◌, Option, sym, subst}
 use Rattle.apl_defn.specs.Definitions.{Text, Definition}
 use Rattle.apl_defn.specs.Defining.{IsDefined}
 use Rattle.apl_order.specs.Kept.{AreLines}

@@ -1,5 +1,5 @@
 -- One context above those that stand.
-use Rattle.std.proofs.Common.{◌≡◌, ◌≢◌, ◌↔◌, ◌⊎◌, inl, inr, ℕ, ◌+◌, ◌-◌, ◌≤◌, false, List, [], ◌∷◌, Option, Some, None, Ok, refl, sym, ap, ◌∙◌, subst}
+use Rattle.std.proofs.Common.{◌≡◌, inl, inr, ℕ, ◌+◌, ◌-◌, ◌≤◌, false, List, [], Option, Some, None, refl, sym, ap, ◌∙◌, subst}
 use Rattle.std.specs.Prelude.{slice_get}
 use Rattle.apl_arrays.specs.Cells.{Arr}
 use Rattle.apl_code.specs.declared.instr.Action.{Action}
@@ -7,8 +7,6 @@ use Rattle.apl_code.specs.declared.instr.Instr.{Instr}
 use Rattle.apl_defn.specs.Definitions.{Text}
 use Rattle.apl_listing.specs.Listing.{listed}
 use Rattle.apl_machine_state.specs.declared.operand.Operand.{Operand}
-use Rattle.apl_tokens.specs.declared.token.Token.{Token}
-use Rattle.apl_tokens.specs.Tokens.{tokens_of}
 use Rattle.apl_translate.specs.Binding.{bound_of}
 use Rattle.apl_translate.specs.Translation.{Translates}
 use Rattle.apl_parts.specs.declared.parts.ContextPart.{ContextPart}
@@ -18,8 +16,8 @@ use Rattle.apl_parts.specs.Restored.{waiting_in}
 use Rattle.apl_workspace_file.specs.declared.fields.ContextField.{ContextField}
 use Rattle.apl_workspace_file.specs.declared.fields.ContextField.TheVariants as fields
 use Rattle.apl_workspace_file.specs.declared.fields.RestField.{RestField}
-use Rattle.apl_saved.specs.Spelled.{BothOrNeither, IsContextOf, IsListingOf, IsRestOf}
-use Rattle.apl_saved.specs.Rules.{Awaits, Calls, Follows, IsContext, StandsOn, counted, text_of}
+use Rattle.apl_saved.specs.Spelled.{BothOrNeither, IsContextOf, IsRestOf}
+use Rattle.apl_saved.specs.Rules.{Calls, Follows, IsContext, StandsOn, counted, text_of}
 use Rattle.apl_loading.specs.declared.error.LoadFault.{LoadFault}
 use Rattle.apl_loading.specs.declared.error.LoadFault.TheVariants as fault
 use Rattle.apl_loading.specs.Refusals.{AreSmall, AreValues, Below, HasDefinition, IsNextContext, RefusesContext, TakesContext, counts, relisted, relisted_rest, with_listing}

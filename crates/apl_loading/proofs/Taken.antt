@@ -1,5 +1,5 @@
 -- Lists whose fields are taken from the left.
-use Rattle.std.proofs.Common.{◌≡◌, ◌⊎◌, inl, inr, ℕ, ◌+◌, ◌<◌, List, [], ◌∷◌, ◌++◌, length, drop, get_or, sym, ap, ◌∙◌, subst, append_assoc}
+use Rattle.std.proofs.Common.{◌≡◌, inl, inr, ℕ, ◌+◌, ◌<◌, List, [], ◌∷◌, ◌++◌, length, drop, get_or, sym, subst, append_assoc}
 use Rattle.apl_loading.specs.Refusals.{AreTaken, IsRefusedIn}
 use Rattle.apl_loading.specs.declared.error.LoadFault.{LoadFault}
 use Rattle.apl_loading.proofs.Lists.{next_at, append_nil}

@@ -1,11 +1,10 @@
 -- A file that holds parts that keep to the rules is not refused, and holds no others.
-use Rattle.std.proofs.Common.{◌≡◌, ◌≢◌, ◌⊎◌, inl, inr, ℕ, zero, suc, ◌+◌, ◌<◌, ◌≤◌, List, [], ◌∷◌, length, map, All, Contains, Option, Some, None, Result, Ok, Err, IfOk, IfErr, MatchResult, refl, sym, ap, ◌∙◌, subst, arith}
+use Rattle.std.proofs.Common.{◌≡◌, ◌≢◌, ◌⊎◌, inl, inr, ℕ, ◌+◌, ◌≤◌, List, [], ◌∷◌, length, map, Contains, Option, Some, None, Result, Ok, Err, IfOk, IfErr, MatchResult, refl, sym, ap, ◌∙◌, subst}
 use Rattle.std.specs.List.{AllByRecursion}
 use Rattle.apl_arrays.specs.Cells.{Arr}
 use Rattle.apl_arrays.specs.Index.{bound_of}
 use Rattle.apl_charset.proofs.Unique.{one_text}
-use Rattle.apl_defn.specs.Definitions.{Text, Definition}
-use Rattle.apl_defn.specs.Defining.{IsDefined}
+use Rattle.apl_defn.specs.Definitions.{Text}
 use Rattle.apl_machine_state.specs.declared.operand.Operand.{Operand}
 use Rattle.apl_machine_state.specs.declared.operand.Operand.TheVariants as operands
 use Rattle.apl_tokens.specs.Spelling.{IsName}
@@ -24,14 +23,13 @@ use Rattle.apl_workspace_file.specs.declared.fields.LocalField.{LocalField}
 use Rattle.apl_workspace_file.specs.declared.fields.OperandField.{OperandField}
 use Rattle.apl_workspace_file.specs.declared.fields.OperandField.TheVariants as operand_fields
 use Rattle.apl_workspace_file.specs.declared.fields.RestField.{RestField}
-use Rattle.apl_saved.specs.Spelled.{BothOrNeither, IsArrayOf, IsContextOf, IsFileOf, IsFunctionOf, IsLocalOf, IsOperandOf, IsRestOf, IsVariableOf, Pairwise}
-use Rattle.apl_saved.specs.Rules.{AreContexts, AreRuled, Ascend, Ends, Follows, IsContext, counted, function_names, variable_names}
+use Rattle.apl_saved.specs.Spelled.{BothOrNeither, IsArrayOf, IsContextOf, IsFileOf, IsFunctionOf, IsOperandOf, IsRestOf, IsVariableOf, Pairwise}
+use Rattle.apl_saved.specs.Rules.{AreContexts, AreRuled, Ascend, IsContext, counted, function_names, variable_names}
 use Rattle.apl_loading.specs.declared.error.LoadFault.{LoadFault}
 use Rattle.apl_loading.specs.declared.error.LoadFault.TheVariants as fault
 use Rattle.apl_loading.specs.Held.{AreHeld}
 use Rattle.apl_loading.specs.Small.{IsSmall, IsSmallOption, IsSmallOperand}
-use Rattle.apl_loading.specs.Refusals.{AreFunctions, AreSmall, AreTaken, AreValues, AreVariables, Below, HasDefinition, IsBehind, IsNextContext, IsNextFunction, IsNextVariable, IsRefused, IsRefusedIn, IsSmallLocal, IsValueOf, RefusesContext, RefusesFunction, RefusesVariable, TakesContext, TakesFunction, TakesVariable, context_after, counts, function_after, locals_in, nothing_below, operands_in, operands_of, relisted, variable_after}
-use Rattle.apl_loading.proofs.Lists.{one_list}
+use Rattle.apl_loading.specs.Refusals.{AreFunctions, AreSmall, AreTaken, AreValues, AreVariables, Below, HasDefinition, IsBehind, IsNextContext, IsRefused, IsRefusedIn, IsSmallLocal, IsValueOf, RefusesContext, RefusesFunction, RefusesVariable, TakesContext, TakesFunction, TakesVariable, context_after, counts, function_after, locals_in, nothing_below, operands_in, operands_of, relisted, variable_after}
 use Rattle.apl_loading.proofs.OneArray.{one_array}
 use Rattle.apl_loading.proofs.OneContext.{by_all, same_context, valued_locals}
 use Rattle.apl_loading.proofs.OneDefinition.{one_definition}

@@ -1,15 +1,12 @@
 -- Parts that keep to the rules are whole.
-use Rattle.std.proofs.Common.{◌≡◌, ℕ, zero, suc, ◌+◌, ◌-◌, ◌<◌, ◌≤◌, false, List, [], ◌∷◌, ◌++◌, length, map, reverse, All, Option, Some, None, Ok, slice_index_or, refl, sym, ap, ◌∙◌, subst, arith, append_assoc}
+use Rattle.std.proofs.Common.{◌≡◌, ℕ, ◌+◌, ◌<◌, ◌≤◌, false, List, [], ◌∷◌, ◌++◌, length, reverse, Option, Some, None, refl, sym, ap, ◌∙◌, subst, arith, append_assoc}
 use Rattle.std.specs.List.{AllByRecursion}
 use Rattle.std.proofs.lemmas.List.{reverse-append}
 use Rattle.apl_symbols.specs.declared.primitive.Primitive.TheVariants as primitives
-use Rattle.apl_tokens.proofs.Answered.{spelled_answer, answer_spells}
-use Rattle.apl_defn.specs.Definitions.{Text, Definition, line_of}
-use Rattle.apl_defn.specs.Defining.{IsDefined}
+use Rattle.apl_defn.specs.Definitions.{Text, line_of}
 use Rattle.apl_defn.proofs.Defined as defined
 use Rattle.apl_code.specs.declared.instr.Action.{Action}
 use Rattle.apl_code.specs.declared.instr.Action.TheVariants.{Phrase}
-use Rattle.apl_code.specs.declared.instr.Instr.{Instr}
 use Rattle.apl_code.specs.declared.row.Row.TheVariants.{Call, Monadic, Dyadic}
 use Rattle.apl_code.specs.declared.row.Function.TheVariants as functions
 use Rattle.apl_code.specs.declared.row.Variable.TheVariants as variables
@@ -19,7 +16,7 @@ use Rattle.apl_translate.specs.Binding.{bound_of, without_label, nothing_left}
 use Rattle.apl_translate.specs.Forms.{IsFresh}
 use Rattle.apl_translate.proofs.Bindings.{items_fresh}
 use Rattle.apl_order.specs.Kept.{Ascend, AreAtMost}
-use Rattle.apl_contexts.specs.Contexts.{Place, Newest, Beneath, Idle}
+use Rattle.apl_contexts.specs.Contexts.{Newest, Beneath, Idle}
 use Rattle.apl_parts.specs.declared.parts.ContextPart.{ContextPart}
 use Rattle.apl_parts.specs.declared.parts.ContextPart.TheVariants as parts
 use Rattle.apl_parts.specs.declared.parts.StatementPart.{StatementPart}

@@ -1,12 +1,12 @@
 -- For private clauses: what is made of a context, beside its part.
-use Rattle.std.specs.Prelude.{◌≡◌, ℕ, ◌-◌, ◌<◌, ◌≤◌, Bool, true, false, List, [], ◌∷◌, length, map, reverse, take, Option, Some, None, Ok, slice_get}
+use Rattle.std.specs.Prelude.{◌≡◌, ℕ, ◌-◌, ◌<◌, ◌≤◌, Bool, true, List, [], ◌∷◌, length, map, reverse, take, Option, Some, None, Ok, slice_get}
 use Rattle.std.specs.List.{AllByRecursion}
 use Rattle.apl_arrays.specs.Cells.{Arr}
 use Rattle.apl_charset.specs.Text.{IsLine}
 use Rattle.apl_tokens.specs.declared.token.Token.{Token}
 use Rattle.apl_tokens.specs.Tokens.{tokens_of}
 use Rattle.apl_defn.specs.Definitions.{Text, Definition, Header, is_line, line_of}
-use Rattle.apl_defn.specs.Defining.{IsDefined, label_in}
+use Rattle.apl_defn.specs.Defining.{label_in}
 use Rattle.apl_code.specs.declared.instr.Instr.{Instr}
 use Rattle.apl_code.specs.declared.instr.Action.{Action}
 use Rattle.apl_listing.specs.Kinds.{kinds}
@@ -14,8 +14,7 @@ use Rattle.apl_listing.specs.Listing.{listed}
 use Rattle.apl_listing.specs.declared.stack.Kind.TheVariants as kind
 use Rattle.apl_machine_state.specs.declared.operand.Operand.{Operand}
 use Rattle.apl_symbols.specs.declared.class.Class.{Class}
-use Rattle.apl_translate.specs.Binding.{bound_of, is_name, names_of}
-use Rattle.apl_translate.specs.Translation.{Translates}
+use Rattle.apl_translate.specs.Binding.{is_name, names_of}
 use Rattle.apl_parts.specs.declared.parts.ContextPart.{ContextPart}
 use Rattle.apl_order.specs.Kept.{names_in}
 use Rattle.apl_parts.specs.Pieces.{Waiting, Standing}

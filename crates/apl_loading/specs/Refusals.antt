@@ -11,15 +11,11 @@ use Rattle.apl_machine_state.specs.declared.operand.Operand.{Operand}
 use Rattle.apl_parts.specs.declared.parts.ContextPart.{ContextPart}
 use Rattle.apl_parts.specs.Pieces.{Watched}
 use Rattle.apl_parts.specs.Restored.{IsWatched, waiting_in}
-use Rattle.apl_workspace_file.specs.Fitting.{FitsOption}
 use Rattle.apl_workspace_file.specs.declared.fields.File.{File}
 use Rattle.apl_workspace_file.specs.declared.fields.FunctionField.{FunctionField}
 use Rattle.apl_workspace_file.specs.declared.fields.VariableField.{VariableField}
-use Rattle.apl_workspace_file.specs.declared.fields.ArrayField.{ArrayField}
 use Rattle.apl_workspace_file.specs.declared.fields.ContextField.{ContextField}
 use Rattle.apl_workspace_file.specs.declared.fields.ContextField.TheVariants as fields
-use Rattle.apl_workspace_file.specs.declared.fields.StatementField.{StatementField}
-use Rattle.apl_workspace_file.specs.declared.fields.CallField.{CallField}
 use Rattle.apl_workspace_file.specs.declared.fields.LocalField.{LocalField}
 use Rattle.apl_workspace_file.specs.declared.fields.RestField.{RestField}
 use Rattle.apl_workspace_file.specs.declared.fields.OperandField.{OperandField}

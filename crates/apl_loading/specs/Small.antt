@@ -1,5 +1,5 @@
 -- Arrays within the limits.
-use Rattle.std.specs.Prelude.{ℕ, ◌≤◌, List, length, Option}
+use Rattle.std.specs.Prelude.{◌≤◌, length, Option}
 use Rattle.std.specs.List.{AllByRecursion}
 use Rattle.apl_arrays.specs.Index.{bound_of}
 use Rattle.apl_workspace_file.specs.Fitting.{FitsOption}

@@ -1,7 +1,6 @@
-use Rattle.std.proofs.Common.{◌≡◌, ◌+◌, drop, Some, refl, sym, ap, ◌∙◌, subst, arith}
+use Rattle.std.proofs.Common.{◌+◌, drop, refl, sym, subst, arith}
 use Rattle.std.proofs.lemmas.Result.{err_from_is_err_and}
-use Rattle.apl_loading.specs.Made.{IsBelow}
-use Rattle.apl_loading.specs.Refusals.{Below, TakesContext, RefusesContext, context_after, nothing_below}
+use Rattle.apl_loading.specs.Refusals.{TakesContext, RefusesContext, context_after, nothing_below}
 use Rattle.apl_loading.proofs.Lists.{drop_past}
 use Rattle.apl_loading.proofs.Taken.{HasTaken, all_taken, more_taken, none_taken, not_taken}
 use Rattle.apl_loading.proofs.contexts.read_contexts.Goals as goal

@@ -1,4 +1,4 @@
-use Rattle.std.proofs.Common.{refl, ap, ◌∙◌, sym, subst}
+use Rattle.std.proofs.Common.{refl, ap, ◌∙◌, sym}
 use Rattle.std.specs.Prelude.{slice_get}
 use Rattle.apl_defn.specs.Defining.{defined_of}
 use Rattle.apl_loading.proofs.OneDefinition.{is_definition, not_headed, not_true}

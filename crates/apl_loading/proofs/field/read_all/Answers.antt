@@ -1,4 +1,4 @@
-use Rattle.std.proofs.Common.{drop, refl, arith}
+use Rattle.std.proofs.Common.{drop}
 use Rattle.std.proofs.lemmas.Result.{err_from_is_err_and}
 use Rattle.apl_loading.proofs.Lists.{all_read, not_read_at, drop_past}
 use Rattle.apl_loading.proofs.field.read_all.Goals as goal

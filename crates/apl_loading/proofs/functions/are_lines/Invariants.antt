@@ -1,4 +1,4 @@
-use Rattle.std.proofs.Common.{◌↔◌, drop, length}
+use Rattle.std.proofs.Common.{◌↔◌, drop}
 use Rattle.apl_order.specs.Kept.{Ascend, AreAtMost, AreLines}
 use Rattle.apl_loading.proofs.functions.are_lines.Given as goal
 

@@ -1,4 +1,4 @@
-use Rattle.std.proofs.Common.{refl, ap, ◌∙◌, sym, subst}
+use Rattle.std.proofs.Common.{refl, subst}
 use Rattle.apl_defn.specs.Defining.{IsDefined}
 use Rattle.apl_saved.specs.Spelled.{IsDefinitionOf}
 use Rattle.apl_loading.proofs.OneDefinition.{not_true}

@@ -1,4 +1,4 @@
-use Rattle.std.proofs.Common.{◌∙◌, ap, sym, subst}
+use Rattle.std.proofs.Common.{◌∙◌, subst}
 use Rattle.apl_charset.specs.Text.{IsLine}
 use Rattle.apl_loading.proofs.Letters.{line_same}
 use Rattle.apl_loading.proofs.names.is_named.Goals as goal

@@ -1,4 +1,4 @@
-use Rattle.std.proofs.Common.{List, [], ◌∷◌, ◌++◌, ◌∙◌, sym, ap, reverse, arith}
+use Rattle.std.proofs.Common.{[], ◌∷◌, ◌++◌, ◌∙◌, sym, ap, arith}
 use Rattle.apl_listing.specs.declared.stack.Kind.{Kind}
 use Rattle.apl_listing.specs.declared.stack.Kind.TheVariants as stacked
 use Rattle.apl_loading.proofs.OneLine.{beneath}

@@ -1,4 +1,4 @@
-use Rattle.std.proofs.Common.{◌≡◌, ◌+◌, drop, None, Some, sym, ap, ◌∙◌, subst}
+use Rattle.std.proofs.Common.{◌+◌, drop, None, Some, sym, subst}
 use Rattle.std.proofs.lemmas.Result.{err_from_is_err_and}
 use Rattle.apl_saved.specs.Rules.{function_names}
 use Rattle.apl_loading.specs.Refusals.{TakesVariable, RefusesVariable, variable_after}
