@@ -1,4 +1,6 @@
 //! Workspaces in files.
+ghost use Rattle.std.specs.Prelude.{◌≡◌, [], IfOk, IsTrue};
+ghost use Rattle.apl_machine_state.specs.State.{is_idle};
 
 use crate::ended::Ended;
 use apl_machine::Machine;
@@ -7,7 +9,10 @@ use std::fs::{self, File};
 use std::io::{self, Write};
 
 /// The workspace that a file holds.
-pub(crate) fn load_file(rt: &HostRuntime, path: &str) -> Result<Machine, Ended> {
+pub(crate) fn load_file(rt: &HostRuntime, path: &str) -> Result<Machine, Ended>
+    ensures idle { IfOk result (λ m. IsTrue (is_idle m)) }
+    ensures quiet { IfOk result (λ m. m.output ≡ []) }
+{
     match fs::read(rt, path) {
         Ok(bytes) => Ok(load(rt.alloc(), &bytes)?),
         Err(error) if error.kind() == io::ErrorKind::OutOfMemory => Err(Ended::Memory),

@@ -3,6 +3,9 @@
 //! sessions side by side.
 #![tactic(auto)]
 
+ghost use Rattle.std.specs.Prelude.{◌≡◌, [], IfOk, IsTrue};
+ghost use Rattle.apl_machine_state.specs.State.{is_idle};
+
 mod ended;
 mod files;
 mod sessions;
@@ -31,17 +34,25 @@ fn words<R: Env + AllocGlobal>(rt: &R) -> Result<Vec<String>, Ended> {
     }
 }
 
-/// Runs the input on a workspace.
+/// The workspace to begin with.
+fn first_workspace(rt: &HostRuntime, running: &Running) -> Result<Machine, Ended>
+    ensures idle { IfOk result (λ m. IsTrue (is_idle m)) }
+    ensures quiet { IfOk result (λ m. m.output ≡ []) }
+{
+    match &running.workspace {
+        Some(path) => load_file(rt, path.as_str()),
+        None => Ok(Machine::new(rt.alloc())),
+    }
+}
+
+/// Runs the input on that workspace.
 fn run_on<R: Source, W: Sink>(
     rt: &HostRuntime,
     running: &Running,
     input: &mut R,
     output: &mut W,
 ) -> Result<Machine, Ended> {
-    let ws = match &running.workspace {
-        Some(path) => load_file(rt, path.as_str())?,
-        None => Machine::new(rt.alloc()),
-    };
+    let ws = first_workspace(rt, running)?;
     let ran = match running.way {
         Way::Plain => run(rt.alloc(), ws, input, output, running.steps)?,
         Way::Resumed => run_resumed(rt.alloc(), ws, input, output, running.steps)?,

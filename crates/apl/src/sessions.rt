@@ -13,7 +13,7 @@ const SESSIONS: usize = 64;
 /// A desk of clear sessions.
 fn clear_desk(alloc: Global) -> Result<Desk, AllocError> {
     let mut sessions = Vec::with_capacity(alloc, SESSIONS)?;
-    while sessions.len() < SESSIONS {
+    for _ in 0..SESSIONS {
         sessions.push(Session::new(alloc, Machine::new(alloc)))?;
     }
     Ok(Desk::new(sessions))
