@@ -1,15 +1,15 @@
 -- A file of version 2 that holds parts which keep to the rules fits.
-use Rattle.std.proofs.Common.{◌≡◌, ℕ, ℤ, pos, negsuc, ◌+◌, ◌*◌, ◌<◌, ◌≤◌, ◌^◌, ◌&&◌, max, nat_le, Bool, true, false, All, List, [], ◌∷◌, length, Option, Some, None, FitsSigned, refl, sym, ap, subst, ◌∙◌, arith}
+use Rattle.std.proofs.Common.{◌≡◌, ℕ, ℤ, pos, negsuc, ◌+◌, ◌*◌, ◌<◌, ◌≤◌, ◌^◌, ◌&&◌, max, nat_le, true, All, List, [], ◌∷◌, length, Option, Some, None, FitsSigned, refl, sym, subst, arith}
 use Rattle.std.specs.Int.{w64}
 use Rattle.std.proofs.lemmas.Int.{ints}
 use Rattle.std.specs.List.{AllByRecursion}
-use Rattle.std.proofs.lemmas.List.Elements.{All-head, All-tail, recursion_from_All}
+use Rattle.std.proofs.lemmas.List.Elements.{All-head, All-tail}
 use Rattle.apl_arrays.specs.Cells.{Arr, Items, AreStorable, IsArray}
 use Rattle.apl_arrays.specs.Cells as cells
 use Rattle.apl_arrays.specs.Index.{bound_of as shape_bound}
 use Rattle.apl_arrays.proofs.Places.{bound_of-pos, mul_low}
 use Rattle.apl_translate.specs.Binding.{bound_of}
-use Rattle.apl_defn.specs.Definitions.{Text, Definition, is_line, line_of}
+use Rattle.apl_defn.specs.Definitions.{Text, line_of}
 use Rattle.apl_defn.proofs.Limits.{few_lines}
 use Rattle.apl_machine_state.specs.declared.operand.Operand.{Operand}
 use Rattle.apl_machine_state.specs.declared.operand.Operand.TheVariants as operands

@@ -7,7 +7,7 @@ use Rattle.apl_parts.specs.declared.parts.ContextPart.{ContextPart}
 use Rattle.apl_parts.specs.declared.parts.ContextPart.TheVariants.{Statement, Call, Execute}
 use Rattle.apl_parts.specs.Pieces.{Standing, Waiting}
 use Rattle.apl_parts.specs.Workspaces.{Pieces}
-use Rattle.apl_parts.specs.Restored.{AreStanding, AreWhole, FitsWaiting, context_of, place_under, state_of}
+use Rattle.apl_parts.specs.Restored.{AreStanding, AreWhole, FitsWaiting, context_of, state_of}
 use Rattle.apl_parts.proofs.Added.{map_reverse}
 
 newest_idle : (c : ContextPart) (cs : List ContextPart) → AreStanding Newest (c ∷ cs) → is_idle_in (context_of c ∷ map context_of cs) ≡ true

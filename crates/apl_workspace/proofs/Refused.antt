@@ -1,25 +1,15 @@
 -- What the refusal of a file tells of its bytes.
-use Rattle.std.proofs.Common.{◌≡◌, ◌≢◌, ℕ, List, Result, Ok, Err, refl, sym, ap, subst, ◌∙◌}
-use Rattle.std.specs.Prelude.{IfErr, IsErrAnd, MatchResult}
-use Rattle.serde_json.specs.Data.{Data}
-use Rattle.apl_machine_state.specs.State.{State}
-use Rattle.apl_parts.specs.Restored.{state_of}
-use Rattle.apl_parts.specs.Workspaces.{Pieces}
-use Rattle.apl_saved.specs.Rules.{AreRuled}
-use Rattle.apl_saved.specs.Spelled.{IsFileOf}
+use Rattle.std.proofs.Common.{◌≡◌, ◌≢◌, ℕ, List, Result, Ok, Err, sym, subst}
+use Rattle.std.specs.Prelude.{IfErr, IsErrAnd}
 use Rattle.apl_workspace_file.specs.Fitting.{Fits}
 use Rattle.apl_workspace_file.specs.Json.{IsJson}
 use Rattle.apl_workspace_file.specs.Trees.{tree_of}
-use Rattle.apl_workspace_file.specs.declared.error.ReadError.{ReadError}
-use Rattle.apl_workspace_file.specs.declared.error.ReadError.TheVariants as read
 use Rattle.apl_workspace_file.specs.declared.fields.File.{File}
 use Rattle.apl_loading.specs.Refusals.{IsRefused}
 use Rattle.apl_loading.specs.declared.error.LoadFault.{LoadFault}
 use Rattle.apl_loading.specs.declared.error.LoadFault.TheVariants as fault
-use Rattle.apl_workspace.specs.Refusals.{IsUnloaded, error_of_fault, error_of_read}
-use Rattle.apl_workspace.specs.Saved.{IsLoaded, IsSaved}
+use Rattle.apl_workspace.specs.Refusals.{IsUnloaded, error_of_fault}
 use Rattle.apl_workspace.specs.declared.error.LoadError.{LoadError}
-use Rattle.apl_workspace.specs.declared.error.LoadError.TheVariants.{Memory}
 
 unloaded : {T : Type 0} (bytes : List ℕ) (e : LoadError) (r : Result T LoadError) → IsUnloaded bytes e → IsErrAnd r (λ x. x ≡ e) → IfErr r (λ x. IsUnloaded bytes x)
 unloaded bytes e (Ok m) h is = absurd is

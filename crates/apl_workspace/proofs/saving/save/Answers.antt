@@ -1,4 +1,3 @@
-use Rattle.std.proofs.Common.{sym, ◌∙◌}
 use Rattle.apl_workspace.proofs.Again.{is_loaded}
 use Rattle.apl_workspace.proofs.saving.save.Goals as goal
 
