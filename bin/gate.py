@@ -1,4 +1,5 @@
-"""The gate (`rt ci`) as a Python module, and the processor time of each of its tasks: what bin/build and bin/gate-cost share."""
+"""The gate (`rt ci`) as a Python module, the processor time of each of its tasks, and the libraries that it kept: what bin/build,
+bin/gate-cost and bin/check-embedding share."""
 import collections
 import contextvars
 import importlib.machinery
@@ -21,6 +22,28 @@ def load():
     sys.modules["rt"] = module
     loader.exec_module(module)
     return module
+
+
+def take_libraries(rt, name):
+    """Puts the libraries below a crate, those that a gate on this machine kept, where `rt lib` finds them. Returns the names of the others."""
+    rt.Crate.allowed = rt.handles_of(TOP)
+    crates = rt.crates_of(TOP)
+    top = next(it for it in crates if it.name == name)
+    below = {it.name for it in top.below()}
+    kept, lacking = rt.Kept(crates), []
+    for crate in (it for it in crates if it.name in below):
+        if any(it.name in lacking for it in crate.below()):
+            lacking.append(crate.name)
+            continue
+        if not crate.is_built():
+            shutil.rmtree(f"{crate.folder}/out/rlib", ignore_errors=True)
+            if not kept.give(crate, False, kept.key(crate)):
+                lacking.append(crate.name)
+                continue
+            with open(f"{crate.folder}/out/rlib/stamp", "w", encoding="utf-8") as stamp:
+                stamp.write(crate.stamp())
+        kept.is_built(crate)
+    return lacking
 
 
 class Pool(ThreadPoolExecutor):

@@ -1,0 +1,35 @@
+//! The machine for programs in other languages: a static library with one function, which `share/apl.h` declares.
+#![tactic(auto)]
+
+ghost use Rattle.apl_played.specs.Answering.{Answers};
+
+use apl_played::play_into;
+use std::alloc::Global;
+
+/// How many bytes a call gives.
+#[repr(C)]
+#[derive(Drop)]
+pub struct Sizes {
+    pub transcript: usize,
+    pub workspace: usize,
+}
+
+/// Plays lines on a workspace and lays what comes of it into two buffers, as [`apl_played::play_into`] does, whose number it gives. A
+/// C program passes nothing for the allocator: it is that of its own `malloc`.
+#[unsafe(no_mangle)]
+pub extern "C" fn apl_play(
+    alloc: Global,
+    workspace: &[u8],
+    lines: &[u8],
+    steps: u64,
+    transcript: &mut [u8],
+    after: &mut [u8],
+    sizes: &mut Sizes,
+) -> u32
+    ensures { Answers steps workspace.now lines.now result sizes.new.transcript sizes.new.workspace transcript.old transcript.new after.old after.new }
+{
+    let answer = play_into(alloc, workspace, lines, steps, transcript, after);
+    sizes.transcript = answer.transcript;
+    sizes.workspace = answer.workspace;
+    u32::from(answer.number)
+}

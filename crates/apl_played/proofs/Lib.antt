@@ -1,0 +1,4 @@
+pub mod Beginning
+pub mod Kept
+pub mod Cuts
+pub mod Comes

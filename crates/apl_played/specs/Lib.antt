@@ -1,0 +1,4 @@
+pub mod Playing
+pub mod Answering
+pub mod Numbers
+pub mod Laws

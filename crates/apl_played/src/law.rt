@@ -1,0 +1,24 @@
+// Laws of calls that follow one another.
+ghost use Rattle.apl_played.specs.Laws.{CutCallsAreOne, LinesKeepSavable};
+
+use apl_kept_sessions::sessions_keep_savable;
+use apl_runs::lines_leave_idle;
+use apl_savable::{clear_is_savable, loaded_is_savable};
+
+/// The law that lines on a workspace's bytes leave nothing running, and a state all of which a workspace file can hold.
+pub(crate) fn lines_keep_savable()
+    ensures { LinesKeepSavable }
+{
+    clear_is_savable();
+    loaded_is_savable();
+    sessions_keep_savable();
+    lines_leave_idle();
+}
+
+/// The law that calls which follow one another are one call with all their lines, where each begins with the workspace that the one
+/// before gave, and its lines end with a line feed and leave no definition open.
+pub fn cut_calls_are_one()
+    ensures { CutCallsAreOne }
+{
+    // Nothing is done: the law is of the definitions.
+}
