@@ -1,4 +1,3 @@
 pub mod Beginning
 pub mod Kept
 pub mod Cuts
-pub mod Comes
