@@ -1,5 +1,5 @@
 -- What a machine keeps is few: at most 256 calls, and at most 999 lines that stop or are traced.
-use Rattle.std.proofs.Common.{◌≡◌, ℕ, suc, ◌+◌, ◌≤◌, List, [], ◌∷◌, length, All, Option, Some, None, arith, refl, sym, subst}
+use Rattle.std.proofs.Common.{◌≡◌, ℕ, zero, suc, ◌+◌, ◌≤◌, List, [], ◌∷◌, length, All, Option, Some, None, arith, refl, sym, subst}
 use Rattle.std.specs.Map.{lookup}
 use Rattle.std.specs.Prelude.{unwrap_or}
 use Rattle.std.specs.Str.{bytes_eq}
@@ -37,7 +37,7 @@ few_between low most (n ∷ ns) a b le = let i = few_between n most ns a.1 b.1 b
 
 small_all : (most limit : ℕ) (ns : List ℕ) → most ≤ limit → AreAtMost most ns → All (λ n. n ≤ limit) ns
 small_all most limit [] le h k d lt = absurd (omega arith)
-small_all most limit (n ∷ ns) le h 0 d lt = let x = h.0 in omega arith
+small_all most limit (n ∷ ns) le h zero d lt = let x = h.0 in omega arith
 small_all most limit (n ∷ ns) le h (suc k) d lt = small_all most limit ns le h.1 k d (omega arith)
 
 no_lines : AreFew []

@@ -241,6 +241,7 @@ fn leaving(
 }
 
 /// `⎕LC`: the line numbers of the standing calls.
+#[tactic(auto, using(crate::proofs::Few::as_many_lines))]
 fn line_counter(alloc: Global, contexts: &Contexts) -> Result<Array, AllocError>
     requires few { standing contexts.now ≤ 256 }
     ensures { IfOk result (λ array. array ≡ vector (Numbers (lines_in contexts.now))) }
