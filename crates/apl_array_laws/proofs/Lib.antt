@@ -1,0 +1,3 @@
+pub mod Pairs
+mod IndexLists
+mod FiniteMaps

@@ -1,0 +1,2 @@
+pub mod IndexLists
+pub mod FiniteMaps
