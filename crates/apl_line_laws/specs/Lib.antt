@@ -1,0 +1,7 @@
+pub mod Codes
+pub mod Statements
+pub mod Groups
+pub mod Names
+pub mod Functions
+pub mod Operators
+pub mod Assignments
