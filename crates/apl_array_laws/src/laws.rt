@@ -1,5 +1,6 @@
 // Laws of arrays.
 ghost use Rattle.apl_array_laws.specs.IndexLists.{HasIndexLists, OneOrder, StandOnce, TestsWithin};
+ghost use Rattle.apl_array_laws.specs.Grades.{Falls, GradesDown, GradesUp, HaveOneGrade, Rises};
 ghost use Rattle.apl_array_laws.specs.FiniteMaps.{AreEqual, HaveElements, HaveOneType, TextsAreArrays, NumbersAreArrays};
 
 /// The law that the index lists of a shape are exactly those that have an index for each axis, below the axis's
@@ -22,4 +23,13 @@ pub fn arrays_are_finite_maps()
     ensures equal { AreEqual }
     ensures numbers { NumbersAreArrays }
     ensures characters { TextsAreArrays }
+{}
+
+/// The law that a grade is the list of the places of a vector's items, all of them and each once, sorted by item,
+/// rising or falling, and then by place, and that there is one such list.
+pub fn grades_sort_places()
+    ensures up { GradesUp }
+    ensures down { GradesDown }
+    ensures one_up { HaveOneGrade Rises }
+    ensures one_down { HaveOneGrade Falls }
 {}
