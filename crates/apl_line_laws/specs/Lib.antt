@@ -1,4 +1,5 @@
 pub mod Codes
+pub mod Labels
 pub mod Statements
 pub mod Groups
 pub mod Names

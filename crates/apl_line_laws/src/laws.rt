@@ -1,5 +1,6 @@
 // Laws of lines.
 ghost use Rattle.apl_line_laws.specs.Codes.{HaveListings};
+ghost use Rattle.apl_line_laws.specs.Labels.{DefinitionsHaveLabels, HaveOneLabels, TokensHaveLabels};
 ghost use Rattle.apl_line_laws.specs.Statements.{statements};
 ghost use Rattle.apl_line_laws.specs.Groups.{groups, index_lists};
 ghost use Rattle.apl_line_laws.specs.Names.{variables, calls, selections};
@@ -32,3 +33,11 @@ pub fn worked_codes()
 {
     // Nothing is done: the law is of the definitions.
 }
+
+/// The law that a line has a label exactly where its tokens begin with that name and a colon, and that a function's
+/// labels are exactly those of its lines, each with the number of its line, in the order of the lines.
+pub fn labels_of_lines()
+    ensures tokens { TokensHaveLabels }
+    ensures definitions { DefinitionsHaveLabels }
+    ensures one { HaveOneLabels }
+{}

@@ -1,6 +1,7 @@
-//! Laws of the definitions of lines: worked lines and their codes.
+//! Laws of the definitions of lines: worked lines have the codes that they have by hand, and a line has the label
+//! with which its tokens begin.
 #![tactic(auto)]
 
 mod laws;
 
-pub use laws::worked_codes;
+pub use laws::{labels_of_lines, worked_codes};
