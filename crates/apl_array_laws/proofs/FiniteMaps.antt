@@ -1,8 +1,8 @@
 -- An array is a finite map from the index lists within its shape.
-use Rattle.std.proofs.Common.{◌≡◌, ℕ, ℤ, ◌+◌, ◌<◌, ◌≤◌, ◌&&◌, Bool, true, false, cond, List, [], ◌∷◌, map, length, get_or, Option, Some, None, IsSome, is_some, FitsSigned, refl, sym, ap, ◌∙◌, subst, arith}
+use Rattle.std.proofs.Common.{◌≡◌, ℕ, ℤ, ◌<◌, Bool, true, false, cond, List, [], ◌∷◌, map, length, Option, Some, None, IsSome, is_some, FitsSigned, refl, sym, ap, ◌∙◌, arith}
 use Rattle.std.specs.Prelude.{slice_get, option_map}
 use Rattle.std.specs.Int.{w64}
-use Rattle.std.specs.List.{All, AllByRecursion, list_all}
+use Rattle.std.specs.List.{AllByRecursion, list_all}
 use Rattle.std.proofs.lemmas.List.{length-map}
 use Rattle.std.proofs.lemmas.List.Elements.{All-from_recursion}
 use Rattle.std.proofs.lemmas.Option.{slice_get-get_or, slice_get-map}
@@ -10,14 +10,14 @@ use Rattle.apl_charset.specs.Set.{is_member}
 use Rattle.apl_arrays.specs.declared.cell.Cell.{Cell}
 use Rattle.apl_arrays.specs.declared.cell.Cell.TheVariants.{Num, Char}
 use Rattle.apl_arrays.specs.Index.{indices, is_within, position_in, size_of}
-use Rattle.apl_arrays.specs.Cells.{Arr, IsArray, Items, Numbers, Characters, cell_at, cells_of}
+use Rattle.apl_arrays.specs.Cells.{Arr, Items, Numbers, Characters, cell_at, cells_of}
 use Rattle.apl_arrays.specs.Kinds.{are_numbers}
 use Rattle.apl_arrays.proofs.Places.{position_in-lt}
 use Rattle.apl_arrays.proofs.Order.{all_within, length-indices}
 use Rattle.apl_arrays.proofs.InOrder.{in_order, map_same}
 use Rattle.apl_arrays.proofs.AtPlace.{at_place}
 use Rattle.apl_array_laws.specs.IndexLists.{LiesWithin}
-use Rattle.apl_array_laws.specs.FiniteMaps.{AreEqual, HaveElements, HaveOneType, IsAnArray, IsLimited, Maps, NumbersAreArrays, TextsAreArrays, is_number}
+use Rattle.apl_array_laws.specs.FiniteMaps.{AreEqual, HaveElements, HaveOneType, IsAnArray, NumbersAreArrays, TextsAreArrays, is_number}
 use Rattle.apl_array_laws.proofs.Pairs.{all_map, all_so}
 use Rattle.apl_array_laws.proofs.IndexLists.{lies, within}
 
@@ -115,10 +115,10 @@ items_same (Characters xs) (Characters ys) t e = ap Characters (characters_same 
 pub are_equal : AreEqual
 are_equal a b h k s t same =
     let each : map (cell_at a) (indices a.shape) ≡ map (cell_at b) (indices a.shape) =
-        map_same (λ i. is_within a.shape i ≡ true) (cell_at a) (cell_at b) (λ i w. same i (lies a.shape i w)) (indices a.shape) (all_within a.shape)
+    map_same (λ i. is_within a.shape i ≡ true) (cell_at a) (cell_at b) (λ i w. same i (lies a.shape i w)) (indices a.shape) (all_within a.shape)
     in
     let cells : cells_of a.items ≡ cells_of b.items =
-        some_same (cells_of a.items) (cells_of b.items) (sym (in_order a h.full) ∙ each ∙ ap (λ (n : List ℕ). map (cell_at b) (indices n)) s ∙ in_order b k.full)
+    some_same (cells_of a.items) (cells_of b.items) (sym (in_order a h.full) ∙ each ∙ ap (λ (n : List ℕ). map (cell_at b) (indices n)) s ∙ in_order b k.full)
     in
     let items : a.items ≡ b.items = items_same a.items b.items t cells in
     λ i. record { shape = s i; items = items i }

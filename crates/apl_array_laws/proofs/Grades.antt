@@ -1,5 +1,5 @@
 -- The grade of items is the one list of their places in order.
-use Rattle.std.proofs.Common.{◌≡◌, ℕ, ℤ, pos, ◌+◌, ◌<◌, ◌<ℤ◌, ◌==◌, ◌⊎◌, ◌↔◌, inl, inr, Bool, true, false, List, [], ◌∷◌, length, map, get_or, Ordering, Less, Equal, Greater, Result, Ok, Err, Contains, refl, sym, ap, ◌∙◌, subst, arith}
+use Rattle.std.proofs.Common.{◌≡◌, ℕ, ℤ, pos, ◌+◌, ◌<ℤ◌, ◌==◌, inl, inr, Bool, true, false, List, [], ◌∷◌, length, map, Ordering, Less, Equal, Greater, Result, Ok, Err, Contains, refl, sym, ap, ◌∙◌, subst, arith}
 use Rattle.std.specs.Ordering.{MatchOrdering, int_cmp, nat_cmp, ordering_then}
 use Rattle.std.specs.Cmp.{int_chain}
 use Rattle.std.specs.Int.Signed.{<ℤ_irrefl}
@@ -10,11 +10,11 @@ use Rattle.std.proofs.lemmas.Cmp.{int_ranked}
 use Rattle.std.proofs.lemmas.List.Sorted.{Contains-permutation, IsPermutation-map, IsPermutation-sym}
 use Rattle.apl_faults.specs.declared.fault.Fault.{Fault}
 use Rattle.apl_faults.specs.declared.fault.Fault.TheVariants.{Rank}
-use Rattle.apl_arrays.specs.Cells.{Arr, Items, Numbers}
+use Rattle.apl_arrays.specs.Cells.{Arr, Numbers}
 use Rattle.apl_arrays.specs.Checks.{demand, numbers_of}
 use Rattle.apl_arrays.specs.Results.{and_then, ok_map}
 use Rattle.apl_arrays.proofs.Order.{map_map}
-use Rattle.apl_search.specs.Ordered.{falling, graded, numbered, ordered, rising}
+use Rattle.apl_search.specs.Ordered.{graded, numbered, ordered}
 use Rattle.apl_array_laws.specs.Grades.{Falls, GradesDown, GradesUp, HaveOneGrade, IsGrade, IsGradeOf, Precedes, Rises, item}
 use Rattle.apl_array_laws.proofs.Pairs.{PairsHold, from_pairs, one_list, pairs_map, to_pairs}
 use Rattle.apl_array_laws.proofs.Sorting.{Entry, IsOrder, Sorted, numbered_apart, numbered_places, numbered_right, ordered_all, ordered_permutes, ordered_sorted}

@@ -1,12 +1,12 @@
 -- The index lists of a shape are those that lie within it, in lexicographic order.
-use Rattle.std.proofs.Common.{◌≡◌, ◌≢◌, ℕ, zero, suc, ◌+◌, ◌<◌, ◌≤◌, ◌⊎◌, ◌↔◌, inl, inr, true, nat_lt, List, [], ◌∷◌, map, length, get_or, AllPairs, Contains, refl, sym, ap, ◌∙◌, subst, arith}
+use Rattle.std.proofs.Common.{◌≡◌, ◌≢◌, ℕ, zero, suc, ◌+◌, ◌<◌, inl, inr, true, nat_lt, List, [], ◌∷◌, map, length, get_or, Contains, refl, sym, ap, ◌∙◌, subst, arith}
 use Rattle.std.specs.List.{flat_map, range_with_len, AllByRecursion}
 use Rattle.std.proofs.lemmas.List.Elements.{All-from_recursion, All-contains}
-use Rattle.apl_arrays.specs.Index.{indices, is_within, position_in, size_of}
+use Rattle.apl_arrays.specs.Index.{indices, is_within, position_in}
 use Rattle.apl_arrays.proofs.Places.{both, within_head, position_in-lt}
 use Rattle.apl_arrays.proofs.Order.{all_within, length-indices, within_cons}
 use Rattle.apl_arrays.proofs.AtPlace.{at_place}
-use Rattle.apl_array_laws.specs.IndexLists.{AreIndexLists, ComesBefore, HasIndexLists, LiesWithin, OneOrder, StandOnce, TestsWithin}
+use Rattle.apl_array_laws.specs.IndexLists.{ComesBefore, HasIndexLists, LiesWithin, OneOrder, StandOnce, TestsWithin}
 use Rattle.apl_array_laws.proofs.Pairs.{PairsHold, all_append, all_map, all_of, from_pairs, one_list, pairs_append, pairs_map, pairs_so, to_pairs}
 
 -- ---- within a shape

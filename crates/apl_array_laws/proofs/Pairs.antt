@@ -1,5 +1,5 @@
 -- Lists in which a relation holds between each item and each later one.
-use Rattle.std.proofs.Common.{◌≡◌, ℕ, zero, suc, ◌<◌, ◌⊎◌, inl, inr, List, [], ◌∷◌, ◌++◌, map, length, AllPairs, Contains, refl, sym, subst, arith}
+use Rattle.std.proofs.Common.{◌≡◌, zero, suc, ◌⊎◌, inl, inr, List, [], ◌∷◌, ◌++◌, map, AllPairs, Contains, refl, sym, subst, arith}
 use Rattle.std.specs.List.{AllByRecursion}
 use Rattle.std.proofs.lemmas.List.Elements.{All-from_recursion, recursion_from_All, All-contains}
 use Rattle.std.proofs.lemmas.List.Kept.{AllPairs-cons}
@@ -15,11 +15,10 @@ to_pairs R (x ∷ xs) h = AllPairs-cons R x xs (All-from_recursion (R x) xs h.0)
 
 pub from_pairs : {A : Type 0} (R : A → A → Type 0) (xs : List A) → AllPairs R xs → PairsHold R xs
 from_pairs R [] h = tt
-from_pairs R (x ∷ xs) h =
-    (
-      recursion_from_All (R x) xs (λ k d within. h 0 (suc k) d (omega arith) (omega arith)),
-      from_pairs R xs (λ i j d below within. h (suc i) (suc j) d (omega arith) (omega arith)),
-    )
+from_pairs R (x ∷ xs) h = (
+  recursion_from_All (R x) xs (λ k d within. h 0 (suc k) d (omega arith) (omega arith)),
+  from_pairs R xs (λ i j d below within. h (suc i) (suc j) d (omega arith) (omega arith)),
+)
 
 -- ---- of all items
 

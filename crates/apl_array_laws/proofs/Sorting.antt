@@ -1,10 +1,10 @@
 -- Entries that are put in order, by item and then by place.
-use Rattle.std.proofs.Common.{◌≡◌, ◌≢◌, ℕ, ℤ, zero, suc, ◌+◌, ◌<◌, ◌≤◌, ◌⊎◌, inl, inr, Bool, true, false, if◌then◌else◌, List, [], ◌∷◌, length, map, get_or, Ordering, Less, Equal, Greater, refl, sym, ap, ◌∙◌, subst, arith, lt_trans}
+use Rattle.std.proofs.Common.{◌≡◌, ◌≢◌, ℕ, ℤ, suc, ◌+◌, ◌<◌, ◌⊎◌, inl, inr, Bool, true, false, if◌then◌else◌, List, [], ◌∷◌, length, map, get_or, Ordering, Less, Equal, Greater, refl, sym, ap, ◌∙◌, subst, arith, lt_trans}
 use Rattle.std.specs.Ordering.{MatchOrdering, is_lt, nat_cmp, ordering_then}
 use Rattle.std.specs.List.{AllByRecursion, range_with_len}
 use Rattle.std.specs.List.Sorted.{IsPermutation}
 use Rattle.std.proofs.lemmas.Cmp.{ranked}
-use Rattle.std.proofs.lemmas.List.Sorted.{IsPermutation-cons, IsPermutation-middle, IsPermutation-refl, IsPermutation-sym, IsPermutation-trans}
+use Rattle.std.proofs.lemmas.List.Sorted.{IsPermutation-cons, IsPermutation-middle, IsPermutation-refl, IsPermutation-trans}
 use Rattle.apl_search.specs.Ordered.{numbered, ordered, put}
 use Rattle.apl_array_laws.proofs.Pairs.{PairsHold, all_so}
 
@@ -114,8 +114,7 @@ numbered_apart k (z ∷ zs) = (numbered_above k (k + 1) zs (omega arith), number
 pub numbered_right : (k : ℕ) (zs : List ℤ) (d : ℤ) (f : ℕ → ℤ) → ((j : ℕ) → j < length zs → f (k + j) ≡ get_or zs j d) → AllByRecursion (λ (e : Entry). f e.1 ≡ e.0) (numbered k zs)
 numbered_right k [] d f h = tt
 numbered_right k (z ∷ zs) d f h =
-    let first : k + 0 ≡ k = omega arith in
-    (
+    let first : k + 0 ≡ k = omega arith in (
       subst (λ n. f n ≡ z) first (h 0 (omega arith)),
       numbered_right (k + 1) zs d f (λ j l. let next : k + suc j ≡ (k + 1) + j = omega arith in subst (λ n. f n ≡ get_or zs j d) next (h (suc j) (omega arith))),
     )

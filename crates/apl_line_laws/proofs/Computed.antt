@@ -105,8 +105,7 @@ are_listed lines = list_all (λ line. is_listed line (tokens_of line.text)) line
 
 pub all_listed : (lines : List Worked) → are_listed lines ≡ true → HaveListings lines
 all_listed [] h = tt
-all_listed (line ∷ lines) h =
-    (
-      listed-so line (tokens_of line.text) refl (first_so (is_listed line (tokens_of line.text)) _ h),
-      all_listed lines (second_so (is_listed line (tokens_of line.text)) _ h),
-    )
+all_listed (line ∷ lines) h = (
+  listed-so line (tokens_of line.text) refl (first_so (is_listed line (tokens_of line.text)) _ h),
+  all_listed lines (second_so (is_listed line (tokens_of line.text)) _ h),
+)

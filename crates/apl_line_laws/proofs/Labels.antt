@@ -114,8 +114,8 @@ so_among lines name (suc k) l =
 
 -- ---- in order
 
-abbrev Numbered : (Text × ℕ) → (Text × ℕ) → Type 0
-Numbered a b = a.1 < b.1
+abbrev Ascend : (Text × ℕ) → (Text × ℕ) → Type 0
+Ascend a b = a.1 < b.1
 
 above : (m n : ℕ) (lines : List Text) → m < n → AllByRecursion (λ (b : Text × ℕ). m < b.1) (labels_from n lines)
 above m n [] h = tt
@@ -126,21 +126,21 @@ above m n (line ∷ lines) h =
     here None = tt
     here (Some l) = (h, tt)
 
-ascend : (n : ℕ) (lines : List Text) → PairsHold Numbered (labels_from n lines)
+ascend : (n : ℕ) (lines : List Text) → PairsHold Ascend (labels_from n lines)
 ascend n [] = tt
 ascend n (line ∷ lines) =
-    pairs_append Numbered (labelled n (label_among (tokens_of line))) (labels_from (suc n) lines) (alone (label_among (tokens_of line))) (ascend (suc n) lines) (before (label_among (tokens_of line)))
+    pairs_append Ascend (labelled n (label_among (tokens_of line))) (labels_from (suc n) lines) (alone (label_among (tokens_of line))) (ascend (suc n) lines) (before (label_among (tokens_of line)))
   where
-    alone : (o : Option Text) → PairsHold Numbered (labelled n o)
+    alone : (o : Option Text) → PairsHold Ascend (labelled n o)
     alone None = tt
     alone (Some l) = (tt, tt)
 
-    before : (o : Option Text) → AllByRecursion (λ (a : Text × ℕ). AllByRecursion (Numbered a) (labels_from (suc n) lines)) (labelled n o)
+    before : (o : Option Text) → AllByRecursion (λ (a : Text × ℕ). AllByRecursion (Ascend a) (labels_from (suc n) lines)) (labelled n o)
     before None = tt
     before (Some l) = (above n (suc n) lines (omega arith), tt)
 
 are_labels : (lines : List Text) → AreLabels lines (labels_from 1 lines)
-are_labels lines = record { exact = λ name m. (λ c. line_so lines name m (found 1 lines name m c), so_among lines name m); order = to_pairs Numbered (labels_from 1 lines) (ascend 1 lines) }
+are_labels lines = record { exact = λ name m. (λ c. line_so lines name m (found 1 lines name m c), so_among lines name m); order = to_pairs Ascend (labels_from 1 lines) (ascend 1 lines) }
 
 pub definitions_have_labels : DefinitionsHaveLabels
 definitions_have_labels d p =
@@ -149,8 +149,8 @@ definitions_have_labels d p =
 
 pub have_one_labels : HaveOneLabels
 have_one_labels lines some others g h =
-    one_list Numbered one_way some others (from_pairs Numbered some g.order) (from_pairs Numbered others h.order)
+    one_list Ascend one_way some others (from_pairs Ascend some g.order) (from_pairs Ascend others h.order)
     (λ label c. (h.exact label.0 label.1).1 ((g.exact label.0 label.1).0 c)) (λ label c. (g.exact label.0 label.1).1 ((h.exact label.0 label.1).0 c))
   where
-    one_way : (a b : Text × ℕ) → Numbered a b → Numbered b a → ⊥
+    one_way : (a b : Text × ℕ) → Ascend a b → Ascend b a → ⊥
     one_way a b l m = omega (arith, l, m)

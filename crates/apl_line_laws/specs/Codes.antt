@@ -26,8 +26,8 @@ pub record Worked : Type 0 where
   pub classes : List Class
   pub listing : List (List ℕ)
 
-abbrev pub worked : String → List Class → List String → Worked
-worked text classes listing = record { text = codes text; classes = classes; listing = map codes listing }
+abbrev pub shows : String → List Class → List String → Worked
+shows text classes listing = record { text = codes text; classes = classes; listing = map codes listing }
 
 -- lines in UTF-8, each with a line feed
 abbrev pub in_bytes : List (List ℕ) → List ℕ

@@ -5,4 +5,5 @@ pub mod Groups
 pub mod Names
 pub mod Functions
 pub mod Operators
+pub mod Ends
 pub mod Assignments

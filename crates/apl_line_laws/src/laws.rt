@@ -6,6 +6,7 @@ ghost use Rattle.apl_line_laws.specs.Groups.{groups, index_lists};
 ghost use Rattle.apl_line_laws.specs.Names.{variables, calls, selections};
 ghost use Rattle.apl_line_laws.specs.Functions.{monadic, no_left_argument, left_argument, ends, monadic_with_axis, dyadic};
 ghost use Rattle.apl_line_laws.specs.Operators.{reductions, inner_products, outer_products};
+ghost use Rattle.apl_line_laws.specs.Ends.{before_closing_items, before_a_function};
 ghost use Rattle.apl_line_laws.specs.Assignments.{assignments, branches, endings};
 
 /// The law that lines have the codes which the phrase table gives by hand, operands, columns and endings included,
@@ -22,6 +23,8 @@ pub fn worked_codes()
     ensures no_left_argument { HaveListings no_left_argument }
     ensures left_argument { HaveListings left_argument }
     ensures ends { HaveListings ends }
+    ensures before_closing_items { HaveListings before_closing_items }
+    ensures before_a_function { HaveListings before_a_function }
     ensures monadic_with_axis { HaveListings monadic_with_axis }
     ensures dyadic { HaveListings dyadic }
     ensures reductions { HaveListings reductions }

@@ -13,6 +13,7 @@ use Rattle.apl_line_laws.specs.Groups.{groups, index_lists}
 use Rattle.apl_line_laws.specs.Names.{variables, calls, selections}
 use Rattle.apl_line_laws.specs.Functions.{monadic, no_left_argument, left_argument, ends, monadic_with_axis, dyadic}
 use Rattle.apl_line_laws.specs.Operators.{reductions, inner_products, outer_products}
+use Rattle.apl_line_laws.specs.Ends.{before_closing_items, before_a_function}
 use Rattle.apl_line_laws.specs.Assignments.{assignments, branches, endings}
 use Rattle.apl_line_laws.proofs.Computed.{all_listed}
 use Rattle.apl_line_laws.proofs.laws.worked_codes.Goals as goal
@@ -56,6 +57,14 @@ returns-clause-left_argument c = all_listed left_argument refl
 pub returns-clause-ends : goal.returns-clause-ends
 unfolding tokens_of pieces_of unmatched next_at next_of number_at name_at text_at body_at symbol_at quad_at class_of symbol_of primitive_of mark_of system_named bound_of names_of digits encode
 returns-clause-ends c = all_listed ends refl
+
+pub returns-clause-before_closing_items : goal.returns-clause-before_closing_items
+unfolding tokens_of pieces_of unmatched next_at next_of number_at name_at text_at body_at symbol_at quad_at class_of symbol_of primitive_of mark_of system_named bound_of names_of digits encode
+returns-clause-before_closing_items c = all_listed before_closing_items refl
+
+pub returns-clause-before_a_function : goal.returns-clause-before_a_function
+unfolding tokens_of pieces_of unmatched next_at next_of number_at name_at text_at body_at symbol_at quad_at class_of symbol_of primitive_of mark_of system_named bound_of names_of digits encode
+returns-clause-before_a_function c = all_listed before_a_function refl
 
 pub returns-clause-monadic_with_axis : goal.returns-clause-monadic_with_axis
 unfolding tokens_of pieces_of unmatched next_at next_of number_at name_at text_at body_at symbol_at quad_at class_of symbol_of primitive_of mark_of system_named bound_of names_of digits encode
