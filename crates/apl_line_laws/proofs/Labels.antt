@@ -1,5 +1,5 @@
 -- The labels of lines are those names with which their tokens begin, a colon behind them.
-use Rattle.std.proofs.Common.{◌≡◌, ℕ, zero, suc, ◌+◌, ◌-◌, ◌<◌, ◌≤◌, ◌==◌, ◌⊎◌, inl, inr, Bool, true, false, if◌then◌else◌, List, [], ◌∷◌, ◌++◌, Option, Some, None, Ok, Err, Contains, slice_get, refl, sym, ap, ◌∙◌, subst, arith}
+use Rattle.std.proofs.Common.{◌≡◌, ℕ, zero, suc, ◌+◌, ◌-◌, ◌<◌, ◌⊎◌, inl, inr, Bool, true, false, if◌then◌else◌, List, [], ◌∷◌, Option, Some, None, Ok, Err, Contains, slice_get, refl, sym, ap, ◌∙◌, subst, arith}
 use Rattle.std.specs.List.{AllByRecursion}
 use Rattle.std.proofs.Math.Dec.{eqb-suc-zero}
 use Rattle.std.proofs.lemmas.List.Elements.{Contains-append_cases, Contains-append_left, Contains-append_right}
@@ -9,10 +9,10 @@ use Rattle.apl_tokens.specs.declared.token.Kind.TheVariants.{Name, Symbol}
 use Rattle.apl_tokens.specs.declared.token.Token.{Token}
 use Rattle.apl_tokens.specs.Tokens.{Answer, tokens_of}
 use Rattle.apl_defn.specs.Definitions.{Text, Definition, line_at}
-use Rattle.apl_defn.specs.Defining.{IsDefined, is_colon, label_among, label_in, labelled, labels_from}
+use Rattle.apl_defn.specs.Defining.{is_colon, label_among, label_in, labelled, labels_from}
 use Rattle.apl_defn.specs.Reading.{name_in}
 use Rattle.apl_defn.proofs.Limits.{defined_made}
-use Rattle.apl_array_laws.proofs.Pairs.{PairsHold, all_append, all_of, among_cases, first_among, from_pairs, none_among, one_list, pairs_append, to_pairs}
+use Rattle.apl_array_laws.proofs.Pairs.{PairsHold, all_append, among_cases, first_among, from_pairs, none_among, one_list, pairs_append, to_pairs}
 use Rattle.apl_line_laws.specs.Labels.{AreLabels, BeginWith, DefinitionsHaveLabels, HasLabel, HaveOneLabels, LineHasLabel, TokensHaveLabels}
 
 -- ---- of tokens
