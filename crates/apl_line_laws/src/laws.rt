@@ -9,9 +9,9 @@ ghost use Rattle.apl_line_laws.specs.Operators.{reductions, inner_products, oute
 ghost use Rattle.apl_line_laws.specs.Ends.{before_closing_items, before_a_function};
 ghost use Rattle.apl_line_laws.specs.Assignments.{assignments, branches, endings};
 
-/// The law that lines have the codes which the phrase table gives by hand, operands, columns and endings included,
-/// and no others: lines for each row of the table, and lines where a phrase doesn't begin because one of its
-/// conditions fails.
+/// The law that worked lines have the codes whose listings are written beside them, operands, columns and endings
+/// included, and no others: lines for each row of the table, and lines where a phrase doesn't begin because one of
+/// its conditions fails.
 pub fn worked_codes()
     ensures statements { HaveListings statements }
     ensures groups { HaveListings groups }

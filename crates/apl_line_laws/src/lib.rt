@@ -1,4 +1,4 @@
-//! Laws of the definitions of lines: worked lines have the codes that they have by hand, and a line has the label
+//! Laws of the definitions of lines: worked lines have the codes that are written beside them, and a line has the label
 //! with which its tokens begin.
 #![tactic(auto)]
 
