@@ -50,9 +50,9 @@ struct apl_sizes {
  * It returns one of the numbers above. What it gives depends on its bytes and the steps alone, so a call whose buffer is too small
  * may be made again, and nothing lives between two calls but what it gave.
  *
- * No pointer is null, also where its length is 0. The buffers overlap neither each other nor what is read. The call takes memory
- * from malloc and gives all of it back. It starts no thread, takes no lock and keeps no state, so calls may be made in several
- * threads at once; not in a signal handler, nor in the child of a fork of a process with threads. */
+ * No pointer is null, also where its length is 0. The buffers overlap neither each other nor what is read. The call takes its
+ * memory from malloc. It starts no thread, takes no lock and keeps no state, so calls may be made in several threads at once; not
+ * in a signal handler, nor in the child of a fork of a process with threads. */
 uint32_t apl_play(const uint8_t *workspace, size_t workspace_length,
                   const uint8_t *lines, size_t lines_length,
                   uint64_t steps,

@@ -1,7 +1,6 @@
 -- Lines that are cut behind a line feed, and what they write.
 use Rattle.std.proofs.Common.{◌≡◌, ℕ, List, [], ◌∷◌, ◌++◌, Bool, true, false, cond, ◌==◌, ap, ◌∙◌, sym, refl, append_assoc, append-nil, map}
 use Rattle.std.proofs.lemmas.List.{map-append}
-use Rattle.apl_machine_state.specs.State.{State}
 use Rattle.apl_session.specs.Defining.{closed}
 use Rattle.apl_runs.specs.Output.{silent}
 use Rattle.apl_runs.specs.Sessions.{plain}

@@ -1,16 +1,15 @@
 -- Lines leave nothing running, and a state that a workspace file can hold.
-use Rattle.std.proofs.Common.{◌≡◌, ℕ, List, [], ◌∷◌, true, refl, sym, subst}
-use Rattle.apl_machine_state.specs.State.{State, clear, is_idle}
+use Rattle.std.proofs.Common.{◌≡◌, ℕ, List, [], ◌∷◌, true, sym, subst}
+use Rattle.apl_machine_state.specs.State.{State, is_idle}
 use Rattle.apl_savable.specs.Promises.{ClearIsSavable, LoadedIsSavable}
 use Rattle.apl_savable.specs.Savable.{IsSavable}
-use Rattle.apl_session.specs.Defining.{closed}
 use Rattle.apl_kept_sessions.specs.Promises.{SessionsKeepSavable}
 use Rattle.apl_runs.specs.Idle.{LeavesIdle}
 use Rattle.apl_runs.specs.Sessions.{line_events, plain}
 use Rattle.apl_runs.specs.Transcript.{after_lines, lines_of}
 use Rattle.apl_workspace.specs.Saved.{settled}
 use Rattle.apl_played.specs.Laws.{LinesKeepSavable}
-use Rattle.apl_played.specs.Playing.{BeginsWith, state_after}
+use Rattle.apl_played.specs.Playing.{BeginsWith}
 
 module _ (clear-savable : ClearIsSavable) (loaded-savable : LoadedIsSavable) (sessions-savable : SessionsKeepSavable) (leaves-idle : (n : ℕ) → LeavesIdle (plain n)) where
   begun-savable : (bytes : List ℕ) (s : State) → BeginsWith bytes s → IsSavable s

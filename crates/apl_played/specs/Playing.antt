@@ -1,5 +1,5 @@
 -- What it is to play lines on the bytes of a workspace, and why they aren't played.
-use Rattle.std.specs.Prelude.{◌≡◌, ◌≢◌, ℕ, List, [], ◌∷◌, Result, Ok, Err, true, IfOk, IfErr, MatchResult}
+use Rattle.std.specs.Prelude.{◌≡◌, ◌≢◌, ℕ, List, [], ◌∷◌, Result, true, IfOk, IfErr, MatchResult}
 use Rattle.apl_machine_state.specs.State.{State, clear}
 use Rattle.apl_session.specs.Defining.{closed}
 use Rattle.apl_runs.specs.declared.runs.RunError.{RunError}

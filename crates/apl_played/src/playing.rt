@@ -85,12 +85,7 @@ fn file_of(alloc: Global, machine: &Machine) -> Result<Vec<u8>, PlayError>
 /// - LineTooLong at the 2,001st byte of a line, TooManyLines at the first byte behind 1,000,000 lines, with the transcript of the
 ///   complete lines before.
 /// - Memory, at any time: it has run out.
-pub fn play(
-    alloc: Global,
-    workspace: &[u8],
-    lines: &[u8],
-    steps: u64,
-) -> Result<Played, PlayError>
+pub fn play(alloc: Global, workspace: &[u8], lines: &[u8], steps: u64) -> Result<Played, PlayError>
     ensures played { IfOk result (λ p. (s : State) × BeginsWith workspace.now s × Plays steps s lines.now p) }
     ensures refused { IfErr result (λ e. IsUnplayed steps workspace.now lines.now e) }
     // Bytes that stand for a state stand for no other, and are refused for nothing but the lines.

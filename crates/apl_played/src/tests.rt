@@ -46,11 +46,22 @@ fn a_call_goes_on_where_one_left_off(rt: HostRuntime) -> Result<(), Fail> {
         transcript,
         workspace,
     } = play(alloc, &[], first, 1000)?;
-    assert!(rt; transcript.as_slice() == "LENGTH ERROR\nHALF[1] R←N÷2 2\n           ^\n".as_bytes());
+    assert!(rt;
+        transcript.as_slice() == "LENGTH ERROR\nHALF[1] R←N÷2 2\n           ^\n".as_bytes()
+    );
     let second = "N←4 6\n→1\n".as_bytes();
     let (mut small, mut large) = ([0u8; 2], [0u8; 900]);
     let answer = play_into(alloc, &workspace, second, 1000, &mut small, &mut large);
-    assert!(rt; matches!(answer, Answer { number: 9, transcript: 6, .. }));
+    assert!(rt;
+        matches!(
+            answer,
+            Answer {
+                number: 9,
+                transcript: 6,
+                ..
+            }
+        )
+    );
     let mut enough = [0u8; 6];
     let answer = play_into(alloc, &workspace, second, 1000, &mut enough, &mut large);
     assert_eq!(rt; answer.number, 0);
