@@ -111,7 +111,7 @@ Z←((M⌿LABELS),[1](1↓⍴LABELS)↑T)TWOSIDED B,-+/B
 
 ∇Z←L TWOSIDED B
 ⍝ A table of labels and amounts in two columns, with a line of totals.
-Z←'' ATLEFT L,[1](1↓⍴L)↑'TOTAL'
+Z←'ACCOUNT' ATLEFT L,[1](1↓⍴L)↑'TOTAL'
 Z←Z,'DEBIT' ATRIGHT MONEY(0⌈B),+/0⌈B
 Z←Z,'CREDIT' ATRIGHT MONEY(0⌈-B),+/0⌈-B
 ∇
