@@ -8,8 +8,7 @@ use Rattle.apl_vectors.specs.Vectors.{has_line}
 use Rattle.apl_machine_state.specs.declared.output.OutLine.{OutLine}
 use Rattle.apl_machine_state.specs.Changes.{Change, Rests, Moves, AsksStops, Arrives, change}
 use Rattle.apl_machine_state.specs.Environment.{World, Context}
-use Rattle.apl_machine_state.specs.State.{State, Turn, applied, arrived, comes_to, interrupt, is_idle, step, turn}
-use Rattle.apl_machine_state.specs.Reports.{said}
+use Rattle.apl_machine_state.specs.State.{State, Turn, applied, arrived, comes_to, interrupt, is_idle, turn}
 use Rattle.apl_parts.specs.Taken.{parts_of}
 use Rattle.apl_parts.specs.Restored.{state_of}
 use Rattle.apl_savable.specs.Savable.{IsSavable}
@@ -24,8 +23,8 @@ use Rattle.apl_kept_sessions.specs.Promises.{behind}
 use Rattle.apl_kept_sessions.proofs.Behind.{after-behind, interrupt-behind, turn-behind, turn_behind}
 use Rattle.apl_kept_sessions.proofs.Going.{sessions-go-on}
 use Rattle.apl_kept_sessions.proofs.Sessions.{sessions-savable}
-use Rattle.apl_kept_runs.specs.Kept.{Run, after_turn, from, gone_on, kept_cut, kept_steps, reloaded, reloaded_at, whole, with_state}
-use Rattle.apl_kept_runs.specs.Promises.{IsKept, IsSameRun, KeptRunsAreTheSame}
+use Rattle.apl_kept_runs.specs.Kept.{Run, after_turn, from, gone_on, kept_steps, reloaded, reloaded_at, whole, with_state}
+use Rattle.apl_kept_runs.specs.Promises.{CanBeKept, IsSameRun, KeptRunsAreTheSame}
 
 -- ---- a stop
 
@@ -66,7 +65,7 @@ without-definition : (s : State) → s.definition ≡ None → record s { defini
 without-definition s closed = ap (λ (d : Option (List Text)). record { world = s.world; stops = s.stops; contexts = s.contexts; definition = d; output = [] }) (sym closed)
 
 -- AT A STOP the machine can be saved.
-kept-at : (s : State) → IsSavable s → IsReady s → (turn s).stopped ≡ true → IsKept (turn s).state
+kept-at : (s : State) → IsSavable s → IsReady s → (turn s).stopped ≡ true → CanBeKept (turn s).state
 kept-at s savable ready stops =
     let stands : Stands s (turn s).state = turn-stands s stops in
     let closed = stands.opened ∙ closed-at s ready stops in
@@ -82,7 +81,7 @@ kept-at s savable ready stops =
 -- ---- one step
 
 -- what is loaded is answered as the state that was saved, behind what was written before
-answers-kept : (before : List OutLine) (t : State) → IsKept t → behind (before ++ t.output) (resumed (state_of (parts_of t))) ≡ resumed (behind before t)
+answers-kept : (before : List OutLine) (t : State) → CanBeKept t → behind (before ++ t.output) (resumed (state_of (parts_of t))) ≡ resumed (behind before t)
 answers-kept before t kept =
     let loaded : State = resumed (state_of (parts_of t)) in
     ap (λ (output : List OutLine). record loaded { output = output }) (append_assoc before t.output loaded.output)
@@ -90,11 +89,11 @@ answers-kept before t kept =
     ∙ sym (after-behind before t answer)
 
 -- b: the stop is one at which the run is saved
-answers : (b : Bool) (r : Run) (t : State) → IsKept t → whole (gone_on (if b then reloaded (with_state t r) else with_state t r)) ≡ resumed (behind r.taken t)
+answers : (b : Bool) (r : Run) (t : State) → CanBeKept t → whole (gone_on (if b then reloaded (with_state t r) else with_state t r)) ≡ resumed (behind r.taken t)
 answers true r t kept = answers-kept r.taken t kept
 answers false r t kept = sym (after-behind r.taken t answer)
 
-turns : (asked : ℕ → Bool) (r : Run) (b : Bool) (t : State) → (b ≡ true → IsKept t)
+turns : (asked : ℕ → Bool) (r : Run) (b : Bool) (t : State) → (b ≡ true → CanBeKept t)
     → whole (if b then gone_on (reloaded_at asked (with_state t r)) else with_state t r) ≡ (if b then resumed (behind r.taken t) else behind r.taken t)
 turns asked r true t kept = answers (asked r.stops) r t (kept refl)
 turns asked r false t kept = refl
@@ -144,8 +143,11 @@ kept-stops true r = refl
 kept-stops false r = refl
 
 turn-stops : (asked : ℕ → Bool) (r : Run) (b : Bool) (t : State) → (if b then gone_on (reloaded_at asked (with_state t r)) else with_state t r).stops ≡ r.stops + count b
-turn-stops asked r true t = let one = kept-stops (asked r.stops) (with_state t r) in omega (arith, one)
-turn-stops asked r false t = omega arith
+turn-stops asked r true t =
+    let same : (reloaded_at asked (with_state t r)).stops ≡ r.stops = kept-stops (asked r.stops) (with_state t r) in
+    let one : suc (reloaded_at asked (with_state t r)).stops ≡ r.stops + 1 = omega arith in
+    one
+turn-stops asked r false t = let none : r.stops ≡ r.stops + 0 = omega arith in none
 
 stops-same : (asked : ℕ → Bool) (n : ℕ) (r : Run) → Goes r → (kept_steps asked n r).stops ≡ r.stops + stops_in n (whole r)
 stops-same asked zero r g = omega arith

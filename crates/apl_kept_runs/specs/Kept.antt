@@ -47,10 +47,13 @@ abbrev pub kept_steps : (ℕ → Bool) → ℕ → Run → Run
 kept_steps asked zero r = r
 kept_steps asked (suc n) r = kept_steps asked n (after_turn asked r (turn r.state))
 
+-- a line is typed and given n steps; at each stop the run is saved and loaded again where that is asked for, and the stop is answered
+abbrev pub kept_run : (ℕ → Bool) → State → List ℕ → ℕ → Run
+kept_run asked x line n = kept_steps asked n (from (typed x line))
+
 abbrev pub interrupted : Run → Run
 interrupted r = with_state (interrupt r.state) r
 
--- a line is typed and given n steps; at each stop the run is saved and loaded again where that is asked for, and the stop is answered; what still runs
--- then is interrupted
+-- and what still runs then is interrupted
 abbrev pub kept_cut : (ℕ → Bool) → State → List ℕ → ℕ → Run
-kept_cut asked x line n = interrupted (kept_steps asked n (from (typed x line)))
+kept_cut asked x line n = interrupted (kept_run asked x line n)

@@ -18,7 +18,7 @@ use Rattle.apl_vectors.specs.Vectors.{after_asking, has_line, vector_of}
 use Rattle.apl_names.specs.Maps.{Map}
 use Rattle.apl_machine_state.specs.declared.output.OutLine.{OutLine}
 use Rattle.apl_machine_state.specs.Beginning.{begun_by, started, token_fault}
-use Rattle.apl_machine_state.specs.Calls.{returned}
+use Rattle.apl_machine_state.specs.Calls.{begun_line, returned}
 use Rattle.apl_machine_state.specs.Changes.{Change, Rests, Moves, AsksStops, Arrives, change}
 use Rattle.apl_machine_state.specs.Environment.{World, Context, Call, nearest}
 use Rattle.apl_machine_state.specs.Objects.{erased, without_global}
@@ -154,7 +154,7 @@ comes-behind : (b : Bool) (before : List OutLine) (s : State) (w : World) (d : D
     → comes_to b (behind before s) w d n locals below lines ended ≡ turn_behind before (comes_to b s w d n locals below lines ended)
 comes-behind true before s w d n locals below lines ended =
     ap (turned s w (Call d n locals None ∷ below) true true) (append_assoc before s.output (said lines ++ stop_report d n ∷ []))
-comes-behind false before s w d n locals below lines ended = moved-behind before s w _ lines ended
+comes-behind false before s w d n locals below lines ended = moved-behind before s w (begun_line w d n locals below) lines ended
 
 arrived-behind : (b : Bool) (before : List OutLine) (s : State) (w : World) (d : Definition) (n : ℕ) (locals : Map) (below : List Context) (lines : List Text) (ended : Bool)
     → arrived b (behind before s) w d n locals below lines ended ≡ turn_behind before (arrived b s w d n locals below lines ended)
