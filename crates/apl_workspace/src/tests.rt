@@ -1,18 +1,30 @@
-use crate::{load, save};
-use apl_machine::Machine;
+use crate::{LoadError, SaveError, load, save};
+use apl_loading::LoadFault;
+use apl_workspace_file::ReadError;
 use std::alloc::Global;
-use std::test::Fail;
 
 const CLEAR: &str = "{\"contexts\":[],\"functions\":[],\"io\":1,\"variables\":[],\"version\":2}";
 
+// A function that loops, interrupted, and a variable.
+const LOOP: &str =
+    "{\"contexts\":[{\"kind\":\"statement\",\"line\":\"L\",\"rest\":{\"classes\":\"N\",\"code\":\"0 NIL L @1\\n1 END SHOW S @0\\n\",\"done\":1,\"operands\":[]}},{\"at\":1,\"header\":\"L\",\"kind\":\"call\",\"lines\":[\"→1\"],\"locals\":[],\"rest\":null}],\"functions\":[{\"header\":\"L\",\"lines\":[\"→1\"],\"stop\":[],\"trace\":[1]}],\"io\":1,\"variables\":[{\"name\":\"V\",\"value\":{\"nums\":[-5],\"shape\":[]}}],\"version\":2}";
+
+// Whether what is saved of the machine of a file is that file.
+fn is_kept(alloc: Global, text: &str) -> bool {
+    let Ok(machine) = load(alloc, text.as_bytes()) else {
+        return false;
+    };
+    match save(alloc, &machine) {
+        Ok(bytes) => bytes.as_slice() == text.as_bytes(),
+        Err(_) => false,
+    }
+}
+
 #[test]
-fn a_clear_workspace_is_saved_and_loaded(rt: HostRuntime) -> Result<(), Fail> {
-    let alloc = rt.alloc();
-    let bytes = save(alloc, &Machine::new(alloc))?;
-    assert!(rt; bytes.as_slice() == CLEAR.as_bytes());
-    let machine = load(alloc, bytes.as_slice())?;
-    assert!(rt; machine.is_idle());
-    Ok(())
+fn workspaces_are_saved_as_they_were_loaded(rt: HostRuntime) {
+    for text in [CLEAR, LOOP] {
+        assert!(rt; is_kept(rt.alloc(), text));
+    }
 }
 
 // The number of the refusal of a file, 0 where it is loaded.
@@ -24,10 +36,8 @@ fn refusal(alloc: Global, text: &str) -> u8 {
 }
 
 #[test]
-fn faulty_files_are_refused(rt: HostRuntime) -> Result<(), Fail> {
-    let alloc = rt.alloc();
+fn faulty_files_are_refused(rt: HostRuntime) {
     let rows = [
-        (CLEAR, 0),
         (
             "{\"contexts\":[],\"functions\":[],\"io\":1,\"variables\":[],\"version\":2",
             1,
@@ -58,7 +68,13 @@ fn faulty_files_are_refused(rt: HostRuntime) -> Result<(), Fail> {
         ),
     ];
     for (text, number) in rows {
-        assert!(rt; refusal(alloc, text) == number);
+        assert!(rt; refusal(rt.alloc(), text) == number);
     }
-    Ok(())
+}
+
+#[test]
+fn refusals_have_numbers(rt: HostRuntime) {
+    assert!(rt; ReadError::Form.number() == LoadError::Form.number());
+    assert!(rt; LoadFault::Limit.number() == LoadError::Limit.number());
+    assert!(rt; SaveError::Memory.number() == 2);
 }
