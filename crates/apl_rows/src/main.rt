@@ -14,19 +14,25 @@
 //! | `one`, `line N`, `idle N` | steps by a stepper of the machine |
 //! | `drive EVENT◊..` | events, each of them `line TEXT`, `steps N` or `interrupt` |
 //! | `resume N TEXT`, `answer TEXT` | a line whose stops are answered, by `resume_all` or by hand, with its steps counted |
+//! | `carried TEXT` | the same by hand, with the workspace saved and loaded at each stop |
 //! | `frame K`, `value NAME`, `class NAME`, `watched NAME`, `levels`, `globals`, `cached CLASSES TEXT`, `parts` | looks at the machine |
+//! | `code NAME` | the listing of each line of a function, behind its number |
 //!
 //! What is written stands behind `|`, and behind `!` where it reports a stop. In texts `◊` stands for a line feed, `␍` for a
-//! carriage return and `�` for the byte ff, which is no text. Calls of the crates beneath, which no session makes so:
-//! [`texts`], [`functions`], [`codes`], [`arrays`], [`views`], [`naming`] and [`running`] say theirs.
+//! carriage return and `�` for the byte ff, which is no text. Workspaces in files: [`files`]. Calls of the crates beneath,
+//! which no session makes so: [`texts`], [`functions`], [`codes`], [`arrays`], [`views`], [`naming`], [`running`] and
+//! [`desks`] say theirs.
 #![tactic(auto)]
 
 mod arrays;
 mod codes;
+mod desks;
+mod files;
 mod functions;
 mod lacks;
 mod looking;
 mod naming;
+mod page;
 mod parts;
 mod player;
 mod running;
@@ -38,7 +44,6 @@ mod words;
 mod writing;
 
 use crate::player::Player;
-use std::alloc::AllocError;
 use std::io;
 use std::process::ExitCode;
 
@@ -49,12 +54,6 @@ enum Ended {
     Memory,
 }
 
-impl From<AllocError> for Ended {
-    fn from(_error: AllocError) -> Ended {
-        Ended::Memory
-    }
-}
-
 impl From<io::Error> for Ended {
     fn from(_error: io::Error) -> Ended {
         Ended::Device
@@ -63,24 +62,22 @@ impl From<io::Error> for Ended {
 
 /// Plays a line, and writes what comes of it.
 fn play_line<R: Print>(rt: &R, player: &mut Player, line: &str) -> Result<(), Ended> {
-    player.play(line)?;
-    print!(rt; "{}", player.written())?;
-    player.forget();
-    Ok(())
-}
-
-/// Plays the lines in order.
-fn play_lines<R: Print>(rt: &R, player: &mut Player, text: &str) -> Result<(), Ended> {
-    for line in text.lines() {
-        play_line(rt, player, line)?;
+    player.play(line);
+    if player.page.is_short() {
+        return Err(Ended::Memory);
     }
+    print!(rt; "{}", player.page.as_str())?;
+    player.page.clear();
     Ok(())
 }
 
-/// Plays all rows of a text.
+/// Plays all rows of a text, its lines in order.
 fn play<R: Print + AllocGlobal>(rt: &R, text: &str) -> Result<(), Ended> {
     let mut player = Player::new(rt.alloc());
-    play_lines(rt, &mut player, text)
+    for line in text.lines() {
+        play_line(rt, &mut player, line)?;
+    }
+    Ok(())
 }
 
 fn main(rt: HostRuntime) -> ExitCode {
