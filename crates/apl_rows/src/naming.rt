@@ -99,20 +99,10 @@ fn define(page: &mut Page, names: &mut Names, name: &Name, text: &str) {
     }
 }
 
-/// Takes the newest scope away, if there is one, and writes the value of a name in it.
+/// Takes the newest scope away, and writes the value of a name in it.
 fn leave_with(page: &mut Page, names: &mut Names, name: &Name) {
-    if names.depth() < 2 {
-        return page.line("no scope");
-    }
     let value = names.leave_with(name);
     write_value(page, value.as_ref());
-}
-
-/// Takes the newest scope away, if there is one.
-fn leave(names: &mut Names) {
-    if names.depth() > 1 {
-        names.leave();
-    }
 }
 
 /// Writes the global names, each with what it is.
@@ -161,7 +151,7 @@ fn act(page: &mut Page, names: &mut Names, part: &str) {
     let (word, text) = next_word(part);
     match word {
         "enter" => enter(page, names, text),
-        "leave" => leave(names),
+        "leave" => names.leave(),
         "clear" => names.clear(),
         "scope" => write_in_scope(page, names, text),
         "globals" => write_globals(page, names),
