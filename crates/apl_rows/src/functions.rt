@@ -13,7 +13,6 @@ use crate::words::{count, next_part, next_word};
 use crate::writing::write_class;
 use apl_charset::Text;
 use apl_defn::{Definition, Header, canonical, define, header, show};
-use std::alloc::AllocError;
 
 /// Writes a header as it is shown.
 fn write_canonical(page: &mut Page, header: &Header) {
@@ -67,18 +66,22 @@ fn write_defined(page: &mut Page, text: &str) {
     }
 }
 
+/// Adds the text of a line.
+fn push_text(page: &mut Page, lines: &mut Vec<Text>, line: &str) {
+    let text = page.text_of(line);
+    page.add(lines, text);
+}
+
 /// A header, so many lines of a text, and a last one where that isn't empty.
 fn many_lines(page: &mut Page, count: usize, text: &str) -> Vec<Text> {
     let (head, text) = next_part(text);
     let (line, last) = next_part(text);
     let mut lines = page.parts(head);
     for _ in 0..count {
-        let text = page.text_of(line);
-        page.add(&mut lines, text);
+        push_text(page, &mut lines, line);
     }
     if !last.is_empty() {
-        let text = page.text_of(last);
-        page.add(&mut lines, text);
+        push_text(page, &mut lines, last);
     }
     lines
 }
@@ -94,12 +97,17 @@ fn write_many(page: &mut Page, text: &str) {
 }
 
 /// Writes the lines that show a function.
-fn write_listed(page: &mut Page, copy: Result<Definition, AllocError>) {
-    let Some(definition) = page.kept(copy) else {
-        return;
-    };
-    match show(page.alloc, &definition) {
+fn write_show(page: &mut Page, definition: &Definition) {
+    match show(page.alloc, definition) {
         Ok(lines) => page.texts(&lines),
+        Err(error) => page.refuse(error),
+    }
+}
+
+/// Writes the lines that show the copy of a function.
+fn write_copy_shown(page: &mut Page, definition: &Definition) {
+    match definition.copy(page.alloc) {
+        Ok(copy) => write_show(page, &copy),
         Err(error) => page.refuse(error),
     }
 }
@@ -107,7 +115,7 @@ fn write_listed(page: &mut Page, copy: Result<Definition, AllocError>) {
 /// Writes the lines that show the function of lines, as they show its copy.
 fn write_shown(page: &mut Page, text: &str) {
     if let Some(definition) = definition_of(page, text) {
-        write_listed(page, definition.copy(page.alloc));
+        write_copy_shown(page, &definition);
     }
 }
 

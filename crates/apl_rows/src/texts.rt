@@ -12,10 +12,11 @@
 use crate::lacks::Lack;
 use crate::page::Page;
 use crate::words::{count, next_word};
-use apl_charset::{Ch, decode_line, encode};
+use apl_charset::{Ch, Text, decode_line, encode};
 use apl_faults::{Call, Fault, report};
 use apl_symbols::{Name, Symbol, SystemName};
-use apl_tokens::{Kind, Token, spell, tokens};
+use apl_tokens::{Kind, Token, TokenError, spell, tokens};
+use std::alloc::Global;
 use std::cmp::Ordering;
 
 /// Writes a word and characters.
@@ -64,19 +65,17 @@ fn write_tokens(page: &mut Page, text: &str) {
     }
 }
 
-/// Writes the text that tokens are spelled as.
-fn write_spelling(page: &mut Page, tokens: &[Token]) {
-    match spell(page.alloc, tokens) {
-        Ok(text) => page.text('|', text.as_slice()),
-        Err(error) => page.refuse(error),
-    }
+/// The text that the tokens of a text are spelled as.
+fn spelled(alloc: Global, text: &[Ch]) -> Result<Text, TokenError> {
+    let tokens = tokens(alloc, text)?;
+    Ok(spell(alloc, &tokens)?)
 }
 
 /// Writes the text that the tokens of a text are spelled as.
 fn write_spelled(page: &mut Page, text: &str) {
     let text = page.characters(text);
-    match tokens(page.alloc, &text) {
-        Ok(tokens) => write_spelling(page, &tokens),
+    match spelled(page.alloc, &text) {
+        Ok(text) => page.text('|', text.as_slice()),
         Err(error) => page.refuse(error),
     }
 }
