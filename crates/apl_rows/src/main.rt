@@ -71,13 +71,18 @@ fn play_line<R: Print>(rt: &R, player: &mut Player, line: &str) -> Result<(), En
     Ok(())
 }
 
-/// Plays all rows of a text, its lines in order.
-fn play<R: Print + AllocGlobal>(rt: &R, text: &str) -> Result<(), Ended> {
-    let mut player = Player::new(rt.alloc());
+/// Plays the lines in order.
+fn play_lines<R: Print>(rt: &R, player: &mut Player, text: &str) -> Result<(), Ended> {
     for line in text.lines() {
-        play_line(rt, &mut player, line)?;
+        play_line(rt, player, line)?;
     }
     Ok(())
+}
+
+/// Plays all rows of a text.
+fn play<R: Print + AllocGlobal>(rt: &R, text: &str) -> Result<(), Ended> {
+    let mut player = Player::new(rt.alloc());
+    play_lines(rt, &mut player, text)
 }
 
 fn main(rt: HostRuntime) -> ExitCode {
