@@ -4,6 +4,3 @@
 mod desk;
 
 pub use desk::{Desk, DeskError};
-
-#[cfg(test)]
-mod tests;

@@ -5,8 +5,6 @@
 mod binding;
 mod laws;
 mod listings;
-#[cfg(test)]
-mod tests;
 
 pub use laws::one_list;
 pub use listings::code_of;

@@ -18,3 +18,4 @@ pub mod Typed
 pub mod Erased
 pub mod Restored
 pub mod Held
+pub mod Few

@@ -11,7 +11,7 @@ ghost use Rattle.apl_machine_state.specs.Reports.{fault_lines};
 ghost use Rattle.apl_machine_state.specs.Watching.{arrow, blank};
 ghost use Rattle.apl_operands.specs.Operands.{AreThere, fetched};
 ghost use Rattle.apl_frames.specs.Ends.{HoldsValue, IsColumn, has_place, is_of_value};
-ghost use Rattle.apl_contexts.specs.Contexts.{AreSound, AreStacked, Newest, dressed, line_in, lines_in};
+ghost use Rattle.apl_contexts.specs.Contexts.{AreSound, AreStacked, Newest, dressed, line_in, lines_in, standing};
 ghost use Rattle.apl_machine.specs.Changes.{IsChange};
 ghost use Rattle.apl_machine.specs.Executing.{executes};
 ghost use Rattle.apl_machine.specs.Leaving.{Aims, Faulty, IsLeaving, finished, leaving};
@@ -21,7 +21,7 @@ ghost use Rattle.apl_machine.specs.Worlds.{settings};
 ghost use Rattle.apl_phrases.specs.Effects.{acted, seen};
 
 use crate::reports::context_fault;
-use crate::traces::{trace, trace_value};
+use crate::traces::{trace, trace_value, vector_of};
 use apl_arrays::{Array, Ravel};
 use apl_charset::{Ch, Text};
 use apl_code::{Action, Ending, Instr};
@@ -241,16 +241,13 @@ fn leaving(
 }
 
 /// `⎕LC`: the line numbers of the standing calls.
+#[tactic(auto, using(crate::proofs::Few::as_many_lines))]
 fn line_counter(alloc: Global, contexts: &Contexts) -> Result<Array, AllocError>
+    requires few { standing contexts.now ≤ 256 }
     ensures { IfOk result (λ array. array ≡ vector (Numbers (lines_in contexts.now))) }
 {
     let numbers = contexts.line_numbers(alloc)?;
-    let count = numbers.len();
-    match Array::from_shape(&[count], Ravel::Nums(numbers)) {
-        Ok(array) => Ok(array),
-        // It doesn't come to this: at most 256 calls stand.
-        Err(_) => Err(AllocError),
-    }
+    Ok(vector_of(numbers))
 }
 
 /// What a phrase makes of a machine.
@@ -265,6 +262,7 @@ fn reduce(
     requires small { scene.io ≤ 1 }
     requires placed { IsColumn instr.now.at }
     requires stacked { AreStacked Newest contexts.now }
+    requires few { standing contexts.now ≤ 256 }
     ensures { IfOk result (λ change. (ms : List Map) → IsReduced change (acted (seen scene.entry (lines_in contexts.now)) instr.now.action (fetched operands.entry.constants.now instr.now.arguments (reverse operands.entry.stack.now))) operands.entry.stack.now instr.now.arguments (λ fault. fault_lines fault instr.now.at (dressed ms contexts.now))) }
 {
     let sources = instr.arguments.as_slice();
@@ -309,6 +307,7 @@ pub fn change_of(
 ) -> Result<Change, AllocError>
     requires sound { AreSound contexts.now names.now }
     requires small { io ≤ 1 }
+    requires few { standing contexts.now ≤ 256 }
     requires runs { IsSome (line_in contexts.now) }
     ensures { IfOk result (λ change. (stops : Vectors) → IsChange change names.now (settings stops traces.now io) contexts.now) }
 {

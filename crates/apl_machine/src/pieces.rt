@@ -35,7 +35,18 @@ impl Machine {
         requires { AreWhole parts }
         ensures { IfOk result (λ m. m ≡ state_of parts) }
     {
-        let mut cache = Cache::new(alloc);
+        Machine::from_parts_with(alloc, parts, Cache::new(alloc))
+    }
+
+    /// The same, where some of the lines were translated already: this cache is the machine's from then on.
+    pub fn from_parts_with(
+        alloc: Global,
+        parts: Parts,
+        mut cache: Cache,
+    ) -> Result<Machine, AllocError>
+        requires { AreWhole parts }
+        ensures { IfOk result (λ m. m ≡ state_of parts) }
+    {
         let Restored {
             names,
             stops,

@@ -1,11 +1,13 @@
 //! What traced lines write, and what stops report.
-ghost use Rattle.std.specs.Prelude.{◌≡◌, ◌++◌, [], map, option_copied, pos, true, IfNone, IfOk, IfSome};
+ghost use Rattle.std.specs.Prelude.{◌≡◌, ◌≤◌, ◌++◌, [], All, length, map, option_copied, pos, true, IfNone, IfOk, IfSome};
+ghost use Rattle.apl_arrays.specs.Cells.{Numbers};
+ghost use Rattle.apl_arrays.specs.Simple.{vector};
 ghost use Rattle.apl_faults.specs.Report.{place};
 ghost use Rattle.apl_format.specs.Display.{display};
 ghost use Rattle.apl_machine_state.specs.Reports.{said};
 ghost use Rattle.apl_machine_state.specs.State.{stop_report};
 ghost use Rattle.apl_machine_state.specs.Watching.{behind, lines_array};
-ghost use Rattle.apl_machine.specs.Traces.{IsTraced, IsUntraced, trace_by};
+ghost use Rattle.apl_machine.specs.Traces.{AreFew, IsTraced, IsUntraced, trace_by};
 
 use apl_arrays::{Array, Ravel};
 use apl_charset::{Ch, Text};
@@ -117,30 +119,35 @@ pub(crate) fn trace_value(
     }
 }
 
+/// The vector of some numbers.
+pub(crate) fn vector_of(numbers: Vec<i64>) -> Array
+    requires { length numbers.items ≤ 1000000 }
+    ensures { result ≡ vector (Numbers numbers.items) }
+{
+    let count = numbers.len();
+    match Array::from_shape(&[count], Ravel::Nums(numbers)) {
+        Ok(array) => array,
+        Err(_) => unreachable!(),
+    }
+}
+
 /// Line numbers as the numbers of an array.
 fn numbers_of(alloc: Global, lines: &[usize]) -> Result<Vec<i64>, AllocError>
+    requires { All (λ n. n ≤ 999) lines.now }
     ensures { IfOk result (λ numbers. numbers.items ≡ map pos lines.now) }
 {
     let mut numbers = Vec::with_capacity(alloc, lines.len())?;
     for line in lines {
-        match i64::try_from(*line) {
-            Ok(number) => numbers.push(number)?,
-            // It doesn't come to this: a function has at most 999 lines.
-            Err(_) => return Err(AllocError),
-        }
+        numbers.push(*line as i64)?;
     }
     Ok(numbers)
 }
 
-/// A vector of line numbers as an array.
+/// A vector of line numbers of a function as an array.
 pub(crate) fn lines_array(alloc: Global, lines: &[usize]) -> Result<Array, AllocError>
+    requires { AreFew lines.now }
     ensures { IfOk result (λ array. array ≡ lines_array lines.now) }
 {
     let numbers = numbers_of(alloc, lines)?;
-    let count = numbers.len();
-    match Array::from_shape(&[count], Ravel::Nums(numbers)) {
-        Ok(array) => Ok(array),
-        // Nor to this, for the same reason.
-        Err(_) => Err(AllocError),
-    }
+    Ok(vector_of(numbers))
 }

@@ -16,6 +16,3 @@ pub use apl_devices::{Device, Failed, Sink, Source, Tape};
 pub use desks::run_desk;
 pub use law::lines_leave_idle;
 pub use runs::{RunError, run, run_resumed};
-
-#[cfg(test)]
-mod tests;

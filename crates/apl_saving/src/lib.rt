@@ -12,6 +12,3 @@ mod whole;
 
 pub use laws::kept_parts_are_readable;
 pub use whole::file_of;
-
-#[cfg(test)]
-mod tests;

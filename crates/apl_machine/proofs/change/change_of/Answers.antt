@@ -55,6 +55,7 @@ reduce-requires c =
       small = c.requires.small;
       placed = p.placed;
       stacked = c.requires.sound.stacked;
+      few = c.requires.few;
     }
 
 pub returns : goal.returns

@@ -2,7 +2,7 @@ use Rattle.std.proofs.Common.{◌≤◌, sym, subst}
 use Rattle.apl_machine.specs.Worlds.{settings}
 use Rattle.apl_machine.proofs.Held.{restored_held}
 use Rattle.apl_machine.proofs.Restored.{restored_is}
-use Rattle.apl_machine.proofs.machine.Machine.from_parts.Goals as goal
+use Rattle.apl_machine.proofs.machine.Machine.from_parts_with.Goals as goal
 
 pub invariant_of-result : goal.invariant_of-result
 invariant_of-result c =

@@ -1,0 +1,5 @@
+pub mod Pairs
+mod IndexLists
+mod FiniteMaps
+pub mod Sorting
+mod Grades

@@ -1,0 +1,3 @@
+pub mod IndexLists
+pub mod FiniteMaps
+pub mod Grades
