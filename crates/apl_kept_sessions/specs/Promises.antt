@@ -1,5 +1,6 @@
 -- What is promised of whole sessions.
-use Rattle.std.specs.Prelude.{◌≡◌, List, [], true, None}
+use Rattle.std.specs.Prelude.{◌≡◌, List, [], ◌++◌, true, None}
+use Rattle.apl_machine_state.specs.declared.output.OutLine.{OutLine}
 use Rattle.apl_machine_state.specs.State.{State, clear, is_idle}
 use Rattle.apl_parts.specs.Taken.{parts_of}
 use Rattle.apl_parts.specs.Restored.{state_of}
@@ -16,3 +17,13 @@ SessionsKeepSavable = (s : State) (events : List Event) → IsSavable s → IsSa
 abbrev pub SessionsAreTheSame : Type 0
 SessionsAreTheSame = (events : List Event) → is_idle (after clear events) ≡ true
     → AreRuled (parts_of (after clear events)) × (state_of (parts_of (after clear events)) ≡ record (after clear events) { definition = None; output = [] })
+
+-- the state, where these lines were written before its output
+abbrev pub behind : List OutLine → State → State
+behind lines s = record s { output = lines ++ s.output }
+
+-- What is loaded goes on as what it was saved of: whatever happens to an idle state without an open definition happens to the state of its parts too,
+-- behind the output that was taken before it was saved.
+abbrev pub SessionsGoOn : Type 0
+SessionsGoOn = (s : State) (events : List Event) → IsSavable s → is_idle s ≡ true → s.definition ≡ None
+    → after s events ≡ behind s.output (after (state_of (parts_of s)) events)

@@ -1,5 +1,5 @@
 //! Laws of sessions.
-ghost use Rattle.apl_kept_sessions.specs.Promises.{SessionsAreTheSame, SessionsKeepSavable};
+ghost use Rattle.apl_kept_sessions.specs.Promises.{SessionsAreTheSame, SessionsGoOn, SessionsKeepSavable};
 
 /// The law that events make a state that can be saved of such a state: lines that are typed, commands
 /// and definitions among them, steps and interrupts.
@@ -13,4 +13,10 @@ pub fn sessions_keep_savable()
 /// and loaded again, and whose parts keep to the rules of a workspace file.
 pub fn sessions_are_the_same()
     ensures { SessionsAreTheSame }
+{}
+
+/// The law that a session which is saved and loaded goes on as it would have without: whatever lines are
+/// typed, steps made and interrupts sent, its states are the same, and what is written.
+pub fn sessions_go_on()
+    ensures { SessionsGoOn }
 {}

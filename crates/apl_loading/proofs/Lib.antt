@@ -5,6 +5,7 @@ pub mod Letters
 pub mod Taken
 pub mod OneFunction
 pub mod OneVariable
+pub mod Ahead
 pub mod OneLine
 pub mod OneCall
 pub mod OneContext

@@ -28,7 +28,7 @@ functions_held b (f ∷ fs) [] h = absurd h
 functions_held b (f ∷ fs) (w ∷ ws) h = let i = functions_held (function_after b w) fs ws h.1 in ((h.0.field, i.0), (h.0.watched, i.1))
 
 -- the name before, if there is one, and these
-abbrev behind : Option Text → List Text → List Text
+abbrev pub behind : Option Text → List Text → List Text
 behind None ns = ns
 behind (Some b) ns = b ∷ ns
 
@@ -40,7 +40,7 @@ alone : (b : Option Text) → Ascend (behind b [])
 alone None = tt
 alone (Some b) = tt
 
-functions_ascend : (b : Option Text) (fs : List FunctionField) (ws : List Watched) → AreTaken TakesFunction function_after b fs ws → Ascend (behind b (function_names ws))
+pub functions_ascend : (b : Option Text) (fs : List FunctionField) (ws : List Watched) → AreTaken TakesFunction function_after b fs ws → Ascend (behind b (function_names ws))
 functions_ascend b [] [] h = alone b
 functions_ascend b [] (w ∷ ws) h = absurd h
 functions_ascend b (f ∷ fs) [] h = absurd h

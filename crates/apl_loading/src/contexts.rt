@@ -21,6 +21,7 @@ use apl_defn::Definition;
 use apl_machine_state::Operand;
 use apl_names::DefinedFunction;
 use apl_parts::{CallPart, ContextPart};
+use apl_translate::Cache;
 use apl_workspace_file::{CallField, ContextField, RestField, StatementField};
 use std::alloc::Global;
 
@@ -46,6 +47,7 @@ fn read_call(
     definition: Definition,
     field: &CallField,
     values: Values,
+    cache: &mut Cache,
 ) -> Result<BuiltCall, LoadFault>
     requires { length field.now.locals ≡ length values.locals.items }
     ensures found { IfOk result (λ b. IsCallBy definition field.now values.locals.items values.operands.items b.part) }
@@ -56,7 +58,7 @@ fn read_call(
     let Some(tokens) = definition.tokens(field.at) else {
         return Err(LoadFault::Context);
     };
-    let line = read_call_line(alloc, tokens, &field.rest, operands)?;
+    let line = read_call_line(alloc, tokens, &field.rest, operands, cache)?;
     let fields = field.locals.as_slice();
     let locals = read_locals(alloc, definition.header(), fields, locals)?;
     let function = DefinedFunction::new(alloc, definition)?;
@@ -68,13 +70,18 @@ fn read_call(
 }
 
 /// A call, but for the listing of its line.
-fn build_call(alloc: Global, field: &CallField, values: Values) -> Result<Built, LoadFault>
+fn build_call(
+    alloc: Global,
+    field: &CallField,
+    values: Values,
+    cache: &mut Cache,
+) -> Result<Built, LoadFault>
     requires { AreValues (fields.Call field.now) values.locals.items values.operands.items }
     ensures found { IfOk result (λ b. IsBuilt (fields.Call field.now) b.part b.awaits b.listing.items) }
     ensures refused { IfErr result (λ e. e ≢ fault.Memory → RefusesPart (fields.Call field.now) e) }
 {
     let definition = read_definition(alloc, &field.header, field.lines.as_slice())?;
-    let call = read_call(alloc, definition, field, values)?;
+    let call = read_call(alloc, definition, field, values, cache)?;
     Ok(Built {
         part: ContextPart::Call(call.part),
         awaits: call.awaits,
@@ -87,12 +94,13 @@ fn build_statement(
     alloc: Global,
     field: &StatementField,
     operands: Vec<Operand>,
+    cache: &mut Cache,
 ) -> Result<Built, LoadFault>
     requires { Pairwise IsOperandOf field.now.rest.operands operands.items }
     ensures found { IfOk result (λ b. IsBuilt (fields.Statement field.now) b.part b.awaits b.listing.items) }
     ensures refused { IfErr result (λ e. e ≢ fault.Memory → RefusesPart (fields.Statement field.now) e) }
 {
-    let statement = read_statement(alloc, field, operands)?;
+    let statement = read_statement(alloc, field, operands, cache)?;
     Ok(Built {
         part: ContextPart::Statement(statement.part),
         awaits: Some(statement.action),
@@ -105,12 +113,13 @@ fn build_execute(
     alloc: Global,
     field: &StatementField,
     operands: Vec<Operand>,
+    cache: &mut Cache,
 ) -> Result<Built, LoadFault>
     requires { Pairwise IsOperandOf field.now.rest.operands operands.items }
     ensures found { IfOk result (λ b. IsBuilt (fields.Execute field.now) b.part b.awaits b.listing.items) }
     ensures refused { IfErr result (λ e. e ≢ fault.Memory → RefusesPart (fields.Execute field.now) e) }
 {
-    let execute = read_statement(alloc, field, operands)?;
+    let execute = read_statement(alloc, field, operands, cache)?;
     Ok(Built {
         part: ContextPart::Execute(execute.part),
         awaits: Some(execute.action),
@@ -119,15 +128,25 @@ fn build_execute(
 }
 
 /// A context, but for the listing of its line.
-fn build(alloc: Global, field: &ContextField, values: Values) -> Result<Built, LoadFault>
+fn build(
+    alloc: Global,
+    field: &ContextField,
+    values: Values,
+    cache: &mut Cache,
+) -> Result<Built, LoadFault>
     requires { AreValues field.now values.locals.items values.operands.items }
     ensures found { IfOk result (λ b. IsBuilt field.now b.part b.awaits b.listing.items) }
     ensures refused { IfErr result (λ e. e ≢ fault.Memory → RefusesPart field.now e) }
 {
     match field {
-        ContextField::Statement(statement) => build_statement(alloc, statement, values.operands),
-        ContextField::Call(call) => build_call(alloc, call, values),
-        ContextField::Execute(execute) => build_execute(alloc, execute, values.operands),
+        ContextField::Statement(statement) => build_statement(
+            alloc,
+            statement,
+            values.operands,
+            cache,
+        ),
+        ContextField::Call(call) => build_call(alloc, call, values, cache),
+        ContextField::Execute(execute) => build_execute(alloc, execute, values.operands, cache),
     }
 }
 
@@ -160,6 +179,7 @@ fn read_context(
     standing: usize,
     behind: &[ContextField],
     field: &ContextField,
+    cache: &mut Cache,
 ) -> Result<Built, LoadFault>
     requires { standing ≤ MOST_STANDING }
     ensures found { (s : Below) → IsBelow awaits standing s → IfOk result (λ b. TakesContext s behind.now field.now b.part) }
@@ -172,7 +192,7 @@ fn read_context(
         return Err(LoadFault::Limit);
     }
     let values = read_values(alloc, field)?;
-    let built = build(alloc, field, values)?;
+    let built = build(alloc, field, values, cache)?;
     if !may_stand(awaits, behind, &built.part) {
         return Err(LoadFault::Context);
     }
@@ -182,10 +202,11 @@ fn read_context(
     Ok(built)
 }
 
-/// The contexts, the oldest first.
+/// The contexts, the oldest first. The translations of their lines go through this cache.
 pub(crate) fn read_contexts(
     alloc: Global,
     fields: &[ContextField],
+    cache: &mut Cache,
 ) -> Result<Vec<ContextPart>, LoadFault>
     ensures found { IfOk result (λ v. AreStacked fields.now v.items) }
     ensures refused { IfErr result (λ e. e ≢ fault.Memory → IsRefusedIn TakesContext RefusesContext context_after nothing_below fields.now e) }
@@ -195,7 +216,7 @@ pub(crate) fn read_contexts(
     let mut contexts = Vec::with_capacity(alloc, fields.len())?;
     for (i, field) in fields.iter().enumerate() {
         let behind = fields.split_at(i + 1).1;
-        let built = read_context(alloc, awaits, standing, behind, field)?;
+        let built = read_context(alloc, awaits, standing, behind, field, cache)?;
         awaits = built.awaits;
         standing += counts(field);
         contexts.push(built.part)?;

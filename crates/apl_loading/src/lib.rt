@@ -21,6 +21,3 @@ mod variables;
 
 pub use error::LoadFault;
 pub use loading::parts_of;
-
-#[cfg(test)]
-mod tests;

@@ -18,9 +18,10 @@ use apl_charset::{Ch, Text};
 use apl_code::Code;
 use apl_symbols::{Class, Symbol};
 use apl_tokens::{Kind, Token, TokenError, tokens};
-use apl_translate::{bind, translate};
+use apl_translate::{Cache, bind};
 use apl_workspace_file::TextField;
 use std::alloc::{AllocError, Global};
+use std::rc::Rc;
 
 // The letter of a class.
 impl Field for u8 {
@@ -132,17 +133,19 @@ pub(crate) fn read_classes(
     }
 }
 
-/// The code of the line of these tokens, a text's, whose names have these classes.
+/// The code of the line of these tokens, a text's, whose names have these classes: kept in the cache,
+/// or made now and kept there.
 pub(crate) fn code_of(
     alloc: Global,
     tokens: &[Token],
     classes: &[Class],
-) -> Result<Code, AllocError>
+    cache: &mut Cache,
+) -> Result<Rc<Code>, AllocError>
     requires { AreOfText tokens.now }
-    ensures { IfOk result (λ code. Translates code false (bound_of tokens.now classes.now).items) }
+    ensures { IfOk result (λ code. Translates code.value false (bound_of tokens.now classes.now).items) }
 {
     let bound = bind(alloc, tokens, classes)?;
-    translate(alloc, &bound)
+    cache.translate(&bound)
 }
 
 /// A statement, or a text that is executed, with its tokens.

@@ -14,24 +14,26 @@ use crate::error::LoadFault;
 use crate::functions::read_functions;
 use crate::variables::read_variables;
 use apl_parts::Parts;
+use apl_translate::Cache;
 use apl_workspace_file::File;
 use std::alloc::Global;
 
 /// The parts that a file holds.
-fn read_parts(alloc: Global, file: &File) -> Result<Parts, LoadFault>
+fn read_parts(alloc: Global, file: &File, cache: &mut Cache) -> Result<Parts, LoadFault>
     ensures held { IfOk result (λ p. AreHeld file.now p) }
     ensures refused { IfErr result (λ e. e ≢ fault.Memory → IsRefused file.now e) }
 {
     let functions = read_functions(alloc, file.functions.as_slice())?;
     let variables = read_variables(alloc, functions.as_slice(), file.variables.as_slice())?;
-    let contexts = read_contexts(alloc, file.contexts.as_slice())?;
+    let contexts = read_contexts(alloc, file.contexts.as_slice(), cache)?;
     Ok(Parts::new(functions, variables, file.origin, contexts))
 }
 
 /// The parts of the workspace that a file of the right form holds. The error is that of the first
 /// faulty one of the functions, the variables and the contexts, the oldest first, and in it of the
-/// first rule that fails: Limit, Array, Definition, Context, Code. Memory: it has run out.
-pub fn parts_of(alloc: Global, file: &File) -> Result<Parts, LoadFault>
+/// first rule that fails: Limit, Array, Definition, Context, Code. Memory: it has run out. The
+/// translations of half-done lines go through this cache, and stay there for the machine of the parts.
+pub fn parts_of(alloc: Global, file: &File, cache: &mut Cache) -> Result<Parts, LoadFault>
     requires { Fits file.now }
     // The file holds these parts, which keep to the rules, and a machine can be made of them.
     ensures held { IfOk result (λ p. IsFileOf file.now p) }
@@ -42,5 +44,5 @@ pub fn parts_of(alloc: Global, file: &File) -> Result<Parts, LoadFault>
     // A file that holds parts that keep to the rules is never refused, and holds no others.
     ensures complete { (p : Pieces) → IsFileOf file.now p → AreRuled p → MatchResult result (λ q. q ≡ p) (λ e. e ≡ fault.Memory) }
 {
-    read_parts(alloc, file)
+    read_parts(alloc, file, cache)
 }

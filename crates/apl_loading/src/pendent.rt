@@ -18,6 +18,7 @@ use apl_machine_state::Operand;
 use apl_parts::{RestPart, StatementPart};
 use apl_symbols::Class;
 use apl_tokens::Token;
+use apl_translate::Cache;
 use apl_workspace_file::{RestField, StatementField};
 use std::alloc::Global;
 
@@ -49,6 +50,7 @@ fn bound_rest(
     classes: Vec<Class>,
     done: usize,
     operands: Vec<Operand>,
+    cache: &mut Cache,
 ) -> Result<PendentLine, LoadFault>
     requires text { AreOfText tokens.now }
     requires classes { length classes.items ≡ length (names_of tokens.now) }
@@ -56,12 +58,13 @@ fn bound_rest(
     ensures made { IfOk result (λ l. IsMade tokens.now l.rest l.action l.listing.items) }
     ensures refused { IfErr result (λ e. e ≢ fault.Memory → (e ≡ fault.Context) × ((code : List AnInstr) → ¬ IsPendentLine tokens.now (record { classes = classes.items; done = done; operands = operands.items }) code)) }
 {
-    let code = code_of(alloc, tokens, classes.as_slice())?;
-    if !has_stack(alloc, &code, done, operands.as_slice())? {
+    let kept = code_of(alloc, tokens, classes.as_slice(), cache)?;
+    let code: &Code = &kept;
+    if !has_stack(alloc, code, done, operands.as_slice())? {
         return Err(LoadFault::Context);
     }
-    let action = last_action(&code, done);
-    let listing = listing(alloc, &code)?;
+    let action = last_action(code, done);
+    let listing = listing(alloc, code)?;
     Ok(PendentLine {
         rest: RestPart::new(classes, done, operands),
         action,
@@ -75,6 +78,7 @@ pub(crate) fn read_rest(
     tokens: &[Token],
     field: &RestField,
     operands: Vec<Operand>,
+    cache: &mut Cache,
 ) -> Result<PendentLine, LoadFault>
     requires { AreOfText tokens.now }
     ensures rest { IfOk result (λ l. Agrees field.now operands.items l.rest) }
@@ -82,7 +86,7 @@ pub(crate) fn read_rest(
     ensures refused { IfErr result (Refuses fault.Context (λ w. IsWaitingBy tokens.now field.now operands.items w)) }
 {
     let classes = read_classes(alloc, tokens, &field.classes)?;
-    bound_rest(alloc, tokens, classes, field.done, operands)
+    bound_rest(alloc, tokens, classes, field.done, operands, cache)
 }
 
 /// A statement, or a text that is executed, that awaits an answer, what the last of its instructions
@@ -99,13 +103,14 @@ pub(crate) fn read_statement(
     alloc: Global,
     field: &StatementField,
     operands: Vec<Operand>,
+    cache: &mut Cache,
 ) -> Result<PendentStatement, LoadFault>
     ensures found { IfOk result (λ s. IsStatementBy field.now operands.items s.part.text s.part.rest) }
     ensures made { IfOk result (λ s. IsMadeOf s.part.text s.part.rest s.action s.listing.items) }
     ensures refused { IfErr result (λ e. e ≢ fault.Memory → (e ≡ fault.Context) × ((text : Line) (w : Waiting) → ¬ IsStatementBy field.now operands.items text w)) }
 {
     let StatementLine { text, tokens } = read_statement_line(alloc, &field.line)?;
-    let line = read_rest(alloc, tokens.as_slice(), &field.rest, operands)?;
+    let line = read_rest(alloc, tokens.as_slice(), &field.rest, operands, cache)?;
     Ok(PendentStatement {
         part: StatementPart {
             text,
@@ -131,6 +136,7 @@ pub(crate) fn read_call_line(
     tokens: &[Token],
     field: &Option<RestField>,
     operands: Vec<Operand>,
+    cache: &mut Cache,
 ) -> Result<CallLine, LoadFault>
     requires { AreOfText tokens.now }
     ensures rest { IfOk result (λ l. IsRestBy tokens.now field.now operands.items l.rest) }
@@ -144,7 +150,7 @@ pub(crate) fn read_call_line(
             listing: Vec::new(alloc),
         }),
         Some(field) => {
-            let line = read_rest(alloc, tokens, field, operands)?;
+            let line = read_rest(alloc, tokens, field, operands, cache)?;
             Ok(CallLine {
                 rest: Some(line.rest),
                 awaits: Some(line.action),

@@ -12,6 +12,8 @@ use std::fmt;
 pub enum Difference {
     /// Output where there is none.
     Output,
+    /// The workspace file that was saved last.
+    File,
     /// The global functions: their definitions or their vectors.
     Functions,
     /// The global variables.
@@ -26,6 +28,7 @@ impl fmt::Display for Difference {
     fn fmt<W: fmt::Write>(&self, f: &mut fmt::Formatter<W>) -> fmt::Result {
         f.write_str(match self {
             Difference::Output => "output",
+            Difference::File => "saved file",
             Difference::Functions => "list of functions",
             Difference::Variables => "list of variables",
             Difference::Origin => "index origin",

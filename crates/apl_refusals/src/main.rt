@@ -1,7 +1,8 @@
 //! Plays a session, as want of memory is tried in it. It reads the session from standard input, lines as they are typed to
 //! the interpreter, and writes what the interpreter writes that gives a line 1,000 steps. Where a call of the session is
-//! refused its memory, the session must stand as before that call, and the call that is made again goes on. The program
-//! takes no memory of its own before the first refusal, so `bin/refuse` can refuse each allocation of a session in turn.
+//! refused its memory, the session must stand as before that call, and the call that is made again goes on. The lines `)SAVE`
+//! and `)LOAD` save the workspace and load it again, in memory: calls like the others. The program takes no memory of its
+//! own before the first refusal, so `bin/refuse` can refuse each allocation of a session in turn.
 #![tactic(auto)]
 
 ghost use Rattle.std.specs.Prelude.{IfOk, ◌≤◌, length};
@@ -10,18 +11,22 @@ mod comparing;
 mod player;
 mod same;
 mod shown;
+mod unmade;
 
 use crate::comparing::{Difference, compare};
 use crate::player::Player;
 use crate::shown::Shown;
+use crate::unmade::Unmade;
 use apl_machine::OutLine;
 use std::alloc::{AllocError, Global};
 use std::io::{self, Read};
 use std::process::ExitCode;
 
-/// What is wrong after a call was refused its memory.
+/// What is wrong with a call, most often after it was refused its memory.
 #[derive(Clone, Copy, Debug, PartialEq, Eq)]
 enum Wrong {
+    /// It is refused for something else.
+    Answered,
     /// Memory is wanting again, to make the call again or to compare.
     Refused,
     /// The session isn't as before the call.
@@ -36,10 +41,20 @@ impl From<AllocError> for Wrong {
     }
 }
 
+impl From<Unmade> for Wrong {
+    fn from(why: Unmade) -> Wrong {
+        match why {
+            Unmade::Memory => Wrong::Refused,
+            Unmade::Other => Wrong::Answered,
+        }
+    }
+}
+
 impl Wrong {
     /// Tells it on standard error.
     fn report<R: Eprint>(self, rt: &R) -> io::Result<()> {
         match self {
+            Wrong::Answered => eprintln!(rt; "the call is refused, and not for want of memory"),
             Wrong::Refused => eprintln!(rt; "memory is wanting a second time"),
             Wrong::Changed(what) => eprintln!(rt; "the refused call has changed {what}"),
             Wrong::Strayed(what) => eprintln!(rt; "made again, the call gives another {what}"),
@@ -98,18 +113,26 @@ fn has_output(player: &mut Player<'_>) -> bool {
     !player.take_output().is_empty()
 }
 
+/// The first difference between two sessions, if there is one.
+fn compare_players(one: &Player<'_>, other: &Player<'_>) -> Result<Option<Difference>, AllocError> {
+    if one.file() != other.file() {
+        return Ok(Some(Difference::File));
+    }
+    compare(one.machine(), other.machine())
+}
+
 /// Looks at a session whose next call was refused its memory, and makes that call again. Beside it stands another to
 /// which the same calls were made, and nothing was refused.
 fn go_on_beside(player: &mut Player<'_>, other: &mut Player<'_>) -> Result<(), Wrong> {
     if has_output(player) {
         return Err(Wrong::Changed(Difference::Output));
     }
-    if let Some(what) = compare(player.machine(), other.machine())? {
+    if let Some(what) = compare_players(player, other)? {
         return Err(Wrong::Changed(what));
     }
     player.play()?;
     other.play()?;
-    match compare(player.machine(), other.machine())? {
+    match compare_players(player, other)? {
         Some(what) => Err(Wrong::Strayed(what)),
         None => Ok(()),
     }
@@ -124,7 +147,7 @@ fn go_on(alloc: Global, input: &[u8], player: &mut Player<'_>) -> Result<(), Wro
 /// Looks at a session at its end, some call of which was refused its memory, as `go_on` does.
 fn compare_end(alloc: Global, input: &[u8], player: &Player<'_>) -> Result<(), Wrong> {
     let other = Player::after(alloc, input, player.calls())?;
-    match compare(player.machine(), other.machine())? {
+    match compare_players(player, &other)? {
         Some(what) => Err(Wrong::Strayed(what)),
         None => Ok(()),
     }
@@ -160,10 +183,11 @@ fn play_once<R: Eprint + AllocGlobal>(
     match player.play() {
         Ok(true) => Ok(Played::Made),
         Ok(false) => Ok(Played::Nothing),
-        Err(AllocError) => match go_on(rt.alloc(), input, player) {
+        Err(Unmade::Memory) => match go_on(rt.alloc(), input, player) {
             Ok(()) => Ok(Played::Again),
             Err(wrong) => Err(blame(rt, player, wrong)),
         },
+        Err(Unmade::Other) => Err(blame(rt, player, Wrong::Answered)),
     }
 }
 

@@ -3,8 +3,10 @@ ghost use Rattle.std.specs.Prelude.{◌≡◌, OnOk, OnErr};
 ghost use Rattle.apl_session.specs.Events.{after_event};
 ghost use Rattle.apl_refusals.specs.Calls.{event_of};
 
+use crate::unmade::Unmade;
 use apl_machine::{Machine, OutLine};
 use apl_session::{FeedError, Session};
+use apl_workspace::{load, save};
 use std::alloc::{AllocError, Global};
 
 /// The most steps that a line is given before it is interrupted.
@@ -40,6 +42,26 @@ fn make(session: &mut Session, call: Call, line: &[u8]) -> Result<(), AllocError
     }
 }
 
+/// A call that is due.
+#[derive(Clone, Copy, Debug)]
+enum Due {
+    /// One of the session.
+    Session(Call),
+    /// The workspace is saved.
+    Save,
+    /// The workspace that was saved last is loaded, in place of the session's.
+    Load,
+}
+
+/// The call that a line asks for.
+fn asked_by(line: &[u8]) -> Due {
+    match line {
+        b")SAVE" => Due::Save,
+        b")LOAD" => Due::Load,
+        _ => Due::Session(Call::Line),
+    }
+}
+
 /// The first line of a text, without its line feed and a carriage return before that, and what stands behind it.
 fn first_line(text: &[u8]) -> (&[u8], &[u8]) {
     match text.iter().position(|byte| *byte == b'\n') {
@@ -55,9 +77,12 @@ fn first_line(text: &[u8]) -> (&[u8], &[u8]) {
 }
 
 /// A session with what is still to be typed. A line is typed as soon as nothing runs, and is interrupted after its steps.
+/// The lines `)SAVE` and `)LOAD` are typed to nobody: they save the workspace in memory and load it again.
 #[derive(Drop)]
 pub struct Player<'a> {
+    alloc: Global,
     session: Session,
+    file: Vec<u8>,
     rest: &'a [u8],
     calls: u64,
     line: u64,
@@ -68,6 +93,8 @@ impl<'a> Player<'a> {
     /// A clear session with this input. It takes no memory.
     pub fn new(alloc: Global, input: &'a [u8]) -> Player<'a> {
         Player {
+            alloc,
+            file: Vec::new(alloc),
             session: Session::new(alloc, Machine::new(alloc)),
             rest: input,
             calls: 0,
@@ -77,7 +104,7 @@ impl<'a> Player<'a> {
     }
 
     /// The session with this input after so many calls, without its output.
-    pub fn after(alloc: Global, input: &'a [u8], calls: u64) -> Result<Player<'a>, AllocError> {
+    pub fn after(alloc: Global, input: &'a [u8], calls: u64) -> Result<Player<'a>, Unmade> {
         let mut player = Player::new(alloc, input);
         for _ in 0..calls {
             player.play()?;
@@ -88,6 +115,11 @@ impl<'a> Player<'a> {
 
     pub fn machine(&self) -> &Machine {
         self.session.machine()
+    }
+
+    /// The workspace file that was saved last; no bytes where none was.
+    pub fn file(&self) -> &[u8] {
+        self.file.as_slice()
     }
 
     /// The lines written since the last call. It takes no memory.
@@ -111,43 +143,71 @@ impl<'a> Player<'a> {
     }
 
     /// The call that is due. There is none at the session's end.
-    fn due(&self) -> Option<Call> {
+    fn due(&self) -> Option<Due> {
         if !self.session.machine().is_idle() {
             if self.steps < STEPS {
-                Some(Call::Step)
+                Some(Due::Session(Call::Step))
             } else {
-                Some(Call::Interrupt)
+                Some(Due::Session(Call::Interrupt))
             }
         } else if self.rest.is_empty() {
             None
         } else {
-            Some(Call::Line)
+            Some(asked_by(first_line(self.rest).0))
         }
     }
 
     /// Counts a call that was made.
-    fn count(&mut self, call: Call) {
+    fn count(&mut self, due: Due) {
         self.calls = self.calls.saturating_add(1);
-        match call {
-            Call::Line => {
+        match due {
+            Due::Session(Call::Step) => self.steps = self.steps.saturating_add(1),
+            Due::Session(Call::Interrupt) => {}
+            Due::Session(Call::Line) | Due::Save | Due::Load => {
                 self.rest = first_line(self.rest).1;
                 self.line = self.line.saturating_add(1);
                 self.steps = 0;
             }
-            Call::Step => self.steps = self.steps.saturating_add(1),
-            Call::Interrupt => {}
+        }
+    }
+
+    /// Saves the workspace. After an error all is as before.
+    fn save(&mut self) -> Result<(), Unmade>
+        ensures { OnErr result (self.new ≡ self.old) }
+    {
+        self.file = save(self.alloc, self.session.machine())?;
+        Ok(())
+    }
+
+    /// Goes on with the workspace that was saved last. After an error all is as before.
+    fn load(&mut self) -> Result<(), Unmade>
+        ensures { OnErr result (self.new ≡ self.old) }
+    {
+        let machine = load(self.alloc, self.file.as_slice())?;
+        self.session = Session::new(self.alloc, machine);
+        Ok(())
+    }
+
+    /// Makes this call. After an error all is as before.
+    fn make(&mut self, due: Due) -> Result<(), Unmade>
+        ensures { OnErr result (self.new ≡ self.old) }
+    {
+        match due {
+            Due::Session(call) => Ok(make(&mut self.session, call, first_line(self.rest).0)?),
+            Due::Save => self.save(),
+            Due::Load => self.load(),
         }
     }
 
     /// Makes the call that is due. False: there is none. After an error all is as before.
-    pub fn play(&mut self) -> Result<bool, AllocError>
+    pub fn play(&mut self) -> Result<bool, Unmade>
         ensures { OnErr result (self.new ≡ self.old) }
     {
-        let Some(call) = self.due() else {
+        let Some(due) = self.due() else {
             return Ok(false);
         };
-        make(&mut self.session, call, first_line(self.rest).0)?;
-        self.count(call);
+        self.make(due)?;
+        self.count(due);
         Ok(true)
     }
 }

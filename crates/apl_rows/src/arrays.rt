@@ -12,76 +12,87 @@
 //! | `display A`, `format A` | the lines that show it; it as characters |
 
 use crate::lacks::Lack;
-use crate::words::{array, count, counts, find, next_part};
-use crate::writing::{write_cells, write_found, write_line, write_texts, write_value};
-use apl_arrays::{Array, Cell, Ravel, Stop, within_limits};
+use crate::page::Page;
+use crate::words::{count, find, next_part};
+use crate::writing::{write_answer, write_cells, write_found, write_value};
+use apl_arrays::{Array, Ravel, within_limits};
 use apl_charset::Ch;
 use apl_format::{display, format1};
 use apl_scalar::{Dyadic, Monadic, dyadic, monadic};
 use apl_struct::{index, index_assign, structural1, structural2};
 use apl_symbols::Primitive;
 use arrayvec::ArrayVec;
-use std::alloc::{AllocError, Global};
 
-/// Writes the array that a call answers.
-pub fn write_answer(out: &mut String, answer: Result<Array, Stop>) -> Result<(), Lack> {
-    let value = answer?;
-    Ok(write_value(out, Some(&value))?)
-}
-
-/// Writes the elements of an array, one after another.
-fn write_elements_of(alloc: Global, out: &mut String, array: &Array) -> Result<(), AllocError> {
-    let cells: Vec<Cell> = array.iter().collect(alloc)?;
-    write_cells(out, &cells)
+/// Writes the copy of an array.
+fn write_copy(page: &mut Page, array: &Array) {
+    match array.copy() {
+        Ok(copy) => write_value(page, Some(&copy)),
+        Err(error) => page.refuse(error),
+    }
 }
 
 /// Writes an array as its copy, and its elements.
-fn write_array_of(alloc: Global, out: &mut String, text: &str) -> Result<(), Lack> {
-    let array = array(alloc, text)?;
-    write_answer(out, Ok(array.copy()?))?;
-    write!(out, "rank {},", array.rank())?;
-    Ok(write_elements_of(alloc, out, &array)?)
+fn write_array_of(page: &mut Page, text: &str) {
+    let Some(array) = page.array(text) else {
+        return;
+    };
+    write_copy(page, &array);
+    page.said("rank ", &array.rank());
+    page.mark(',');
+    let cells = page.list(array.iter().collect(page.alloc));
+    write_cells(page, &cells);
 }
 
-/// The element at an index list.
-fn element_at(alloc: Global, array: &Array, text: &str) -> Result<Option<Cell>, AllocError> {
-    let index = counts(alloc, text)?;
-    Ok(array.at(&index))
+/// Writes the element of an array at an index list.
+fn write_element(page: &mut Page, array: &Array, text: &str) {
+    let index = page.counts(text);
+    write_found(page, array.at(&index));
 }
 
 /// Writes the elements of an array at index lists.
-fn write_elements(alloc: Global, out: &mut String, text: &str) -> Result<(), Lack> {
+fn write_elements(page: &mut Page, text: &str) {
     let (first, text) = next_part(text);
-    let array = array(alloc, first)?;
+    let Some(array) = page.array(first) else {
+        return;
+    };
     for part in text.split('◊') {
-        write_found(out, element_at(alloc, &array, part)?)?;
+        write_element(page, &array, part);
     }
-    Ok(out.push('\n')?)
+    page.end();
 }
 
 /// Writes whether an array may have a shape.
-fn write_limits(alloc: Global, out: &mut String, text: &str) -> Result<(), Lack> {
-    let shape = counts(alloc, text)?;
-    within_limits(&shape)?;
-    Ok(write_line(out, "within")?)
+fn write_limits(page: &mut Page, text: &str) {
+    let shape = page.counts(text);
+    match within_limits(&shape) {
+        Ok(()) => page.line("within"),
+        Err(fault) => page.refuse(fault),
+    }
 }
 
 /// Writes the array of no characters whose axes are of the length 0 and another.
-fn write_empty(alloc: Global, out: &mut String, text: &str) -> Result<(), Lack> {
+fn write_empty(page: &mut Page, text: &str) {
     let mut shape = ArrayVec::new();
     shape.push(0);
     shape.push(count(text));
-    let array = Array::new(shape, Ravel::Chars(Vec::new(alloc)))?;
-    Ok(write_value(out, Some(&array))?)
+    match Array::new(shape, Ravel::Chars(Vec::new(page.alloc))) {
+        Ok(array) => write_value(page, Some(&array)),
+        Err(fault) => page.refuse(fault),
+    }
+}
+
+/// The arrays on both sides of a mark.
+fn two(page: &mut Page, text: &str) -> Option<(Array, Array)> {
+    let (first, second) = next_part(text);
+    let first = page.array(first)?;
+    Some((first, page.array(second)?))
 }
 
 /// Writes whether two arrays are equal.
-fn write_equal(alloc: Global, out: &mut String, text: &str) -> Result<(), Lack> {
-    let (first, second) = next_part(text);
-    let a = array(alloc, first)?;
-    let b = array(alloc, second)?;
-    let said = if a == b { "equal" } else { "different" };
-    Ok(write_line(out, said)?)
+fn write_equal(page: &mut Page, text: &str) {
+    if let Some((a, b)) = two(page, text) {
+        page.line(if a == b { "equal" } else { "different" });
+    }
 }
 
 /// The scalar functions of one argument by their symbols.
@@ -120,164 +131,146 @@ const DYADIC: [(&str, Dyadic); 18] = [
 ];
 
 /// The scalar function of two arguments that a symbol is.
-pub fn dyadic_of(word: &str) -> Result<Dyadic, Lack> {
-    find(&DYADIC, word).ok_or(Lack::Words)
+pub fn dyadic_of(word: &str) -> Option<Dyadic> {
+    find(&DYADIC, word)
 }
 
 /// The primitive function that a symbol is.
-fn primitive_of(word: &str) -> Result<Primitive, Lack> {
-    let c = word.chars().next().ok_or(Lack::Words)?;
-    let c = Ch::new(c).ok_or(Lack::Words)?;
-    Primitive::new(c).ok_or(Lack::Words)
+fn primitive_of(word: &str) -> Option<Primitive> {
+    Primitive::new(Ch::new(word.chars().next()?)?)
 }
 
 /// Writes the value of a scalar function of one argument.
-fn write_monadic(alloc: Global, out: &mut String, text: &str) -> Result<(), Lack> {
-    let (word, text) = next_part(text);
-    let function = find(&MONADIC, word).ok_or(Lack::Words)?;
-    let b = array(alloc, text)?;
-    write_answer(out, monadic(alloc, function, &b))
+fn write_monadic_of(page: &mut Page, function: Monadic, text: &str) {
+    if let Some(b) = page.array(text) {
+        write_answer(page, monadic(page.alloc, function, &b));
+    }
 }
 
 /// Writes the value of a scalar function of two arguments.
-fn write_dyadic(alloc: Global, out: &mut String, text: &str) -> Result<(), Lack> {
+fn write_dyadic_of(page: &mut Page, function: Dyadic, text: &str) {
+    if let Some((a, b)) = two(page, text) {
+        write_answer(page, dyadic(page.alloc, function, &a, &b));
+    }
+}
+
+/// Writes the value of the scalar function of one argument that a symbol is.
+fn write_monadic(page: &mut Page, text: &str) {
     let (word, text) = next_part(text);
-    let (first, second) = next_part(text);
-    let function = dyadic_of(word)?;
-    let a = array(alloc, first)?;
-    let b = array(alloc, second)?;
-    write_answer(out, dyadic(alloc, function, &a, &b))
+    match find(&MONADIC, word) {
+        Some(function) => write_monadic_of(page, function, text),
+        None => page.refuse(Lack::Words),
+    }
+}
+
+/// Writes the value of the scalar function of two arguments that a symbol is.
+fn write_dyadic(page: &mut Page, text: &str) {
+    let (word, text) = next_part(text);
+    match dyadic_of(word) {
+        Some(function) => write_dyadic_of(page, function, text),
+        None => page.refuse(Lack::Words),
+    }
+}
+
+/// Writes the value of a function of structure of one argument.
+fn write_structural1(page: &mut Page, function: Primitive, text: &str) {
+    if let Some(b) = page.array(text) {
+        write_answer(page, structural1(page.alloc, function, None, &b, 1));
+    }
 }
 
 /// Writes the value of a function of structure of two arguments.
-fn write_structural2(
-    alloc: Global,
-    out: &mut String,
-    function: Primitive,
-    text: &str,
-) -> Result<(), Lack> {
-    let (first, second) = next_part(text);
-    let a = array(alloc, first)?;
-    let b = array(alloc, second)?;
-    write_answer(out, structural2(alloc, function, None, &a, &b, 1))
+fn write_structural2(page: &mut Page, function: Primitive, text: &str) {
+    if let Some((a, b)) = two(page, text) {
+        write_answer(page, structural2(page.alloc, function, None, &a, &b, 1));
+    }
 }
 
 /// Writes the value of a function of structure of one argument or two.
-fn write_structural(alloc: Global, out: &mut String, text: &str) -> Result<(), Lack> {
+fn write_structural(page: &mut Page, text: &str) {
     let (word, text) = next_part(text);
-    let function = primitive_of(word)?;
-    if text.contains('◊') {
-        return write_structural2(alloc, out, function, text);
+    match primitive_of(word) {
+        Some(function) if text.contains('◊') => write_structural2(page, function, text),
+        Some(function) => write_structural1(page, function, text),
+        None => page.refuse(Lack::Words),
     }
-    let b = array(alloc, text)?;
-    write_answer(out, structural1(alloc, function, None, &b, 1))
 }
 
 /// The slot of a text.
-fn slot(alloc: Global, text: &str) -> Result<Option<Array>, Lack> {
-    if text == "-" {
-        return Ok(None);
-    }
-    Ok(Some(array(alloc, text)?))
+fn slot(page: &mut Page, text: &str) -> Option<Array> {
+    if text == "-" { None } else { page.array(text) }
 }
 
 /// The index list whose slots stand between the marks.
-pub fn slots(alloc: Global, text: &str) -> Result<Vec<Option<Array>>, Lack> {
-    let mut slots = Vec::new(alloc);
+pub fn slots(page: &mut Page, text: &str) -> Vec<Option<Array>> {
+    let mut slots = Vec::new(page.alloc);
     for part in text.split('◊') {
-        slots.push(slot(alloc, part)?)?;
+        let slot = slot(page, part);
+        page.add(&mut slots, slot);
     }
-    Ok(slots)
+    slots
 }
 
 /// Writes what an index list selects.
-fn write_indexed(alloc: Global, out: &mut String, text: &str) -> Result<(), Lack> {
+fn write_indexed(page: &mut Page, text: &str) {
     let (first, text) = next_part(text);
-    let b = array(alloc, first)?;
-    let slots = slots(alloc, text)?;
-    write_answer(out, index(alloc, &b, &slots, 1))
+    let slots = slots(page, text);
+    if let Some(b) = page.array(first) {
+        write_answer(page, index(page.alloc, &b, &slots, 1));
+    }
 }
 
 /// Writes an array with others in an index list's places.
-fn write_replaced(alloc: Global, out: &mut String, v: &Array, text: &str) -> Result<(), Lack> {
+fn write_replaced(page: &mut Page, v: &Array, text: &str) {
     let (second, text) = next_part(text);
-    let b = array(alloc, second)?;
-    let slots = slots(alloc, text)?;
-    write_answer(out, index_assign(alloc, v, &slots, &b, 1))
+    let slots = slots(page, text);
+    if let Some(b) = page.array(second) {
+        write_answer(page, index_assign(page.alloc, v, &slots, &b, 1));
+    }
 }
 
 /// Writes what an indexed assignment leaves.
-fn write_assigned(alloc: Global, out: &mut String, text: &str) -> Result<(), Lack> {
+fn write_assigned(page: &mut Page, text: &str) {
     let (first, text) = next_part(text);
-    let v = array(alloc, first)?;
-    write_replaced(alloc, out, &v, text)
+    if let Some(v) = page.array(first) {
+        write_replaced(page, &v, text);
+    }
 }
 
 /// Writes the lines that show an array.
-fn write_display(alloc: Global, out: &mut String, text: &str) -> Result<(), Lack> {
-    let array = array(alloc, text)?;
-    let lines = display(alloc, &array)?;
-    Ok(write_texts(out, &lines)?)
+fn write_display(page: &mut Page, text: &str) {
+    let Some(array) = page.array(text) else {
+        return;
+    };
+    match display(page.alloc, &array) {
+        Ok(lines) => page.texts(&lines),
+        Err(error) => page.refuse(error),
+    }
 }
 
 /// Writes an array as characters.
-fn write_formatted(alloc: Global, out: &mut String, text: &str) -> Result<(), Lack> {
-    let array = array(alloc, text)?;
-    write_answer(out, format1(alloc, &array))
-}
-
-/// The lines of this module.
-#[derive(Clone, Copy)]
-pub enum Directive {
-    Array,
-    At,
-    Limits,
-    Empty,
-    Equal,
-    Monadic,
-    Dyadic,
-    Structural,
-    Index,
-    Assign,
-    Display,
-    Format,
-}
-
-/// The words of these lines.
-pub const DIRECTIVES: [(&str, Directive); 12] = [
-    ("array", Directive::Array),
-    ("at", Directive::At),
-    ("limits", Directive::Limits),
-    ("empty", Directive::Empty),
-    ("equal", Directive::Equal),
-    ("monadic", Directive::Monadic),
-    ("dyadic", Directive::Dyadic),
-    ("structural", Directive::Structural),
-    ("index", Directive::Index),
-    ("assign", Directive::Assign),
-    ("display", Directive::Display),
-    ("format", Directive::Format),
-];
-
-/// Does what a line asks for.
-pub fn follow(
-    alloc: Global,
-    out: &mut String,
-    directive: Directive,
-    text: &str,
-) -> Result<(), Lack> {
-    match directive {
-        Directive::Array => write_array_of(alloc, out, text),
-        Directive::At => write_elements(alloc, out, text),
-        Directive::Limits => write_limits(alloc, out, text),
-        Directive::Empty => write_empty(alloc, out, text),
-        Directive::Equal => write_equal(alloc, out, text),
-        Directive::Monadic => write_monadic(alloc, out, text),
-        Directive::Dyadic => write_dyadic(alloc, out, text),
-        Directive::Structural => write_structural(alloc, out, text),
-        Directive::Index => write_indexed(alloc, out, text),
-        Directive::Assign => write_assigned(alloc, out, text),
-        Directive::Display => write_display(alloc, out, text),
-        Directive::Format => write_formatted(alloc, out, text),
+fn write_formatted(page: &mut Page, text: &str) {
+    if let Some(array) = page.array(text) {
+        write_answer(page, format1(page.alloc, &array));
     }
+}
+
+/// Does what a line asks for, if its word is one of these.
+pub fn play(page: &mut Page, word: &str, text: &str) -> bool {
+    match word {
+        "array" => write_array_of(page, text),
+        "at" => write_elements(page, text),
+        "limits" => write_limits(page, text),
+        "empty" => write_empty(page, text),
+        "equal" => write_equal(page, text),
+        "monadic" => write_monadic(page, text),
+        "dyadic" => write_dyadic(page, text),
+        "structural" => write_structural(page, text),
+        "index" => write_indexed(page, text),
+        "assign" => write_assigned(page, text),
+        "display" => write_display(page, text),
+        "format" => write_formatted(page, text),
+        _ => return false,
+    }
+    true
 }

@@ -9,12 +9,11 @@
 //! | `again LISTING` | the listing of the code that is listed |
 //! | `cache ACT◊..` | `keep CLASSES TEXT`, `look CLASSES TEXT`, `first N`: lines of a cache, the last ones the numbers from 0 on |
 
-use crate::lacks::Lack;
-use crate::words::{bytes, characters, classes, count, next_word, number};
-use crate::writing::{write_bytes, write_line};
+use crate::page::Page;
+use crate::words::{count, next_word, number};
 use apl_charset::Ch;
 use apl_code::Code;
-use apl_listing::{EmptySlots, Kind, assemble, kinds, listing};
+use apl_listing::{Kind, assemble, kinds, listing};
 use apl_symbols::Class;
 use apl_tokens::{TokenError, tokens};
 use apl_translate::{Bound, Cache, bind, translate};
@@ -27,183 +26,195 @@ fn bound(alloc: Global, text: &[Ch], classes: &[Class]) -> Result<Bound, TokenEr
 }
 
 /// The bound line of classes and a text.
-pub fn bound_line(alloc: Global, text: &str) -> Result<Bound, Lack> {
+pub fn bound_line(page: &mut Page, text: &str) -> Option<Bound> {
     let (letters, text) = next_word(text);
-    let classes = classes(alloc, letters)?;
-    let text = characters(alloc, text)?;
-    Ok(bound(alloc, &text, &classes)?)
+    let classes = page.classes(letters);
+    let text = page.characters(text);
+    let answer = bound(page.alloc, &text, &classes);
+    page.kept(answer)
 }
 
 /// Writes the listing of a code.
-pub fn write_code(alloc: Global, out: &mut String, code: &Code) -> Result<(), AllocError> {
-    let text = listing(alloc, code)?;
-    write_bytes(out, &text)
+pub fn write_code(page: &mut Page, code: &Code) {
+    match listing(page.alloc, code) {
+        Ok(text) => page.bytes(&text),
+        Err(error) => page.refuse(error),
+    }
 }
 
-/// Writes the listing of a line's code.
-fn write_translated(alloc: Global, out: &mut String, bound: &Bound) -> Result<(), AllocError> {
-    let code = translate(alloc, bound)?;
-    write_code(alloc, out, &code)
+/// Writes the listing of a code that a call answers.
+fn write_made(page: &mut Page, code: Result<Code, AllocError>) {
+    match code {
+        Ok(code) => write_code(page, &code),
+        Err(error) => page.refuse(error),
+    }
 }
 
 /// Writes the listing of the code of classes and a text.
-fn write_listing_of(alloc: Global, out: &mut String, text: &str) -> Result<(), Lack> {
-    let bound = bound_line(alloc, text)?;
-    Ok(write_translated(alloc, out, &bound)?)
+fn write_listing_of(page: &mut Page, text: &str) {
+    if let Some(bound) = bound_line(page, text) {
+        write_made(page, translate(page.alloc, &bound));
+    }
 }
 
 /// Writes the listing of what a text lists.
-fn write_assembled_again(alloc: Global, out: &mut String, text: &[u8]) -> Result<(), Lack> {
-    let code = assemble(alloc, text)?;
-    Ok(write_code(alloc, out, &code)?)
+fn write_assembled_again(page: &mut Page, text: &[u8]) {
+    match assemble(page.alloc, text) {
+        Ok(code) => write_code(page, &code),
+        Err(error) => page.refuse(error),
+    }
 }
 
 /// Writes the listing of what a listing lists.
-fn write_again(alloc: Global, out: &mut String, text: &str) -> Result<(), Lack> {
-    let text = bytes(alloc, text)?;
-    write_assembled_again(alloc, out, &text)
+fn write_again(page: &mut Page, text: &str) {
+    let text = page.bytes_of(text);
+    write_assembled_again(page, &text);
 }
 
 /// Writes the listing of a code's copy, and that of what its listing lists.
-fn write_code_again(alloc: Global, out: &mut String, code: &Code) -> Result<(), Lack> {
-    write_code(alloc, out, &code.copy(alloc)?)?;
-    let text = listing(alloc, code)?;
-    write_assembled_again(alloc, out, &text)
+fn write_code_again(page: &mut Page, code: &Code) {
+    write_made(page, code.copy(page.alloc));
+    match listing(page.alloc, code) {
+        Ok(text) => write_assembled_again(page, &text),
+        Err(error) => page.refuse(error),
+    }
+}
+
+/// Writes the listing of the code of a copy of a line.
+fn write_bound_copy(page: &mut Page, bound: &Bound) {
+    match bound.copy(page.alloc) {
+        Ok(copy) => write_made(page, translate(page.alloc, &copy)),
+        Err(error) => page.refuse(error),
+    }
+}
+
+/// Writes the listings of copies of a line, and of its code.
+fn write_copies_of(page: &mut Page, bound: &Bound) {
+    write_bound_copy(page, bound);
+    match translate(page.alloc, bound) {
+        Ok(code) => write_code_again(page, &code),
+        Err(error) => page.refuse(error),
+    }
 }
 
 /// Writes the listings of copies of the line of classes and a text, and of its code.
-fn write_copies(alloc: Global, out: &mut String, text: &str) -> Result<(), Lack> {
-    let bound = bound_line(alloc, text)?;
-    write_translated(alloc, out, &bound.copy(alloc)?)?;
-    let code = translate(alloc, &bound)?;
-    write_code_again(alloc, out, &code)
+fn write_copies(page: &mut Page, text: &str) {
+    if let Some(bound) = bound_line(page, text) {
+        write_copies_of(page, &bound);
+    }
+}
+
+/// The code that a text lists.
+fn assembled(page: &mut Page, text: &str) -> Option<Code> {
+    let text = page.bytes_of(text);
+    let answer = assemble(page.alloc, &text);
+    page.kept(answer)
 }
 
 /// Writes how many instructions a text lists.
-fn write_assembled(alloc: Global, out: &mut String, text: &str) -> Result<(), Lack> {
-    let text = bytes(alloc, text)?;
-    let code = assemble(alloc, &text)?;
-    Ok(writeln!(out, "{} instructions", code.len())?)
+fn write_assembled(page: &mut Page, text: &str) {
+    if let Some(code) = assembled(page, text) {
+        page.count(&code.len(), " instructions");
+    }
 }
 
 /// Writes which slots of an index list are empty.
-fn write_empty_slots(out: &mut String, slots: &EmptySlots) -> Result<(), AllocError> {
-    out.push_str("slots")?;
-    for empty in slots.as_slice() {
-        out.push_str(if *empty { " empty" } else { " full" })?;
+fn write_empty_slots(page: &mut Page, slots: &[bool]) {
+    page.put("slots");
+    for empty in slots {
+        page.put(if *empty { " empty" } else { " full" });
     }
-    out.push('\n')
-}
-
-/// Writes the kind of an operand.
-fn write_kind(out: &mut String, kind: &Kind) -> Result<(), AllocError> {
-    match kind {
-        Kind::Value => write_line(out, "value"),
-        Kind::Slots(slots) => write_empty_slots(out, slots),
-    }
+    page.end();
 }
 
 /// Writes the kinds of operands, a line each.
-fn write_kind_list(out: &mut String, kinds: &[Kind]) -> Result<(), AllocError> {
+fn write_kind_list(page: &mut Page, kinds: &[Kind]) {
     for kind in kinds {
-        write_kind(out, kind)?;
+        match kind {
+            Kind::Value => page.line("value"),
+            Kind::Slots(slots) => write_empty_slots(page, slots.as_slice()),
+        }
     }
-    Ok(())
-}
-
-/// What so many instructions of a listing leave on the operand stack.
-fn kinds_after(alloc: Global, text: &str, done: usize) -> Result<Vec<Kind>, Lack> {
-    let text = bytes(alloc, text)?;
-    let code = assemble(alloc, &text)?;
-    Ok(kinds(alloc, &code, done)?)
 }
 
 /// Writes what so many instructions of a code leave on the operand stack.
-fn write_kinds(alloc: Global, out: &mut String, text: &str) -> Result<(), Lack> {
+fn write_kinds_after(page: &mut Page, code: &Code, done: usize) {
+    match kinds(page.alloc, code, done) {
+        Ok(kinds) => write_kind_list(page, &kinds),
+        Err(error) => page.refuse(error),
+    }
+}
+
+/// Writes what so many instructions of a listing leave on the operand stack.
+fn write_kinds(page: &mut Page, text: &str) {
     let (number, text) = next_word(text);
-    let kinds = kinds_after(alloc, text, count(number))?;
-    Ok(write_kind_list(out, &kinds)?)
+    if let Some(code) = assembled(page, text) {
+        write_kinds_after(page, &code, count(number));
+    }
 }
 
 /// Lets a cache translate the line of classes and a text.
-fn keep(alloc: Global, cache: &mut Cache, text: &str) -> Result<(), Lack> {
-    let bound = bound_line(alloc, text)?;
-    cache.translate(&bound)?;
-    Ok(())
+fn keep(page: &mut Page, cache: &mut Cache, text: &str) {
+    let Some(bound) = bound_line(page, text) else {
+        return;
+    };
+    if let Err(error) = cache.translate(&bound) {
+        page.refuse(error);
+    }
 }
 
 /// Lets a cache translate the lines that are numbers, so many from 0 on.
-fn keep_numbers(alloc: Global, cache: &mut Cache, most: u64) -> Result<(), Lack> {
+fn keep_numbers(page: &mut Page, cache: &mut Cache, most: u64) {
     for number in 0..most {
-        let text = format!(in alloc; "- {number}")?;
-        keep(alloc, cache, &text)?;
+        match format!(in page.alloc; "- {number}") {
+            Ok(text) => keep(page, cache, text.as_str()),
+            Err(error) => page.refuse(error),
+        }
     }
-    Ok(())
 }
 
 /// Writes whether a cache has the code of the line of classes and a text.
-fn look(alloc: Global, out: &mut String, cache: &Cache, text: &str) -> Result<(), Lack> {
-    let bound = bound_line(alloc, text)?;
+fn look(page: &mut Page, cache: &Cache, text: &str) {
+    let Some(bound) = bound_line(page, text) else {
+        return;
+    };
     match cache.cached(&bound) {
-        Some(code) => writeln!(out, "kept, of {} instructions", code.len())?,
-        None => write_line(out, "not kept")?,
+        Some(code) => {
+            page.put("kept, of ");
+            page.count(&code.len(), " instructions");
+        }
+        None => page.line("not kept"),
     }
-    Ok(())
 }
 
 /// Does something with a cache.
-fn act(alloc: Global, out: &mut String, cache: &mut Cache, text: &str) -> Result<(), Lack> {
+fn act(page: &mut Page, cache: &mut Cache, text: &str) {
     let (word, text) = next_word(text);
     match word {
-        "keep" => keep(alloc, cache, text),
-        "first" => keep_numbers(alloc, cache, number(text)),
-        _ => look(alloc, out, cache, text),
+        "keep" => keep(page, cache, text),
+        "first" => keep_numbers(page, cache, number(text)),
+        _ => look(page, cache, text),
     }
 }
 
 /// Does with a new cache what stands between the marks.
-fn write_cache(alloc: Global, out: &mut String, text: &str) -> Result<(), Lack> {
-    let mut cache = Cache::new(alloc);
+fn write_cache(page: &mut Page, text: &str) {
+    let mut cache = Cache::new(page.alloc);
     for part in text.split('◊') {
-        act(alloc, out, &mut cache, part)?;
+        act(page, &mut cache, part);
     }
-    Ok(())
 }
 
-/// The lines of this module.
-#[derive(Clone, Copy)]
-pub enum Directive {
-    Listing,
-    Copies,
-    Kinds,
-    Assemble,
-    Again,
-    Cache,
-}
-
-/// The words of these lines.
-pub const DIRECTIVES: [(&str, Directive); 6] = [
-    ("listing", Directive::Listing),
-    ("copies", Directive::Copies),
-    ("kinds", Directive::Kinds),
-    ("assemble", Directive::Assemble),
-    ("again", Directive::Again),
-    ("cache", Directive::Cache),
-];
-
-/// Does what a line asks for.
-pub fn follow(
-    alloc: Global,
-    out: &mut String,
-    directive: Directive,
-    text: &str,
-) -> Result<(), Lack> {
-    match directive {
-        Directive::Listing => write_listing_of(alloc, out, text),
-        Directive::Copies => write_copies(alloc, out, text),
-        Directive::Kinds => write_kinds(alloc, out, text),
-        Directive::Assemble => write_assembled(alloc, out, text),
-        Directive::Again => write_again(alloc, out, text),
-        Directive::Cache => write_cache(alloc, out, text),
+/// Does what a line asks for, if its word is one of these.
+pub fn play(page: &mut Page, word: &str, text: &str) -> bool {
+    match word {
+        "listing" => write_listing_of(page, text),
+        "copies" => write_copies(page, text),
+        "kinds" => write_kinds(page, text),
+        "assemble" => write_assembled(page, text),
+        "again" => write_again(page, text),
+        "cache" => write_cache(page, text),
+        _ => return false,
     }
+    true
 }

@@ -7,6 +7,7 @@ use apl_faults::Fault;
 use apl_listing::AsmError;
 use apl_session::FeedError;
 use apl_tokens::TokenError;
+use apl_workspace::{LoadError, SaveError};
 use std::alloc::{AllocError, AllocFailed};
 
 /// Why a line of a row comes to nothing else.
@@ -99,6 +100,24 @@ impl From<FeedError> for Lack {
         match error {
             FeedError::Busy => Lack::Busy,
             FeedError::Memory => Lack::Memory,
+        }
+    }
+}
+
+impl From<SaveError> for Lack {
+    fn from(error: SaveError) -> Lack {
+        match error {
+            SaveError::Memory => Lack::Memory,
+            SaveError::Running => Lack::Error(error.number()),
+        }
+    }
+}
+
+impl From<LoadError> for Lack {
+    fn from(error: LoadError) -> Lack {
+        match error {
+            LoadError::Memory => Lack::Memory,
+            _ => Lack::Error(error.number()),
         }
     }
 }

@@ -2,177 +2,136 @@
 
 use crate::codes::{bound_line, write_code};
 use crate::lacks::Lack;
+use crate::page::Page;
 use crate::parts::write_parts;
-use crate::words::{count, name};
-use crate::writing::{
-    write_class, write_line, write_named, write_numbers, write_operands, write_value,
-};
+use crate::words::count;
+use crate::writing::{write_class, write_objects, write_operands, write_value};
 use apl_debug::{state_indicator, stops, traces};
-use apl_machine::{Frame, Level, Machine};
+use apl_listed::code_of;
+use apl_machine::{Level, Machine};
 use apl_symbols::Name;
-use std::alloc::{AllocError, Global};
 
-/// Writes a frame: its code, how many of its instructions are done, and its operands.
-fn write_frame_of(alloc: Global, out: &mut String, frame: &Frame<'_>) -> Result<(), AllocError> {
-    write_code(alloc, out, frame.code)?;
-    writeln!(out, "{} done", frame.done)?;
-    write_operands(out, frame.operands)
-}
-
-/// Writes what the context of this number is doing, from 0 for the newest.
-fn write_frame(
-    alloc: Global,
-    out: &mut String,
-    machine: &Machine,
-    text: &str,
-) -> Result<(), AllocError> {
+/// Writes what the context of this number is doing, from 0 for the newest: its code, how many of its instructions are
+/// done, and its operands.
+fn write_frame(page: &mut Page, machine: &Machine, text: &str) {
     match machine.frame(count(text)) {
-        Some(frame) => write_frame_of(alloc, out, &frame),
-        None => write_line(out, "no frame"),
+        Some(frame) => {
+            write_code(page, frame.code);
+            page.count(&frame.done, " done");
+            write_operands(page, frame.operands);
+        }
+        None => page.line("no frame"),
     }
 }
 
 /// Writes the class of a name, whether it is that of a global variable, and whether of a global function.
-fn write_class_of(out: &mut String, machine: &Machine, name: &Name) -> Result<(), AllocError> {
-    write_class(out, machine.class_of(name))?;
+fn write_class_of(page: &mut Page, machine: &Machine, name: &Name) {
+    write_class(page, machine.class_of(name));
     if machine.is_variable(name) {
-        out.push_str(", a global variable")?;
+        page.put(", a global variable");
     }
     if machine.definition(name).is_some() {
-        out.push_str(", a global function")?;
+        page.put(", a global function");
     }
-    out.push('\n')
+    page.end();
 }
 
 /// Writes a vector of lines, if there is one.
-fn write_vector(out: &mut String, word: &str, lines: Option<&[usize]>) -> Result<(), AllocError> {
-    out.push_str(word)?;
+fn write_vector(page: &mut Page, word: &str, lines: Option<&[usize]>) {
+    page.put(word);
     match lines {
-        Some(lines) => write_numbers(out, lines)?,
-        None => out.push_str("none")?,
+        Some(lines) => page.numbers(lines),
+        None => page.put("none"),
     }
-    out.push('\n')
+    page.end();
 }
 
-/// Writes the stop and trace vectors of a function.
-fn write_watched(out: &mut String, machine: &Machine, name: &Name) -> Result<(), AllocError> {
-    write_vector(out, "stops: ", stops(machine, name))?;
-    write_vector(out, "traces: ", traces(machine, name))
+/// Writes the listings of lines, each behind the number of its line.
+fn write_listings(page: &mut Page, listings: &[Vec<u8>]) {
+    for (index, listing) in listings.iter().enumerate() {
+        page.mark('[');
+        page.count(&(index + 1), "]");
+        page.bytes(listing.as_slice());
+    }
+}
+
+/// Writes the listings of the lines of a function, as they would begin now.
+fn write_codes(page: &mut Page, machine: &Machine, text: &str) {
+    let name = page.characters(text);
+    match code_of(page.alloc, machine, &name) {
+        Ok(Some(listings)) => write_listings(page, &listings),
+        Ok(None) => page.line("no function"),
+        Err(error) => page.refuse(error),
+    }
 }
 
 /// Writes standing calls, a line each.
-fn write_calls(out: &mut String, levels: &[Level]) -> Result<(), AllocError> {
+fn write_calls(page: &mut Page, levels: &[Level]) {
     for level in levels {
-        write_named(out, "", level.name.as_slice())?;
-        write!(out, "at {}", level.line)?;
-        write_line(out, if level.suspended { ", suspended" } else { "" })?;
+        page.named("", level.name.as_slice());
+        page.said("at ", &level.line);
+        page.line(if level.suspended { ", suspended" } else { "" });
     }
-    Ok(())
 }
 
 /// Writes the standing calls, newest first.
-fn write_levels(out: &mut String, machine: &Machine) -> Result<(), AllocError> {
-    let levels = state_indicator(machine)?;
-    write_calls(out, &levels)
-}
-
-/// Writes names, each with what it is.
-fn write_objects(out: &mut String, names: &[(Name, bool)]) -> Result<(), AllocError> {
-    for (name, is_function) in names {
-        write_named(out, "", name.as_slice())?;
-        write_line(out, if *is_function { "function" } else { "variable" })?;
+fn write_levels(page: &mut Page, machine: &Machine) {
+    match state_indicator(machine) {
+        Ok(levels) => write_calls(page, &levels),
+        Err(error) => page.refuse(error),
     }
-    Ok(())
 }
 
-/// Writes the global names.
-fn write_globals(out: &mut String, machine: &Machine) -> Result<(), AllocError> {
-    let names = machine.globals()?;
-    write_objects(out, &names)
+/// Writes the global names, each with what it is.
+fn write_globals(page: &mut Page, machine: &Machine) {
+    match machine.globals() {
+        Ok(names) => write_objects(page, &names, '\n'),
+        Err(error) => page.refuse(error),
+    }
 }
 
 /// Writes the code that the cache has of a line, where its names have these classes.
-fn write_cached(
-    alloc: Global,
-    out: &mut String,
-    machine: &Machine,
-    text: &str,
-) -> Result<(), Lack> {
-    let bound = bound_line(alloc, text)?;
+fn write_cached(page: &mut Page, machine: &Machine, text: &str) {
+    let Some(bound) = bound_line(page, text) else {
+        return;
+    };
     match machine.cache().cached(&bound) {
-        Some(code) => write_code(alloc, out, code)?,
-        None => write_line(out, "not kept")?,
+        Some(code) => write_code(page, code),
+        None => page.line("not kept"),
     }
-    Ok(())
 }
 
-/// Looks at a name.
-#[derive(Clone, Copy)]
-enum NameLook {
-    Value,
-    Class,
-    Watched,
-}
-
-/// Looks at the name of a text.
-fn look_at(
-    alloc: Global,
-    out: &mut String,
-    machine: &Machine,
-    look: NameLook,
-    text: &str,
-) -> Result<(), Lack> {
-    let name = name(alloc, text)?;
-    match look {
-        NameLook::Value => write_value(out, machine.value(&name))?,
-        NameLook::Class => write_class_of(out, machine, &name)?,
-        NameLook::Watched => write_watched(out, machine, &name)?,
+/// Looks at what a name stands for.
+fn look(page: &mut Page, machine: &Machine, word: &str, name: &Name) {
+    match word {
+        "value" => write_value(page, machine.value(name)),
+        "class" => write_class_of(page, machine, name),
+        "watched" => {
+            write_vector(page, "stops: ", stops(machine, name));
+            write_vector(page, "traces: ", traces(machine, name));
+        }
+        _ => page.refuse(Lack::Words),
     }
-    Ok(())
 }
 
-/// The lines of this module.
-#[derive(Clone, Copy)]
-pub enum Directive {
-    Frame,
-    Value,
-    Class,
-    Watched,
-    Levels,
-    Globals,
-    Cached,
-    Parts,
-}
-
-/// The words of these lines.
-pub const DIRECTIVES: [(&str, Directive); 8] = [
-    ("frame", Directive::Frame),
-    ("value", Directive::Value),
-    ("class", Directive::Class),
-    ("watched", Directive::Watched),
-    ("levels", Directive::Levels),
-    ("globals", Directive::Globals),
-    ("cached", Directive::Cached),
-    ("parts", Directive::Parts),
-];
-
-/// Does what a line asks for.
-pub fn follow(
-    alloc: Global,
-    out: &mut String,
-    machine: &Machine,
-    directive: Directive,
-    text: &str,
-) -> Result<(), Lack> {
-    match directive {
-        Directive::Frame => write_frame(alloc, out, machine, text)?,
-        Directive::Value => return look_at(alloc, out, machine, NameLook::Value, text),
-        Directive::Class => return look_at(alloc, out, machine, NameLook::Class, text),
-        Directive::Watched => return look_at(alloc, out, machine, NameLook::Watched, text),
-        Directive::Levels => write_levels(out, machine)?,
-        Directive::Globals => write_globals(out, machine)?,
-        Directive::Cached => return write_cached(alloc, out, machine, text),
-        Directive::Parts => write_parts(out, machine)?,
+/// The same for the name of a text.
+fn look_at(page: &mut Page, machine: &Machine, word: &str, text: &str) {
+    if let Some(name) = page.name(text) {
+        look(page, machine, word, &name);
     }
-    Ok(())
+}
+
+/// Does what a line asks for, if its word is one of these.
+pub fn play(page: &mut Page, machine: &Machine, word: &str, text: &str) -> bool {
+    match word {
+        "frame" => write_frame(page, machine, text),
+        "value" | "class" | "watched" => look_at(page, machine, word, text),
+        "code" => write_codes(page, machine, text),
+        "levels" => write_levels(page, machine),
+        "globals" => write_globals(page, machine),
+        "cached" => write_cached(page, machine, text),
+        "parts" => write_parts(page, machine),
+        _ => return false,
+    }
+    true
 }

@@ -14,19 +14,25 @@
 //! | `one`, `line N`, `idle N` | steps by a stepper of the machine |
 //! | `drive EVENT◊..` | events, each of them `line TEXT`, `steps N` or `interrupt` |
 //! | `resume N TEXT`, `answer TEXT` | a line whose stops are answered, by `resume_all` or by hand, with its steps counted |
+//! | `carried TEXT` | the same by hand, with the workspace saved and loaded at each stop |
 //! | `frame K`, `value NAME`, `class NAME`, `watched NAME`, `levels`, `globals`, `cached CLASSES TEXT`, `parts` | looks at the machine |
+//! | `code NAME` | the listing of each line of a function, behind its number |
 //!
 //! What is written stands behind `|`, and behind `!` where it reports a stop. In texts `◊` stands for a line feed, `␍` for a
-//! carriage return and `�` for the byte ff, which is no text. Calls of the crates beneath, which no session makes so:
-//! [`texts`], [`functions`], [`codes`], [`arrays`], [`views`], [`naming`] and [`running`] say theirs.
+//! carriage return and `�` for the byte ff, which is no text. Workspaces in files: [`files`]. Calls of the crates beneath,
+//! which no session makes so: [`texts`], [`functions`], [`codes`], [`arrays`], [`views`], [`naming`], [`running`] and
+//! [`desks`] say theirs.
 #![tactic(auto)]
 
 mod arrays;
 mod codes;
+mod desks;
+mod files;
 mod functions;
 mod lacks;
 mod looking;
 mod naming;
+mod page;
 mod parts;
 mod player;
 mod running;
@@ -38,7 +44,6 @@ mod words;
 mod writing;
 
 use crate::player::Player;
-use std::alloc::AllocError;
 use std::io;
 use std::process::ExitCode;
 
@@ -49,12 +54,6 @@ enum Ended {
     Memory,
 }
 
-impl From<AllocError> for Ended {
-    fn from(_error: AllocError) -> Ended {
-        Ended::Memory
-    }
-}
-
 impl From<io::Error> for Ended {
     fn from(_error: io::Error) -> Ended {
         Ended::Device
@@ -63,9 +62,12 @@ impl From<io::Error> for Ended {
 
 /// Plays a line, and writes what comes of it.
 fn play_line<R: Print>(rt: &R, player: &mut Player, line: &str) -> Result<(), Ended> {
-    player.play(line)?;
-    print!(rt; "{}", player.written())?;
-    player.forget();
+    player.play(line);
+    if player.page.is_short() {
+        return Err(Ended::Memory);
+    }
+    print!(rt; "{}", player.page.as_str())?;
+    player.page.clear();
     Ok(())
 }
 

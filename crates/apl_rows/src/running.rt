@@ -10,12 +10,11 @@
 //! | `device read TEXT`, `device write TEXT;TEXT` | what two bytes are read as; what two writes to four bytes answer |
 
 use crate::lacks::Lack;
-use crate::words::{bytes, count, next_half, next_word, number};
-use crate::writing::{write_bytes, write_line};
+use crate::page::Page;
+use crate::words::{count, next_half, next_word, number};
 use apl_devices::{read_byte, write_all};
 use apl_machine::Machine;
 use apl_runs::{Device, Failed, RunError, Sink, Source, Tape, run, run_resumed};
-use std::alloc::{AllocError, Global};
 
 /// A tape with another setting.
 fn set(tape: Tape, setting: &str) -> Tape {
@@ -27,7 +26,7 @@ fn set(tape: Tape, setting: &str) -> Tape {
 }
 
 /// A tape of these bytes with these settings.
-fn tape_of(bytes: Vec<u8>, settings: &str) -> Tape {
+pub fn tape_of(bytes: Vec<u8>, settings: &str) -> Tape {
     let mut tape = Tape::new(bytes);
     for setting in settings.split(',') {
         tape = set(tape, setting);
@@ -35,182 +34,171 @@ fn tape_of(bytes: Vec<u8>, settings: &str) -> Tape {
     tape
 }
 
-/// The error that a run on a clear workspace ends with, if it ends with one.
-fn end_of(alloc: Global, reader: &mut Tape, writer: &mut Tape, steps: u64) -> Option<RunError> {
-    run(alloc, Machine::new(alloc), reader, writer, steps).err()
+/// Writes how a run ended, and how many of nine bytes its reader still has.
+pub fn write_end(page: &mut Page, end: Option<RunError>, reader: &mut Tape) {
+    match end {
+        Some(error) => page.said("error ", &error.number()),
+        None => page.put("ended"),
+    }
+    page.put(", ");
+    match reader.read(&mut [0; 9]) {
+        Ok(count) => page.count(&count, " left"),
+        Err(Failed) => page.line("failed"),
+    }
+}
+
+/// Writes a run over a text on a clear workspace.
+fn write_run(page: &mut Page, reader: &mut Tape, writer: &mut Tape, steps: u64) {
+    let ended = run(page.alloc, Machine::new(page.alloc), reader, writer, steps);
+    page.bytes(writer.bytes());
+    write_end(page, ended.err(), reader);
 }
 
 /// The same of a run whose stops are answered.
-fn end_of_resumed(
-    alloc: Global,
-    reader: &mut Tape,
-    writer: &mut Tape,
-    steps: u64,
-) -> Option<RunError> {
-    run_resumed(alloc, Machine::new(alloc), reader, writer, steps).err()
-}
-
-/// Writes how a run ended, and how many of nine bytes its reader still has.
-fn write_end(out: &mut String, end: Option<RunError>, reader: &mut Tape) -> Result<(), AllocError> {
-    match end {
-        Some(RunError::Memory) => return Err(AllocError),
-        Some(error) => write!(out, "error {}, ", error.number())?,
-        None => out.push_str("ended, ")?,
-    }
-    match reader.read(&mut [0; 9]) {
-        Ok(count) => writeln!(out, "{count} left"),
-        Err(Failed) => write_line(out, "failed"),
-    }
+fn write_resumed_run(page: &mut Page, reader: &mut Tape, writer: &mut Tape, steps: u64) {
+    let ended = run_resumed(page.alloc, Machine::new(page.alloc), reader, writer, steps);
+    page.bytes(writer.bytes());
+    write_end(page, ended.err(), reader);
 }
 
 /// Writes a run over a text, whose stops are answered or end their lines.
-fn write_run(alloc: Global, out: &mut String, resumes: bool, text: &str) -> Result<(), Lack> {
+fn write_run_of(page: &mut Page, resumes: bool, text: &str) {
     let (steps, text) = next_word(text);
     let (reading, text) = next_word(text);
     let (writing, text) = next_word(text);
-    let mut reader = tape_of(bytes(alloc, text)?, reading);
-    let mut writer = tape_of(Vec::new(alloc), writing);
-    let end = if resumes {
-        end_of_resumed(alloc, &mut reader, &mut writer, number(steps))
+    let mut reader = tape_of(page.bytes_of(text), reading);
+    let mut writer = tape_of(Vec::new(page.alloc), writing);
+    if resumes {
+        write_resumed_run(page, &mut reader, &mut writer, number(steps));
     } else {
-        end_of(alloc, &mut reader, &mut writer, number(steps))
-    };
-    write_bytes(out, writer.bytes())?;
-    Ok(write_end(out, end, &mut reader)?)
+        write_run(page, &mut reader, &mut writer, number(steps));
+    }
 }
 
 /// Adds so many units.
-fn repeat(input: &mut Vec<u8>, unit: &[u8], count: u64) -> Result<(), AllocError> {
+fn repeat(page: &mut Page, input: &mut Vec<u8>, unit: &str, count: u64) {
+    let unit = page.bytes_of(unit);
     for _ in 0..count {
-        input.extend_from_slice(unit)?;
+        page.extend(input, &unit);
     }
-    Ok(())
 }
 
 /// A long input: what stands before and behind many units, and the unit.
-fn long_input(alloc: Global, count: u64, text: &str) -> Result<Vec<u8>, AllocError> {
+fn long_input(page: &mut Page, count: u64, text: &str) -> Vec<u8> {
     let (before, text) = next_half(text);
     let (unit, after) = next_half(text);
-    let mut input = bytes(alloc, before)?;
-    repeat(&mut input, &bytes(alloc, unit)?, count)?;
-    repeat(&mut input, &bytes(alloc, after)?, 1)?;
-    Ok(input)
+    let mut input = page.bytes_of(before);
+    repeat(page, &mut input, unit, count);
+    repeat(page, &mut input, after, 1);
+    input
 }
 
 /// Writes how a run over a long input ended, and how much it wrote.
-fn write_long_run(alloc: Global, out: &mut String, text: &str) -> Result<(), Lack> {
+fn write_long_run(page: &mut Page, text: &str) {
     let (steps, text) = next_word(text);
     let (count, text) = next_word(text);
-    let mut reader = Tape::new(long_input(alloc, number(count), text)?);
-    let mut writer = Tape::new(Vec::new(alloc));
-    let end = end_of(alloc, &mut reader, &mut writer, number(steps));
-    write!(out, "{} bytes, ", writer.bytes().len())?;
-    Ok(write_end(out, end, &mut reader)?)
+    let mut reader = Tape::new(long_input(page, number(count), text));
+    let mut writer = Tape::new(Vec::new(page.alloc));
+    let ended = run(
+        page.alloc,
+        Machine::new(page.alloc),
+        &mut reader,
+        &mut writer,
+        number(steps),
+    );
+    page.show(&writer.bytes().len());
+    page.put(" bytes, ");
+    write_end(page, ended.err(), &mut reader);
 }
 
 /// Writes what reading a byte answers.
-fn write_byte(out: &mut String, answer: Result<Option<u8>, Failed>) -> Result<(), AllocError> {
+fn write_byte(page: &mut Page, answer: Result<Option<u8>, Failed>) {
     match answer {
-        Ok(Some(byte)) => write!(out, "byte {byte}, "),
-        Ok(None) => out.push_str("end, "),
-        Err(Failed) => out.push_str("failed, "),
+        Ok(Some(byte)) => page.said("byte ", &byte),
+        Ok(None) => page.put("end"),
+        Err(Failed) => page.put("failed"),
     }
+    page.put(", ");
 }
 
 /// Writes what a call of a device answers.
-fn write_count(out: &mut String, answer: Result<usize, Failed>) -> Result<(), AllocError> {
+fn write_count(page: &mut Page, answer: Result<usize, Failed>) {
     match answer {
-        Ok(count) => writeln!(out, "{count} bytes"),
-        Err(Failed) => write_line(out, "failed"),
+        Ok(count) => page.count(&count, " bytes"),
+        Err(Failed) => page.line("failed"),
     }
 }
 
 /// Writes what a byte and then nine of a tape are read as.
-fn write_reads(out: &mut String, tape: &mut Tape) -> Result<(), AllocError> {
-    write_byte(out, read_byte(tape))?;
-    write_count(out, tape.read(&mut [0; 9]))
+fn write_reads(page: &mut Page, settings: &str, text: &str) {
+    let mut tape = tape_of(page.bytes_of(text), settings);
+    write_byte(page, read_byte(&mut tape));
+    write_count(page, tape.read(&mut [0; 9]));
 }
 
 /// Writes a text to a tape, and what the tape holds then.
-fn write_held(out: &mut String, tape: &mut Tape, text: &[u8]) -> Result<(), AllocError> {
-    let answer = write_all(tape, text);
-    write_line(out, if answer.is_ok() { "written" } else { "failed" })?;
-    write_bytes(out, tape.bytes())
+fn write_held(page: &mut Page, settings: &str, text: &str) {
+    let (front, text) = next_half(text);
+    let mut tape = tape_of(page.bytes_of(front), settings);
+    let text = page.bytes_of(text);
+    match write_all(&mut tape, &text) {
+        Ok(()) => page.line("written"),
+        Err(Failed) => page.line("failed"),
+    }
+    page.bytes(tape.bytes());
 }
 
 /// Writes what a tape answers.
-fn write_tape(alloc: Global, out: &mut String, text: &str) -> Result<(), Lack> {
+fn write_tape(page: &mut Page, text: &str) {
     let (word, text) = next_word(text);
     let (settings, text) = next_word(text);
-    let (front, text) = next_half(text);
-    let mut tape = tape_of(bytes(alloc, front)?, settings);
-    if word == "read" {
-        write_reads(out, &mut tape)?;
-    } else {
-        write_held(out, &mut tape, &bytes(alloc, text)?)?;
+    match word {
+        "read" => write_reads(page, settings, text),
+        "write" => write_held(page, settings, text),
+        _ => page.refuse(Lack::Words),
     }
-    Ok(())
 }
 
 /// Writes what two bytes of a device over these bytes are read as.
-fn write_device_read(out: &mut String, bytes: &[u8]) -> Result<(), AllocError> {
+fn write_device_read(page: &mut Page, text: &str) {
+    let bytes = page.bytes_of(text);
     let mut buffer = [0; 2];
-    let count = Device::new(bytes).read(&mut buffer);
-    write!(out, "{} {}, ", buffer[0], buffer[1])?;
-    write_count(out, count)
+    let count = Device::new(bytes.as_slice()).read(&mut buffer);
+    page.numbers(&buffer);
+    page.put(", ");
+    write_count(page, count);
 }
 
 /// Writes what two writes to a device over four bytes answer.
-fn write_device_writes(out: &mut String, first: &[u8], second: &[u8]) -> Result<(), AllocError> {
+fn write_device_writes(page: &mut Page, text: &str) {
+    let (first, second) = next_half(text);
+    let first = page.bytes_of(first);
+    let second = page.bytes_of(second);
     let mut room = [0; 4];
     let mut writer = Device::new(room.as_mut_slice());
-    write_count(out, writer.write(first))?;
-    write_count(out, writer.write(second))
+    write_count(page, writer.write(&first));
+    write_count(page, writer.write(&second));
 }
 
 /// Writes what a device over a stream of std answers.
-fn write_device(alloc: Global, out: &mut String, text: &str) -> Result<(), Lack> {
+fn write_device(page: &mut Page, text: &str) {
     let (word, text) = next_word(text);
-    let (first, second) = next_half(text);
-    let first = bytes(alloc, first)?;
-    if word == "read" {
-        return Ok(write_device_read(out, &first)?);
+    match word {
+        "read" => write_device_read(page, text),
+        "write" => write_device_writes(page, text),
+        _ => page.refuse(Lack::Words),
     }
-    let second = bytes(alloc, second)?;
-    Ok(write_device_writes(out, &first, &second)?)
 }
 
-/// The lines of this module.
-#[derive(Clone, Copy)]
-pub enum Directive {
-    Run,
-    Resumed,
-    Long,
-    Tape,
-    Device,
-}
-
-/// The words of these lines.
-pub const DIRECTIVES: [(&str, Directive); 5] = [
-    ("run", Directive::Run),
-    ("resumed", Directive::Resumed),
-    ("long", Directive::Long),
-    ("tape", Directive::Tape),
-    ("device", Directive::Device),
-];
-
-/// Does what a line asks for.
-pub fn follow(
-    alloc: Global,
-    out: &mut String,
-    directive: Directive,
-    text: &str,
-) -> Result<(), Lack> {
-    match directive {
-        Directive::Run => write_run(alloc, out, false, text),
-        Directive::Resumed => write_run(alloc, out, true, text),
-        Directive::Long => write_long_run(alloc, out, text),
-        Directive::Tape => write_tape(alloc, out, text),
-        Directive::Device => write_device(alloc, out, text),
+/// Does what a line asks for, if its word is one of these.
+pub fn play(page: &mut Page, word: &str, text: &str) -> bool {
+    match word {
+        "run" => write_run_of(page, false, text),
+        "resumed" => write_run_of(page, true, text),
+        "long" => write_long_run(page, text),
+        "tape" => write_tape(page, text),
+        "device" => write_device(page, text),
+        _ => return false,
     }
+    true
 }

@@ -1,28 +1,33 @@
-//! Steps, interrupts, events, and lines whose stops are answered.
+//! Steps, events, and lines whose stops are answered.
 
-use crate::lacks::Lack;
+use crate::files::keep;
+use crate::page::Page;
 use crate::player::Player;
 use crate::typing::{feed, write_session};
-use crate::words::{bytes, next_word, number};
-use crate::writing::write_line;
+use crate::words::{next_word, number};
 use apl_debug::Stepper;
 use apl_machine::{Machine, Progress};
 use apl_resume::resume_all;
 use apl_session::{Bytes, Event, Session};
-use std::alloc::{AllocError, Global};
+use std::alloc::AllocError;
 use std::mem;
 
-/// Makes at most so many steps at once.
-fn make_steps(player: &mut Player, text: &str) -> Result<(), AllocError> {
-    let progress = player.session.advance(number(text))?;
-    write_session(player)?;
-    writeln!(player.out, "{progress:?}")
+/// Writes what the session has written, and what steps came to.
+fn write_progress(player: &mut Player, progress: Result<Progress, AllocError>) {
+    write_session(player);
+    match progress {
+        Ok(Progress::Idle) => player.page.line("Idle"),
+        Ok(Progress::Stopped) => player.page.line("Stopped"),
+        Ok(Progress::LineEnd) => player.page.line("LineEnd"),
+        Ok(Progress::Running) => player.page.line("Running"),
+        Err(error) => player.page.refuse(error),
+    }
 }
 
-/// Abandons what runs.
-fn interrupt(player: &mut Player) -> Result<(), AllocError> {
-    player.session.interrupt()?;
-    write_session(player)
+/// Makes at most so many steps at once.
+fn make_steps(player: &mut Player, text: &str) {
+    let progress = player.session.advance(number(text));
+    write_progress(player, progress);
 }
 
 /// How a stepper steps.
@@ -43,134 +48,114 @@ fn step_machine(machine: &mut Machine, way: Way) -> Result<Progress, AllocError>
     }
 }
 
-/// The same for the machine of a session, which has no definition open.
-fn step_session(alloc: Global, session: &mut Session, way: Way) -> Result<Progress, AllocError> {
-    let taken = mem::replace(session, Session::new(alloc, Machine::new(alloc)));
+/// Steps the machine of the session, which has no definition open, through a stepper.
+fn step_by(player: &mut Player, way: Way) {
+    let alloc = player.page.alloc;
+    let taken = mem::replace(
+        &mut player.session,
+        Session::new(alloc, Machine::new(alloc)),
+    );
     let mut machine = taken.into_machine();
     let progress = step_machine(&mut machine, way);
-    *session = Session::new(alloc, machine);
-    progress
-}
-
-/// Steps the machine through a stepper.
-fn step_by(player: &mut Player, way: Way) -> Result<(), AllocError> {
-    let progress = step_session(player.alloc, &mut player.session, way)?;
-    write_session(player)?;
-    writeln!(player.out, "{progress:?}")
+    player.session = Session::new(alloc, machine);
+    write_progress(player, progress);
 }
 
 /// The event that a text is: `line TEXT`, `steps N` or `interrupt`.
-fn event_of(alloc: Global, text: &str) -> Result<Event, AllocError> {
+pub fn event_of(page: &mut Page, text: &str) -> Event {
     let (word, text) = next_word(text);
     match word {
-        "line" => Ok(Event::Line(Bytes::new(bytes(alloc, text)?))),
-        "steps" => Ok(Event::Steps(number(text))),
-        _ => Ok(Event::Interrupt),
+        "line" => Event::Line(Bytes::new(page.bytes_of(text))),
+        "steps" => Event::Steps(number(text)),
+        _ => Event::Interrupt,
     }
 }
 
 /// The events between the marks `◊`.
-fn events_of(alloc: Global, text: &str) -> Result<Vec<Event>, AllocError> {
-    let mut events = Vec::new(alloc);
+fn events_of(page: &mut Page, text: &str) -> Vec<Event> {
+    let mut events = Vec::new(page.alloc);
     for part in text.split('◊') {
-        events.push(event_of(alloc, part)?)?;
+        let event = event_of(page, part);
+        page.add(&mut events, event);
     }
-    Ok(events)
+    events
 }
 
 /// Lets the events of a text happen, and tells whether the session runs then.
-fn drive(player: &mut Player, text: &str) -> Result<(), AllocError> {
-    let events = events_of(player.alloc, text)?;
+fn drive(player: &mut Player, text: &str) {
+    let events = events_of(&mut player.page, text);
     if player.session.drive(&events).is_err() {
-        return Err(AllocError);
+        player.page.refuse(AllocError);
     }
-    write_session(player)?;
+    write_session(player);
     let idle = player.session.machine().is_idle();
-    write_line(&mut player.out, if idle { "idle" } else { "running" })
+    player.page.line(if idle { "idle" } else { "running" });
 }
 
 /// Types a line and runs it, its stops answered by `resume_all`.
-fn resume(player: &mut Player, text: &str) -> Result<(), Lack> {
+fn resume(player: &mut Player, text: &str) {
     let (count, text) = next_word(text);
-    let line = bytes(player.alloc, text)?;
+    let line = player.page.bytes_of(text);
     let answer = resume_all(&mut player.session, &line, number(count));
-    write_session(player)?;
-    Ok(writeln!(player.out, "{} stops", answer?)?)
-}
-
-/// What a run has come to.
-#[derive(Clone, Copy, Default)]
-struct Counted {
-    stops: u64,
-    steps: u64,
-}
-
-/// A step, and at a stop the line `→⎕LC`.
-fn step_on(session: &mut Session, counted: &mut Counted) -> Result<(), Lack> {
-    counted.steps = counted.steps.saturating_add(1);
-    if let Progress::Stopped = session.advance(1)? {
-        counted.stops = counted.stops.saturating_add(1);
-        session.feed("→⎕LC".as_bytes())?;
+    write_session(player);
+    match answer {
+        Ok(stops) => player.page.count(&stops, " stops"),
+        Err(error) => player.page.refuse(error),
     }
-    Ok(())
 }
 
-/// Runs what was typed until nothing runs or so many steps are made, and answers each stop.
-fn run_on(session: &mut Session, most: u64) -> Result<Counted, Lack> {
-    let mut counted = Counted::default();
-    for _ in 0..most {
-        if session.machine().is_idle() {
-            return Ok(counted);
+/// Answers a stop by the line `→⎕LC`, where `keeps` once the workspace is saved and loaded.
+fn go_on(player: &mut Player, keeps: bool) {
+    if keeps {
+        write_session(player);
+        keep(player);
+    }
+    feed(player, "→⎕LC");
+}
+
+/// Runs what was typed until nothing runs, and answers each stop; counts the stops and all steps, which are at most as
+/// many as a line gets.
+fn run_on(player: &mut Player, keeps: bool) -> (u64, u64) {
+    let mut stops = 0_u64;
+    for made in 0..player.steps {
+        if player.session.machine().is_idle() {
+            return (stops, made);
         }
-        step_on(session, &mut counted)?;
+        match player.session.advance(1) {
+            Ok(Progress::Stopped) => {
+                stops = stops.saturating_add(1);
+                go_on(player, keeps);
+            }
+            Ok(_) => {}
+            Err(error) => player.page.refuse(error),
+        }
     }
-    Ok(counted)
+    (stops, player.steps)
 }
 
 /// Types a line and runs it, its stops answered by hand, and counts them and all its steps.
-fn answer(player: &mut Player, text: &str) -> Result<(), Lack> {
-    feed(player, text)?;
-    let Counted { stops, steps } = run_on(&mut player.session, player.steps)?;
-    write_session(player)?;
-    Ok(writeln!(player.out, "{stops} stops, {steps} steps")?)
-}
-
-/// The lines of this module.
-#[derive(Clone, Copy)]
-pub enum Directive {
-    Step,
-    Interrupt,
-    One,
-    Line,
-    Idle,
-    Drive,
-    Resume,
-    Answer,
-}
-
-/// The words of these lines.
-pub const DIRECTIVES: [(&str, Directive); 8] = [
-    ("step", Directive::Step),
-    ("interrupt", Directive::Interrupt),
-    ("one", Directive::One),
-    ("line", Directive::Line),
-    ("idle", Directive::Idle),
-    ("drive", Directive::Drive),
-    ("resume", Directive::Resume),
-    ("answer", Directive::Answer),
-];
-
-/// Does what a line asks for.
-pub fn follow(player: &mut Player, directive: Directive, text: &str) -> Result<(), Lack> {
-    match directive {
-        Directive::Step => make_steps(player, text)?,
-        Directive::Interrupt => interrupt(player)?,
-        Directive::One => step_by(player, Way::One)?,
-        Directive::Line => step_by(player, Way::Line(number(text)))?,
-        Directive::Idle => step_by(player, Way::Idle(number(text)))?,
-        Directive::Drive => drive(player, text)?,
-        Directive::Resume => return resume(player, text),
-        Directive::Answer => return answer(player, text),
+fn answer(player: &mut Player, keeps: bool, text: &str) {
+    if feed(player, text) {
+        let (stops, steps) = run_on(player, keeps);
+        write_session(player);
+        player.page.show(&stops);
+        player.page.said(" stops, ", &steps);
+        player.page.line(" steps");
     }
-    Ok(())
+}
+
+/// Does what a line asks for, if its word is one of these.
+pub fn play(player: &mut Player, word: &str, text: &str) -> bool {
+    match word {
+        "step" => make_steps(player, text),
+        "one" => step_by(player, Way::One),
+        "line" => step_by(player, Way::Line(number(text))),
+        "idle" => step_by(player, Way::Idle(number(text))),
+        "drive" => drive(player, text),
+        "resume" => resume(player, text),
+        "answer" => answer(player, false, text),
+        "carried" => answer(player, true, text),
+        _ => return false,
+    }
+    true
 }

@@ -10,98 +10,102 @@
 //! | `symbols TEXT`, `system TEXT` | what each character is as a symbol; the system name of letters |
 
 use crate::lacks::Lack;
-use crate::words::{characters, count, hexadecimal, name, next_word};
-use crate::writing::{write_characters, write_line, write_text, write_texts};
+use crate::page::Page;
+use crate::words::{count, next_word};
 use apl_charset::{Ch, Text, decode_line, encode};
 use apl_faults::{Call, Fault, report};
 use apl_symbols::{Name, Symbol, SystemName};
-use apl_tokens::{Kind, Token, spell, tokens};
-use std::alloc::{AllocError, Global};
+use apl_tokens::{Kind, Token, TokenError, spell, tokens};
+use std::alloc::Global;
 use std::cmp::Ordering;
 
-/// Writes the numbers of a constant, a blank before each.
-fn write_constant(out: &mut String, numbers: &[i64]) -> Result<(), AllocError> {
-    for number in numbers {
-        write!(out, " {number}")?;
-    }
-    Ok(())
-}
-
 /// Writes a word and characters.
-fn write_spelled_as(out: &mut String, word: &str, text: &[Ch]) -> Result<(), AllocError> {
-    out.push_str(word)?;
-    write_characters(out, text)
+fn write_spelled_as(page: &mut Page, word: &str, text: &[Ch]) {
+    page.put(word);
+    page.spell(text);
 }
 
-/// Writes a word and a system name.
-fn write_system(out: &mut String, word: &str, name: SystemName) -> Result<(), AllocError> {
-    out.push_str(word)?;
-    out.push_str(str::from_utf8(name.letters()).unwrap_or(""))
+/// Writes a system name.
+fn write_system(page: &mut Page, name: SystemName) {
+    page.mark('⎕');
+    page.put(str::from_utf8(name.letters()).unwrap_or(""));
 }
 
 /// Writes what a token is.
-fn write_kind(out: &mut String, kind: &Kind) -> Result<(), AllocError> {
+fn write_kind(page: &mut Page, kind: &Kind) {
     match kind {
-        Kind::Constant(numbers) => write_constant(out, numbers.as_slice()),
-        Kind::Text(text) => write_spelled_as(out, " text ", text.as_slice()),
-        Kind::Name(name) => write_spelled_as(out, " name ", name.as_slice()),
-        Kind::System(name) => write_system(out, " name ⎕", *name),
-        Kind::Comment(text) => write_spelled_as(out, " comment ", text.as_slice()),
-        Kind::Symbol(symbol) => write!(out, " {}", symbol.glyph().code()),
+        Kind::Constant(numbers) => page.numbers(numbers.as_slice()),
+        Kind::Text(text) => write_spelled_as(page, "text ", text.as_slice()),
+        Kind::Name(name) => write_spelled_as(page, "name ", name.as_slice()),
+        Kind::System(name) => {
+            page.put("name ");
+            write_system(page, *name);
+        }
+        Kind::Comment(text) => write_spelled_as(page, "comment ", text.as_slice()),
+        Kind::Symbol(symbol) => page.mark(symbol.glyph().code()),
     }
 }
 
 /// Writes tokens, a line each.
-fn write_token_list(out: &mut String, tokens: &[Token]) -> Result<(), AllocError> {
+fn write_token_list(page: &mut Page, tokens: &[Token]) {
     for token in tokens {
-        write!(out, "{}", token.at)?;
-        write_kind(out, &token.kind)?;
-        out.push('\n')?;
+        page.show(&token.at);
+        page.mark(' ');
+        write_kind(page, &token.kind);
+        page.end();
     }
-    Ok(())
 }
 
 /// Writes the tokens of a text.
-fn write_tokens(alloc: Global, out: &mut String, text: &str) -> Result<(), Lack> {
-    let text = characters(alloc, text)?;
-    let tokens = tokens(alloc, &text)?;
-    Ok(write_token_list(out, &tokens)?)
+fn write_tokens(page: &mut Page, text: &str) {
+    let text = page.characters(text);
+    match tokens(page.alloc, &text) {
+        Ok(tokens) => write_token_list(page, &tokens),
+        Err(error) => page.refuse(error),
+    }
 }
 
 /// The text that the tokens of a text are spelled as.
-fn spelled(alloc: Global, text: &[Ch]) -> Result<Text, Lack> {
+fn spelled(alloc: Global, text: &[Ch]) -> Result<Text, TokenError> {
     let tokens = tokens(alloc, text)?;
     Ok(spell(alloc, &tokens)?)
 }
 
 /// Writes the text that the tokens of a text are spelled as.
-fn write_spelled(alloc: Global, out: &mut String, text: &str) -> Result<(), Lack> {
-    let text = characters(alloc, text)?;
-    let spelled = spelled(alloc, &text)?;
-    Ok(write_text(out, '|', spelled.as_slice())?)
+fn write_spelled(page: &mut Page, text: &str) {
+    let text = page.characters(text);
+    match spelled(page.alloc, &text) {
+        Ok(text) => page.text('|', text.as_slice()),
+        Err(error) => page.refuse(error),
+    }
 }
 
 /// Writes how many characters bytes are.
-fn write_decoded(alloc: Global, out: &mut String, text: &str) -> Result<(), Lack> {
-    let bytes = hexadecimal(alloc, text)?;
-    let text = decode_line(alloc, &bytes)?;
-    Ok(writeln!(out, "{} characters", text.len())?)
+fn write_decoded(page: &mut Page, text: &str) {
+    let bytes = page.hexadecimal(text);
+    match decode_line(page.alloc, &bytes) {
+        Ok(text) => page.count(&text.len(), " characters"),
+        Err(fault) => page.refuse(fault),
+    }
 }
 
 /// Writes bytes in hexadecimal digits.
-fn write_hexadecimal(out: &mut String, bytes: &[u8]) -> Result<(), AllocError> {
+fn write_hexadecimal(page: &mut Page, bytes: &[u8]) {
     for byte in bytes {
-        write!(out, "{byte:02x}")?;
+        page.digits(*byte);
     }
-    out.push('\n')
+    page.end();
 }
 
 /// Writes how many characters a text has, and its bytes.
-fn write_encoded(alloc: Global, out: &mut String, text: &str) -> Result<(), Lack> {
-    let text = characters(alloc, text)?;
-    let bytes = encode(alloc, &text)?;
-    write!(out, "{} characters ", text.len())?;
-    Ok(write_hexadecimal(out, &bytes)?)
+fn write_encoded(page: &mut Page, text: &str) {
+    let text = page.characters(text);
+    page.show(&text.len());
+    page.put(" characters ");
+    match encode(page.alloc, &text) {
+        Ok(bytes) => write_hexadecimal(page, &bytes),
+        Err(error) => page.refuse(error),
+    }
 }
 
 /// The faults by their numbers.
@@ -121,100 +125,88 @@ const FAULTS: [Fault; 12] = [
 ];
 
 /// The fault of a number.
-fn fault_of(number: usize) -> Result<Fault, Lack> {
+fn fault_of(number: usize) -> Option<Fault> {
     for fault in &FAULTS {
         if usize::from(fault.number()) == number {
-            return Ok(*fault);
+            return Some(*fault);
         }
     }
-    Err(Lack::Words)
+    None
 }
 
-/// The report of a fault at a column from 1 on.
-fn reported(
-    alloc: Global,
-    fault: Fault,
-    call: Option<Call<'_>>,
-    text: &str,
-    column: usize,
-) -> Result<Vec<Text>, Lack> {
+/// Writes the report of a fault at a column from 1 on.
+fn write_fault(page: &mut Page, fault: Fault, call: Option<Call<'_>>, text: &[Ch], column: usize) {
     if column < 1 || column > 1000 {
-        return Err(Lack::Words);
+        return page.refuse(Lack::Words);
     }
-    let text = characters(alloc, text)?;
-    Ok(report(alloc, fault, call, &text, column)?)
+    match report(page.alloc, fault, call, text, column) {
+        Ok(lines) => page.texts(&lines),
+        Err(error) => page.refuse(error),
+    }
 }
 
 /// The same in a line of a call, or in a typed line where its name is `-`.
-fn reported_in(
-    alloc: Global,
-    fault: Fault,
-    word: &str,
-    text: &str,
-    column: usize,
-) -> Result<Vec<Text>, Lack> {
+fn write_fault_in(page: &mut Page, fault: Fault, column: usize, text: &str) {
+    let (word, text) = next_word(text);
     let (line, text) = next_word(text);
+    let line = count(line);
+    let name = page.characters(word);
+    let text = page.characters(text);
     if word == "-" {
-        return reported(alloc, fault, None, text, column);
+        write_fault(page, fault, None, &text, column);
+    } else {
+        write_fault(page, fault, Some(Call { name: &name, line }), &text, column);
     }
-    let name = characters(alloc, word)?;
-    let call = Call {
-        name: &name,
-        line: count(line),
-    };
-    reported(alloc, fault, Some(call), text, column)
 }
 
 /// Writes the report of a fault: its number, a column, a call with its line, and the line's text.
-fn write_report(alloc: Global, out: &mut String, text: &str) -> Result<(), Lack> {
+fn write_report(page: &mut Page, text: &str) {
     let (number, text) = next_word(text);
     let (column, text) = next_word(text);
-    let (word, text) = next_word(text);
-    let fault = fault_of(count(number))?;
-    let lines = reported_in(alloc, fault, word, text, count(column))?;
-    Ok(write_texts(out, &lines)?)
+    match fault_of(count(number)) {
+        Some(fault) => write_fault_in(page, fault, count(column), text),
+        None => page.refuse(Lack::Words),
+    }
 }
 
 /// Writes whether a text is short enough for a name, and how long it is.
-fn write_name(alloc: Global, out: &mut String, text: &str) -> Result<(), Lack> {
-    let text = characters(alloc, text)?;
+fn write_name(page: &mut Page, text: &str) {
+    let text = page.characters(text);
     match Name::new(&text) {
-        Some(name) => writeln!(out, "{} characters", name.as_slice().len())?,
-        None => write_line(out, "too long")?,
+        Some(name) => page.count(&name.as_slice().len(), " characters"),
+        None => page.line("too long"),
     }
-    Ok(())
 }
 
 /// Writes how a name stands to the next one.
-fn write_order_of(out: &mut String, first: &Name, second: &Name) -> Result<(), AllocError> {
-    out.push(match first.cmp(second) {
+fn write_order_of(page: &mut Page, first: &Name, second: &Name) {
+    page.mark(match first.cmp(second) {
         Ordering::Less => '<',
         Ordering::Equal => '=',
         Ordering::Greater => '>',
-    })
+    });
 }
 
 /// The names of the words of a text.
-fn names(alloc: Global, text: &str) -> Result<Vec<Name>, Lack> {
-    let mut names = Vec::new(alloc);
+fn names(page: &mut Page, text: &str) -> Vec<Name> {
+    let mut names = Vec::new(page.alloc);
     for word in text.split_whitespace() {
-        names.push(name(alloc, word)?)?;
+        if let Some(name) = page.name(word) {
+            page.add(&mut names, name);
+        }
     }
-    Ok(names)
-}
-
-/// Writes how each name stands to the next one.
-fn write_orders(out: &mut String, names: &[Name]) -> Result<(), AllocError> {
-    for (first, second) in names.iter().zip(names.iter().skip(1)) {
-        write_order_of(out, first, second)?;
-    }
-    out.push('\n')
+    names
 }
 
 /// Writes how each name of a text stands to the next one.
-fn write_order(alloc: Global, out: &mut String, text: &str) -> Result<(), Lack> {
-    let names = names(alloc, text)?;
-    Ok(write_orders(out, &names)?)
+fn write_order(page: &mut Page, text: &str) {
+    let names = names(page, text);
+    for pair in names.windows(2) {
+        if let [first, second] = pair {
+            write_order_of(page, first, second);
+        }
+    }
+    page.end();
 }
 
 /// What a symbol is.
@@ -231,75 +223,48 @@ fn kind_of(symbol: Symbol) -> &'static str {
 }
 
 /// Writes what a character is as a symbol.
-fn write_symbol(out: &mut String, c: Ch) -> Result<(), AllocError> {
+fn write_symbol(page: &mut Page, c: Ch) {
     match Symbol::new(c) {
-        Some(symbol) => writeln!(out, "{} {}", symbol.glyph().code(), kind_of(symbol)),
-        None => write_line(out, "no symbol"),
+        Some(symbol) => {
+            page.mark(symbol.glyph().code());
+            page.mark(' ');
+            page.line(kind_of(symbol));
+        }
+        None => page.line("no symbol"),
     }
 }
 
 /// Writes what each character is as a symbol.
-fn write_symbols(alloc: Global, out: &mut String, text: &str) -> Result<(), Lack> {
-    let text = characters(alloc, text)?;
+fn write_symbols(page: &mut Page, text: &str) {
+    let text = page.characters(text);
     for c in &text {
-        write_symbol(out, *c)?;
+        write_symbol(page, *c);
     }
-    Ok(())
 }
 
 /// Writes the system name of letters.
-fn write_system_name(alloc: Global, out: &mut String, text: &str) -> Result<(), Lack> {
-    let text = characters(alloc, text)?;
+fn write_system_name(page: &mut Page, text: &str) {
+    let text = page.characters(text);
     match SystemName::new(&text) {
-        Some(name) => write_system(out, "⎕", name)?,
-        None => out.push_str("none")?,
+        Some(name) => write_system(page, name),
+        None => page.put("none"),
     }
-    Ok(out.push('\n')?)
+    page.end();
 }
 
-/// The lines of this module.
-#[derive(Clone, Copy)]
-pub enum Directive {
-    Tokens,
-    Spell,
-    Decode,
-    Encode,
-    Report,
-    Name,
-    Ascend,
-    Symbols,
-    System,
-}
-
-/// The words of these lines.
-pub const DIRECTIVES: [(&str, Directive); 9] = [
-    ("tokens", Directive::Tokens),
-    ("spell", Directive::Spell),
-    ("decode", Directive::Decode),
-    ("encode", Directive::Encode),
-    ("report", Directive::Report),
-    ("name", Directive::Name),
-    ("ascend", Directive::Ascend),
-    ("symbols", Directive::Symbols),
-    ("system", Directive::System),
-];
-
-/// Does what a line asks for.
-pub fn follow(
-    alloc: Global,
-    out: &mut String,
-    directive: Directive,
-    text: &str,
-) -> Result<(), Lack> {
-    match directive {
-        Directive::Tokens => write_tokens(alloc, out, text),
-        Directive::Spell => write_spelled(alloc, out, text),
-        Directive::Decode => write_decoded(alloc, out, text),
-        Directive::Encode => write_encoded(alloc, out, text),
-        Directive::Report => write_report(alloc, out, text),
-        Directive::Name => write_name(alloc, out, text),
-        Directive::Ascend => write_order(alloc, out, text),
-        Directive::Symbols => write_symbols(alloc, out, text),
-        Directive::System => write_system_name(alloc, out, text),
+/// Does what a line asks for, if its word is one of these.
+pub fn play(page: &mut Page, word: &str, text: &str) -> bool {
+    match word {
+        "tokens" => write_tokens(page, text),
+        "spell" => write_spelled(page, text),
+        "decode" => write_decoded(page, text),
+        "encode" => write_encoded(page, text),
+        "report" => write_report(page, text),
+        "name" => write_name(page, text),
+        "ascend" => write_order(page, text),
+        "symbols" => write_symbols(page, text),
+        "system" => write_system_name(page, text),
+        _ => return false,
     }
+    true
 }

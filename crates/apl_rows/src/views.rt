@@ -9,14 +9,14 @@
 //! | `outer F VIEW;VIEW`, `inner F G VIEW;VIEW` | the product |
 ghost use Rattle.std.specs.Prelude.{◌≡◌, ◌<◌, true, All};
 
-use crate::arrays::{dyadic_of, slots, write_answer};
+use crate::arrays::{dyadic_of, slots};
 use crate::lacks::Lack;
-use crate::words::{array, counts, next_half, next_part, next_word};
-use crate::writing::{write_cells, write_found, write_value};
-use apl_arrays::{Along, Array, Cell, View};
+use crate::page::Page;
+use crate::words::{next_half, next_part, next_word};
+use crate::writing::{write_answer, write_cells, write_found, write_value};
+use apl_arrays::{Along, Array, View};
 use apl_operators::{inner, outer, reduce, scan};
 use apl_scalar::Dyadic;
-use std::alloc::{AllocError, Global};
 
 /// The view with an axis reversed, if it has that axis.
 fn reversed<'a>(view: View<'a>, numbers: &[usize]) -> View<'a> {
@@ -62,71 +62,64 @@ fn turned<'a>(view: View<'a>, axes: &[usize]) -> View<'a> {
 }
 
 /// Writes the element of a view at an index list.
-fn write_element(out: &mut String, view: &View<'_>, index: &[usize]) -> Result<(), AllocError> {
-    write_found(out, view.at(index))?;
-    out.push('\n')
+fn write_element(page: &mut Page, view: &View<'_>, index: &[usize]) {
+    write_found(page, view.at(index));
+    page.end();
 }
 
 /// The view after what a text says is done to it; an element that is looked at is written.
-fn after<'a>(
-    alloc: Global,
-    out: &mut String,
-    view: View<'a>,
-    text: &str,
-) -> Result<View<'a>, AllocError> {
+fn after<'a>(page: &mut Page, view: View<'a>, text: &str) -> View<'a> {
     let (word, text) = next_word(text);
-    let numbers = counts(alloc, text)?;
+    let numbers = page.counts(text);
     match word {
-        "reversed" => Ok(reversed(view, &numbers)),
-        "cut" => Ok(cut_by(view, &numbers)),
-        "turned" => Ok(turned(view, &numbers)),
+        "reversed" => reversed(view, &numbers),
+        "cut" => cut_by(view, &numbers),
+        "turned" => turned(view, &numbers),
         "at" => {
-            write_element(out, &view, &numbers)?;
-            Ok(view)
+            write_element(page, &view, &numbers);
+            view
         }
-        _ => Ok(view),
+        _ => view,
     }
 }
 
 /// The view of an array after what is done to it between the marks.
-fn view_of<'a>(
-    alloc: Global,
-    out: &mut String,
-    array: &'a Array,
-    text: &str,
-) -> Result<View<'a>, AllocError> {
+fn view_of<'a>(page: &mut Page, array: &'a Array, text: &str) -> View<'a> {
     let mut view = View::whole(array);
     for part in text.split('◊') {
-        view = after(alloc, out, view, part)?;
+        view = after(page, view, part);
     }
-    Ok(view)
-}
-
-/// Writes the elements of a view, one after another.
-fn write_elements_of(alloc: Global, out: &mut String, view: &View<'_>) -> Result<(), AllocError> {
-    let cells: Vec<Cell> = view.iter().collect(alloc)?;
-    write_cells(out, &cells)
-}
-
-/// Writes the array that a view shows, and its elements.
-fn write_shown(alloc: Global, out: &mut String, view: &View<'_>) -> Result<(), AllocError> {
-    let copied = view.copied(alloc)?;
-    write_value(out, Some(&copied))?;
-    let kind = if view.is_numeric() {
-        "numbers"
-    } else {
-        "characters"
-    };
-    write!(out, "rank {}, {kind},", view.rank())?;
-    write_elements_of(alloc, out, view)
+    view
 }
 
 /// Writes the array that a view shows.
-fn write_view_of(alloc: Global, out: &mut String, text: &str) -> Result<(), Lack> {
+fn write_copied(page: &mut Page, view: &View<'_>) {
+    match view.copied(page.alloc) {
+        Ok(copied) => write_value(page, Some(&copied)),
+        Err(error) => page.refuse(error),
+    }
+}
+
+/// Writes the rank of a view, its kind, and its elements, one after another.
+fn write_elements(page: &mut Page, view: &View<'_>) {
+    page.said("rank ", &view.rank());
+    page.put(if view.is_numeric() {
+        ", numbers,"
+    } else {
+        ", characters,"
+    });
+    let cells = page.list(view.iter().collect(page.alloc));
+    write_cells(page, &cells);
+}
+
+/// Writes the array that a view shows, and its elements.
+fn write_view_of(page: &mut Page, text: &str) {
     let (first, text) = next_part(text);
-    let array = array(alloc, first)?;
-    let view = view_of(alloc, out, &array, text)?;
-    Ok(write_shown(alloc, out, &view)?)
+    if let Some(array) = page.array(first) {
+        let view = view_of(page, &array, text);
+        write_copied(page, &view);
+        write_elements(page, &view);
+    }
 }
 
 /// Whether the elements of a view, one after another, are those of an array.
@@ -141,184 +134,153 @@ fn are_elements(view: &View<'_>, dense: &Array) -> bool {
 }
 
 /// Writes whether the elements of a view, one after another, are those of its dense copy.
-fn write_same(alloc: Global, out: &mut String, view: &View<'_>) -> Result<(), AllocError> {
-    let dense = view.copied(alloc)?;
-    out.push_str(if are_elements(view, &dense) {
-        " same"
-    } else {
-        " different"
-    })
+fn write_same(page: &mut Page, view: &View<'_>) {
+    match view.copied(page.alloc) {
+        Ok(dense) if are_elements(view, &dense) => page.put(" same"),
+        Ok(_) => page.put(" different"),
+        Err(error) => page.refuse(error),
+    }
 }
 
 /// Writes the same for a view, and for it with each axis reversed.
-fn write_reversals_of(alloc: Global, out: &mut String, view: &View<'_>) -> Result<(), AllocError> {
-    write!(out, "rank {}:", view.rank())?;
-    write_same(alloc, out, view)?;
+fn write_reversals_of(page: &mut Page, view: &View<'_>) {
+    page.said("rank ", &view.rank());
+    page.mark(':');
+    write_same(page, view);
     for axis in 0..view.rank() {
-        write_same(alloc, out, &view.reversed(axis))?;
+        write_same(page, &view.reversed(axis));
     }
-    out.push('\n')
+    page.end();
 }
 
 /// Writes whether the elements of views of an array are those of their dense copies.
-fn write_reversals(alloc: Global, out: &mut String, text: &str) -> Result<(), Lack> {
-    let array = array(alloc, text)?;
-    Ok(write_reversals_of(alloc, out, &View::whole(&array))?)
-}
-
-/// Which of two operators.
-#[derive(Clone, Copy)]
-enum Operator {
-    Reduce,
-    Scan,
+fn write_reversals(page: &mut Page, text: &str) {
+    if let Some(array) = page.array(text) {
+        write_reversals_of(page, &View::whole(&array));
+    }
 }
 
 /// An operator and its function.
 #[derive(Clone, Copy)]
-struct Operation {
-    operator: Operator,
-    function: Dyadic,
+enum Operation {
+    Reduce(Dyadic),
+    Scan(Dyadic),
 }
 
 /// Writes the value of an operator over a view.
-fn write_along(
-    alloc: Global,
-    out: &mut String,
-    operation: Operation,
-    along: Along<'_>,
-    view: &View<'_>,
-) -> Result<(), Lack> {
-    let function = operation.function;
-    let answer = match operation.operator {
-        Operator::Reduce => reduce(alloc, function, along, view, 1),
-        Operator::Scan => scan(alloc, function, along, view, 1),
+fn write_along(page: &mut Page, operation: Operation, along: Along<'_>, view: &View<'_>) {
+    let answer = match operation {
+        Operation::Reduce(function) => reduce(page.alloc, function, along, view, 1),
+        Operation::Scan(function) => scan(page.alloc, function, along, view, 1),
     };
-    write_answer(out, answer)
+    write_answer(page, answer);
 }
 
 /// The same along the axis that a word says.
-fn write_along_word(
-    alloc: Global,
-    out: &mut String,
-    operation: Operation,
-    word: &str,
-    view: &View<'_>,
-) -> Result<(), Lack> {
+fn write_along_word(page: &mut Page, operation: Operation, word: &str, view: &View<'_>) {
     match word {
-        "first" => write_along(alloc, out, operation, Along::First, view),
-        "last" => write_along(alloc, out, operation, Along::Last, view),
+        "first" => write_along(page, operation, Along::First, view),
+        "last" => write_along(page, operation, Along::Last, view),
         _ => {
-            let axes = slots(alloc, word)?;
-            write_along(alloc, out, operation, Along::Named(&axes), view)
+            let axes = slots(page, word);
+            write_along(page, operation, Along::Named(&axes), view);
         }
     }
 }
 
-/// Writes the value of an operator over a view, its function's symbol and its axis first.
-fn write_operated(
-    alloc: Global,
-    out: &mut String,
-    operator: Operator,
-    text: &str,
-) -> Result<(), Lack> {
-    let (symbol, text) = next_word(text);
+/// Writes the value of an operator over a view, its axis first.
+fn write_operated(page: &mut Page, operation: Operation, text: &str) {
     let (along, text) = next_word(text);
     let (first, text) = next_part(text);
-    let function = dyadic_of(symbol)?;
-    let array = array(alloc, first)?;
-    let view = view_of(alloc, out, &array, text)?;
-    write_along_word(alloc, out, Operation { operator, function }, along, &view)
+    if let Some(array) = page.array(first) {
+        let view = view_of(page, &array, text);
+        write_along_word(page, operation, along, &view);
+    }
 }
 
-/// The functions of a product: the one that folds, if there is one, and the one whose values it folds.
+/// Writes a reduction, the function's symbol first.
+fn write_reduced(page: &mut Page, text: &str) {
+    let (symbol, text) = next_word(text);
+    match dyadic_of(symbol) {
+        Some(function) => write_operated(page, Operation::Reduce(function), text),
+        None => page.refuse(Lack::Words),
+    }
+}
+
+/// Writes a scan, the function's symbol first.
+fn write_scanned(page: &mut Page, text: &str) {
+    let (symbol, text) = next_word(text);
+    match dyadic_of(symbol) {
+        Some(function) => write_operated(page, Operation::Scan(function), text),
+        None => page.refuse(Lack::Words),
+    }
+}
+
+/// The functions of a product.
 #[derive(Clone, Copy)]
-struct Product {
-    fold: Option<Dyadic>,
-    each: Dyadic,
+enum Product {
+    Outer(Dyadic),
+    /// The one that folds, and the one whose values it folds.
+    Inner(Dyadic, Dyadic),
 }
 
 /// Writes the product of two views.
-fn write_product(
-    alloc: Global,
-    out: &mut String,
-    product: Product,
-    a: &View<'_>,
-    b: &View<'_>,
-) -> Result<(), Lack> {
-    let answer = match product.fold {
-        Some(fold) => inner(alloc, fold, product.each, a, b),
-        None => outer(alloc, product.each, a, b),
+fn write_product(page: &mut Page, product: Product, a: &View<'_>, b: &View<'_>) {
+    let answer = match product {
+        Product::Outer(each) => outer(page.alloc, each, a, b),
+        Product::Inner(fold, each) => inner(page.alloc, fold, each, a, b),
     };
-    write_answer(out, answer)
+    write_answer(page, answer);
+}
+
+/// Writes the product of the view of an array and that of another one.
+fn write_product_by(page: &mut Page, product: Product, a: &View<'_>, text: &str) {
+    let (second, text) = next_part(text);
+    if let Some(b) = page.array(second) {
+        let b = view_of(page, &b, text);
+        write_product(page, product, a, &b);
+    }
 }
 
 /// Writes the product of the views of two arrays.
-fn write_product_of(
-    alloc: Global,
-    out: &mut String,
-    product: Product,
-    text: &str,
-) -> Result<(), Lack> {
+fn write_product_of(page: &mut Page, product: Product, text: &str) {
     let (left, right) = next_half(text);
     let (first, left) = next_part(left);
-    let (second, right) = next_part(right);
-    let a = array(alloc, first)?;
-    let b = array(alloc, second)?;
-    let left = view_of(alloc, out, &a, left)?;
-    let right = view_of(alloc, out, &b, right)?;
-    write_product(alloc, out, product, &left, &right)
+    if let Some(a) = page.array(first) {
+        let a = view_of(page, &a, left);
+        write_product_by(page, product, &a, right);
+    }
 }
 
 /// Writes an outer product, the function's symbol first.
-fn write_outer(alloc: Global, out: &mut String, text: &str) -> Result<(), Lack> {
+fn write_outer(page: &mut Page, text: &str) {
     let (symbol, text) = next_word(text);
-    let each = dyadic_of(symbol)?;
-    write_product_of(alloc, out, Product { fold: None, each }, text)
+    match dyadic_of(symbol) {
+        Some(each) => write_product_of(page, Product::Outer(each), text),
+        None => page.refuse(Lack::Words),
+    }
 }
 
 /// Writes an inner product, the functions' symbols first.
-fn write_inner(alloc: Global, out: &mut String, text: &str) -> Result<(), Lack> {
+fn write_inner(page: &mut Page, text: &str) {
     let (first, text) = next_word(text);
     let (second, text) = next_word(text);
-    let fold = Some(dyadic_of(first)?);
-    let each = dyadic_of(second)?;
-    write_product_of(alloc, out, Product { fold, each }, text)
-}
-
-/// The lines of this module.
-#[derive(Clone, Copy)]
-pub enum Directive {
-    View,
-    Reversals,
-    Reduce,
-    Scan,
-    Outer,
-    Inner,
-}
-
-/// The words of these lines.
-pub const DIRECTIVES: [(&str, Directive); 6] = [
-    ("view", Directive::View),
-    ("reversals", Directive::Reversals),
-    ("reduce", Directive::Reduce),
-    ("scan", Directive::Scan),
-    ("outer", Directive::Outer),
-    ("inner", Directive::Inner),
-];
-
-/// Does what a line asks for.
-pub fn follow(
-    alloc: Global,
-    out: &mut String,
-    directive: Directive,
-    text: &str,
-) -> Result<(), Lack> {
-    match directive {
-        Directive::View => write_view_of(alloc, out, text),
-        Directive::Reversals => write_reversals(alloc, out, text),
-        Directive::Reduce => write_operated(alloc, out, Operator::Reduce, text),
-        Directive::Scan => write_operated(alloc, out, Operator::Scan, text),
-        Directive::Outer => write_outer(alloc, out, text),
-        Directive::Inner => write_inner(alloc, out, text),
+    match (dyadic_of(first), dyadic_of(second)) {
+        (Some(fold), Some(each)) => write_product_of(page, Product::Inner(fold, each), text),
+        _ => page.refuse(Lack::Words),
     }
+}
+
+/// Does what a line asks for, if its word is one of these.
+pub fn play(page: &mut Page, word: &str, text: &str) -> bool {
+    match word {
+        "view" => write_view_of(page, text),
+        "reversals" => write_reversals(page, text),
+        "reduce" => write_reduced(page, text),
+        "scan" => write_scanned(page, text),
+        "outer" => write_outer(page, text),
+        "inner" => write_inner(page, text),
+        _ => return false,
+    }
+    true
 }

@@ -1,10 +1,10 @@
 //! The words of a row.
 
 use crate::lacks::Lack;
+use crate::page::Page;
 use apl_arrays::{Array, Ravel, is_in_bounds, size};
 use apl_charset::{Ch, Text};
 use apl_symbols::{Class, Name};
-use std::alloc::{AllocError, Global};
 
 /// The first word, and what stands behind the blank after it.
 pub fn next_word(text: &str) -> (&str, &str) {
@@ -46,31 +46,6 @@ pub fn element(word: &str) -> i64 {
     word.parse().unwrap_or(0)
 }
 
-/// The counts of the words of a text.
-pub fn counts(alloc: Global, text: &str) -> Result<Vec<usize>, AllocError> {
-    text.split_whitespace().map(count).collect(alloc)
-}
-
-/// The characters of a text; those outside the set are left out.
-pub fn characters(alloc: Global, text: &str) -> Result<Vec<Ch>, AllocError> {
-    text.chars().filter_map(Ch::new).collect(alloc)
-}
-
-/// The texts between the marks `◊`.
-pub fn texts(alloc: Global, text: &str) -> Result<Vec<Text>, AllocError> {
-    let mut texts = Vec::new(alloc);
-    for part in text.split('◊') {
-        texts.push(Text::new(characters(alloc, part)?))?;
-    }
-    Ok(texts)
-}
-
-/// The name of these characters, if they are few enough.
-pub fn name(alloc: Global, word: &str) -> Result<Name, Lack> {
-    let letters = characters(alloc, word)?;
-    Name::new(&letters).ok_or(Lack::Words)
-}
-
 /// The class of a letter.
 fn class_of(letter: char) -> Option<Class> {
     match letter {
@@ -81,53 +56,12 @@ fn class_of(letter: char) -> Option<Class> {
     }
 }
 
-/// The classes of the letters `V`, `N` and `F`.
-pub fn classes(alloc: Global, word: &str) -> Result<Vec<Class>, AllocError> {
-    word.chars().filter_map(class_of).collect(alloc)
-}
-
-/// Adds the bytes that a character of a text stands for.
-fn push_bytes(bytes: &mut Vec<u8>, c: char) -> Result<(), AllocError> {
-    match c {
-        '◊' => bytes.extend_from_slice(b"\n"),
-        '␍' => bytes.extend_from_slice(b"\r"),
-        '�' => bytes.extend_from_slice(b"\xff"),
-        c => bytes.extend_from_slice(c.encode_utf8(&mut [0; 4]).as_bytes()),
-    }
-}
-
-/// The bytes that a text stands for: `◊` is a line feed, `␍` a carriage return, and `�` a byte that is no text.
-pub fn bytes(alloc: Global, text: &str) -> Result<Vec<u8>, AllocError> {
-    let mut bytes = Vec::new(alloc);
-    for c in text.chars() {
-        push_bytes(&mut bytes, c)?;
-    }
-    Ok(bytes)
-}
-
 /// The byte of two hexadecimal digits.
 fn byte(digits: &[u8]) -> u8 {
     match str::from_utf8(digits) {
         Ok(digits) => u8::from_str_radix(digits, 16).unwrap_or(0),
         Err(_) => 0,
     }
-}
-
-/// The bytes of hexadecimal digits, two a byte.
-pub fn hexadecimal(alloc: Global, text: &str) -> Result<Vec<u8>, AllocError> {
-    text.as_bytes().chunks_exact(2).map(byte).collect(alloc)
-}
-
-/// The elements behind a shape: characters behind a quote, so many numbers from 0 on behind `⍳`, or numbers.
-fn elements(alloc: Global, text: &str) -> Result<Ravel, AllocError> {
-    if let Some(text) = text.strip_prefix('\'') {
-        return Ok(Ravel::Chars(characters(alloc, text)?));
-    }
-    if let Some(most) = text.strip_prefix('⍳') {
-        return Ok(Ravel::Nums((0..element(most)).collect(alloc)?));
-    }
-    let numbers = text.split_whitespace().map(element).collect(alloc)?;
-    Ok(Ravel::Nums(numbers))
 }
 
 /// The array of a shape and elements, where they fit and are within the limits.
@@ -138,10 +72,119 @@ fn shaped(shape: &[usize], ravel: Ravel) -> Result<Array, Lack> {
     Ok(Array::from_shape(shape, ravel)?)
 }
 
-/// The array of a text, as `2 3:1 2 3 4 5 6`, `:5`, `2:'AB` or `2 2:⍳4`: a shape, and behind the colon its elements.
-pub fn array(alloc: Global, text: &str) -> Result<Array, Lack> {
-    let (shape, text) = text.split_once(':').unwrap_or(("", text));
-    let ravel = elements(alloc, text)?;
-    let shape = counts(alloc, shape)?;
-    shaped(&shape, ravel)
+impl Page {
+    /// The counts of the words of a text.
+    pub fn counts(&mut self, text: &str) -> Vec<usize> {
+        let mut counts = Vec::new(self.alloc);
+        for word in text.split_whitespace() {
+            self.add(&mut counts, count(word));
+        }
+        counts
+    }
+
+    /// The characters of a text; those outside the set are left out.
+    pub fn characters(&mut self, text: &str) -> Vec<Ch> {
+        let characters = text.chars().filter_map(Ch::new).collect(self.alloc);
+        self.list(characters)
+    }
+
+    /// The same as a text.
+    pub fn text_of(&mut self, text: &str) -> Text {
+        Text::new(self.characters(text))
+    }
+
+    /// The texts between the marks `◊`.
+    pub fn parts(&mut self, text: &str) -> Vec<Text> {
+        let mut texts = Vec::new(self.alloc);
+        for part in text.split('◊') {
+            let text = self.text_of(part);
+            self.add(&mut texts, text);
+        }
+        texts
+    }
+
+    /// The name of these characters, if they are few enough.
+    pub fn name(&mut self, word: &str) -> Option<Name> {
+        let letters = self.characters(word);
+        let name = Name::new(&letters);
+        if name.is_none() {
+            self.refuse(Lack::Words);
+        }
+        name
+    }
+
+    /// The classes of the letters `V`, `N` and `F`.
+    pub fn classes(&mut self, word: &str) -> Vec<Class> {
+        let classes = word.chars().filter_map(class_of).collect(self.alloc);
+        self.list(classes)
+    }
+
+    /// Adds bytes.
+    pub fn extend(&mut self, bytes: &mut Vec<u8>, more: &[u8]) {
+        let extended = bytes.extend_from_slice(more);
+        self.note(extended);
+    }
+
+    /// The bytes that a text stands for: `◊` is a line feed, `␍` a carriage return, and `�` a byte that is no text.
+    pub fn bytes_of(&mut self, text: &str) -> Vec<u8> {
+        let mut bytes = Vec::new(self.alloc);
+        for c in text.chars() {
+            match c {
+                '◊' => self.extend(&mut bytes, b"\n"),
+                '␍' => self.extend(&mut bytes, b"\r"),
+                '�' => self.extend(&mut bytes, b"\xff"),
+                c => self.extend(&mut bytes, c.encode_utf8(&mut [0; 4]).as_bytes()),
+            }
+        }
+        bytes
+    }
+
+    /// The bytes of hexadecimal digits, two a byte.
+    pub fn hexadecimal(&mut self, text: &str) -> Vec<u8> {
+        let bytes = text
+            .as_bytes()
+            .chunks_exact(2)
+            .map(byte)
+            .collect(self.alloc);
+        self.list(bytes)
+    }
+
+    /// The numbers of the words of a text.
+    fn elements(&mut self, text: &str) -> Vec<i64> {
+        let mut elements = Vec::new(self.alloc);
+        for word in text.split_whitespace() {
+            self.add(&mut elements, element(word));
+        }
+        elements
+    }
+
+    /// So many numbers from 0 on.
+    fn first_numbers(&mut self, most: i64) -> Vec<i64> {
+        let numbers = (0..most).collect(self.alloc);
+        self.list(numbers)
+    }
+
+    /// The numbers of the words of a text, or so many from 0 on behind `⍳`.
+    fn numbers_of(&mut self, text: &str) -> Vec<i64> {
+        match text.strip_prefix('⍳') {
+            Some(most) => self.first_numbers(element(most)),
+            None => self.elements(text),
+        }
+    }
+
+    /// The elements behind a shape: characters behind a quote, or numbers.
+    fn ravel(&mut self, text: &str) -> Ravel {
+        match text.strip_prefix('\'') {
+            Some(text) => Ravel::Chars(self.characters(text)),
+            None => Ravel::Nums(self.numbers_of(text)),
+        }
+    }
+
+    /// The array of a text, as `2 3:1 2 3 4 5 6`, `:5`, `2:'AB` or `2 2:⍳4`: a shape, and behind the colon its elements.
+    pub fn array(&mut self, text: &str) -> Option<Array> {
+        let (shape, text) = text.split_once(':').unwrap_or(("", text));
+        let ravel = self.ravel(text);
+        let shape = self.counts(shape);
+        self.kept(shaped(&shape, ravel))
+    }
 }

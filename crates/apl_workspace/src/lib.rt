@@ -8,6 +8,3 @@ mod saving;
 pub use error::{LoadError, SaveError};
 pub use loading::load;
 pub use saving::save;
-
-#[cfg(test)]
-mod tests;

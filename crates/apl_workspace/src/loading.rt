@@ -8,6 +8,7 @@ ghost use Rattle.apl_workspace.specs.declared.error.LoadError.TheVariants as ref
 use crate::error::LoadError;
 use apl_loading::parts_of;
 use apl_machine::Machine;
+use apl_translate::Cache;
 use apl_workspace_file::read;
 use std::alloc::Global;
 
@@ -23,6 +24,8 @@ pub fn load(alloc: Global, bytes: &[u8]) -> Result<Machine, LoadError>
     ensures complete { (s : State) → IsLoaded bytes.now s → MatchResult result (λ m. m ≡ s) (λ e. e ≡ refusal.Memory) }
 {
     let file = read(alloc, bytes)?;
-    let parts = parts_of(alloc, &file)?;
-    Ok(Machine::from_parts(alloc, parts)?)
+    // what the lines are checked against is what the machine runs
+    let mut cache = Cache::new(alloc);
+    let parts = parts_of(alloc, &file, &mut cache)?;
+    Ok(Machine::from_parts_with(alloc, parts, cache)?)
 }

@@ -8,8 +8,8 @@ use crate::error::TreeError;
 use crate::field::Field;
 use crate::fields::{ArrayField, Elements, OperandField};
 use crate::list::{ListField, TextField};
-use crate::members::{begins_with_key, end, next_member, object};
-use serde_json::{Map, Value, json};
+use crate::members::{begins_with_key, end, next_member, object, put_field};
+use serde_json::{Map, Value};
 use std::alloc::{AllocError, Global};
 
 #[tactic(auto, unfolding(crate::specs::Reading::numbers_of))]
@@ -62,15 +62,17 @@ impl Field for ArrayField {
     }
 
     fn write(&self, alloc: Global) -> Result<Value, AllocError> {
-        let shape = self.shape.write(alloc)?;
+        let mut object = Map::new(alloc);
         match &self.elements {
             Elements::Numbers(numbers) => {
-                let numbers = numbers.write(alloc)?;
-                json!(in alloc; {"nums": numbers, "shape": shape})
+                put_field(&mut object, alloc, "nums", numbers)?;
+                put_field(&mut object, alloc, "shape", &self.shape)?;
+                Ok(Value::Object(object))
             }
             Elements::Text(text) => {
-                let text = text.write(alloc)?;
-                json!(in alloc; {"shape": shape, "text": text})
+                put_field(&mut object, alloc, "shape", &self.shape)?;
+                put_field(&mut object, alloc, "text", text)?;
+                Ok(Value::Object(object))
             }
         }
     }
@@ -108,8 +110,9 @@ impl Field for OperandField {
         match self {
             OperandField::Array(array) => array.write(alloc),
             OperandField::Slots(slots) => {
-                let slots = slots.write(alloc)?;
-                json!(in alloc; {"slots": slots})
+                let mut object = Map::new(alloc);
+                put_field(&mut object, alloc, "slots", slots)?;
+                Ok(Value::Object(object))
             }
         }
     }

@@ -10,8 +10,10 @@ use crate::fields::{
     ArrayField, CallField, ContextField, LocalField, OperandField, RestField, StatementField,
 };
 use crate::list::{ListField, TextField};
-use crate::members::{begins_with_key, end, expect_word, has_kind, next_member, object};
-use serde_json::{Map, Value, json};
+use crate::members::{
+    begins_with_key, end, expect_word, has_kind, next_member, object, put_field, put_word,
+};
+use serde_json::{Map, Value};
 use std::alloc::{AllocError, Global};
 
 impl Field for RestField {
@@ -39,11 +41,12 @@ impl Field for RestField {
     }
 
     fn write(&self, alloc: Global) -> Result<Value, AllocError> {
-        let classes = self.classes.write(alloc)?;
-        let code = self.code.write(alloc)?;
-        let done = self.done.write(alloc)?;
-        let operands = self.operands.write(alloc)?;
-        json!(in alloc; {"classes": classes, "code": code, "done": done, "operands": operands})
+        let mut object = Map::new(alloc);
+        put_field(&mut object, alloc, "classes", &self.classes)?;
+        put_field(&mut object, alloc, "code", &self.code)?;
+        put_field(&mut object, alloc, "done", &self.done)?;
+        put_field(&mut object, alloc, "operands", &self.operands)?;
+        Ok(Value::Object(object))
     }
 }
 
@@ -62,9 +65,10 @@ impl Field for LocalField {
     }
 
     fn write(&self, alloc: Global) -> Result<Value, AllocError> {
-        let name = self.name.write(alloc)?;
-        let value = self.value.write(alloc)?;
-        json!(in alloc; {"name": name, "value": value})
+        let mut object = Map::new(alloc);
+        put_field(&mut object, alloc, "name", &self.name)?;
+        put_field(&mut object, alloc, "value", &self.value)?;
+        Ok(Value::Object(object))
     }
 }
 
@@ -116,28 +120,34 @@ fn read_call(alloc: Global, object: &Map<String, Value>) -> Result<CallField, Tr
 fn write_statement(alloc: Global, statement: &StatementField) -> Result<Value, AllocError>
     ensures { IfOk result (λ v. view v ≡ statement_tree statement.now) }
 {
-    let line = statement.line.write(alloc)?;
-    let rest = statement.rest.write(alloc)?;
-    json!(in alloc; {"kind": "statement", "line": line, "rest": rest})
+    let mut object = Map::new(alloc);
+    put_word(&mut object, alloc, "kind", "statement")?;
+    put_field(&mut object, alloc, "line", &statement.line)?;
+    put_field(&mut object, alloc, "rest", &statement.rest)?;
+    Ok(Value::Object(object))
 }
 
 fn write_execute(alloc: Global, execute: &StatementField) -> Result<Value, AllocError>
     ensures { IfOk result (λ v. view v ≡ execute_tree execute.now) }
 {
-    let rest = execute.rest.write(alloc)?;
-    let text = execute.line.write(alloc)?;
-    json!(in alloc; {"kind": "execute", "rest": rest, "text": text})
+    let mut object = Map::new(alloc);
+    put_word(&mut object, alloc, "kind", "execute")?;
+    put_field(&mut object, alloc, "rest", &execute.rest)?;
+    put_field(&mut object, alloc, "text", &execute.line)?;
+    Ok(Value::Object(object))
 }
 
 fn write_call(alloc: Global, call: &CallField) -> Result<Value, AllocError>
     ensures { IfOk result (λ v. view v ≡ call_tree call.now) }
 {
-    let at = call.at.write(alloc)?;
-    let header = call.header.write(alloc)?;
-    let lines = call.lines.write(alloc)?;
-    let locals = call.locals.write(alloc)?;
-    let rest = call.rest.write(alloc)?;
-    json!(in alloc; {"at": at, "header": header, "kind": "call", "lines": lines, "locals": locals, "rest": rest})
+    let mut object = Map::new(alloc);
+    put_field(&mut object, alloc, "at", &call.at)?;
+    put_field(&mut object, alloc, "header", &call.header)?;
+    put_word(&mut object, alloc, "kind", "call")?;
+    put_field(&mut object, alloc, "lines", &call.lines)?;
+    put_field(&mut object, alloc, "locals", &call.locals)?;
+    put_field(&mut object, alloc, "rest", &call.rest)?;
+    Ok(Value::Object(object))
 }
 
 impl Field for ContextField {

@@ -23,6 +23,3 @@ pub use fields::{
     RestField, StatementField, VariableField, Version,
 };
 pub use list::{ListField, TextField};
-
-#[cfg(test)]
-mod tests;

@@ -32,13 +32,6 @@ impl<T> ListField<T> {
     {
         self.items.as_slice()
     }
-
-    /// Its items, without memory.
-    pub fn into_vec(self) -> Vec<T>
-        ensures { result.items ≡ self }
-    {
-        self.items
-    }
 }
 
 /// A text of a file. Contracts see it as the bytes of its UTF-8.
@@ -68,12 +61,5 @@ impl TextField {
         ensures { result.now ≡ self.now }
     {
         self.text.as_str()
-    }
-
-    /// Its text, without memory.
-    pub fn into_string(self) -> String
-        ensures { string_bytes result ≡ self }
-    {
-        self.text
     }
 }

@@ -1,11 +1,14 @@
 //! The members of an object, one after the other in the order of their keys.
-ghost use Rattle.std.specs.Prelude.{◌≡◌, Ok, Err, MatchResult};
+ghost use Rattle.std.specs.Prelude.{◌≡◌, Ok, Err, MatchResult, OnOk};
+ghost use Rattle.serde_json.specs.Data.{string, put as with_member};
 ghost use Rattle.serde_json.specs.View.{view, members_view};
 ghost use Rattle.apl_workspace_file.specs.Reading.{Gives, form_of, field, ended, begins_with, is_of_kind, is_some_text, word_of};
 ghost use Rattle.serde_json.specs.Find.{as_object, as_str};
 
 use crate::error::TreeError;
-use serde_json::{Map, Value};
+use crate::field::Field;
+use serde_json::{Map, Value, put};
+use std::alloc::{AllocError, Global};
 use std::collections::btree_map::Iter;
 
 /// The members of a tree that is an object.
@@ -83,4 +86,30 @@ fn is_word(value: &Value, word: &str) -> bool
         Some(found) => found == word,
         None => false,
     }
+}
+
+/// Gives an object a member: the tree of a field.
+pub(crate) fn put_field<T: Field>(
+    object: &mut Map<String, Value>,
+    alloc: Global,
+    key: &str,
+    field: &T,
+) -> Result<(), AllocError>
+    ensures { OnOk result (members_view object.new.entries ≡ with_member key.now (T.tree field.now) (members_view object.old.entries)) }
+{
+    let value = field.write(alloc)?;
+    put(object, alloc, key, value)
+}
+
+/// Gives an object a member: this very text.
+pub(crate) fn put_word(
+    object: &mut Map<String, Value>,
+    alloc: Global,
+    key: &str,
+    word: &str,
+) -> Result<(), AllocError>
+    ensures { OnOk result (members_view object.new.entries ≡ with_member key.now (string word.now) (members_view object.old.entries)) }
+{
+    let value = Value::String(String::from_str(alloc, word)?);
+    put(object, alloc, key, value)
 }

@@ -11,8 +11,8 @@ use crate::error::TreeError;
 use crate::field::Field;
 use crate::fields::{ArrayField, ContextField, File, FunctionField, VariableField, Version};
 use crate::list::{ListField, TextField};
-use crate::members::{end, next_member, object};
-use serde_json::{Map, Value, json};
+use crate::members::{end, next_member, object, put_field};
+use serde_json::{Map, Value};
 use std::alloc::{AllocError, Global};
 
 impl Field for FunctionField {
@@ -37,11 +37,12 @@ impl Field for FunctionField {
     }
 
     fn write(&self, alloc: Global) -> Result<Value, AllocError> {
-        let header = self.header.write(alloc)?;
-        let lines = self.lines.write(alloc)?;
-        let stop = self.stop.write(alloc)?;
-        let trace = self.trace.write(alloc)?;
-        json!(in alloc; {"header": header, "lines": lines, "stop": stop, "trace": trace})
+        let mut object = Map::new(alloc);
+        put_field(&mut object, alloc, "header", &self.header)?;
+        put_field(&mut object, alloc, "lines", &self.lines)?;
+        put_field(&mut object, alloc, "stop", &self.stop)?;
+        put_field(&mut object, alloc, "trace", &self.trace)?;
+        Ok(Value::Object(object))
     }
 }
 
@@ -60,9 +61,10 @@ impl Field for VariableField {
     }
 
     fn write(&self, alloc: Global) -> Result<Value, AllocError> {
-        let name = self.name.write(alloc)?;
-        let value = self.value.write(alloc)?;
-        json!(in alloc; {"name": name, "value": value})
+        let mut object = Map::new(alloc);
+        put_field(&mut object, alloc, "name", &self.name)?;
+        put_field(&mut object, alloc, "value", &self.value)?;
+        Ok(Value::Object(object))
     }
 }
 
@@ -171,11 +173,12 @@ impl Field for File {
     }
 
     fn write(&self, alloc: Global) -> Result<Value, AllocError> {
-        let contexts = self.contexts.write(alloc)?;
-        let functions = self.functions.write(alloc)?;
-        let origin = self.origin.write(alloc)?;
-        let variables = self.variables.write(alloc)?;
-        let version = self.version.write(alloc)?;
-        json!(in alloc; {"contexts": contexts, "functions": functions, "io": origin, "variables": variables, "version": version})
+        let mut object = Map::new(alloc);
+        put_field(&mut object, alloc, "contexts", &self.contexts)?;
+        put_field(&mut object, alloc, "functions", &self.functions)?;
+        put_field(&mut object, alloc, "io", &self.origin)?;
+        put_field(&mut object, alloc, "variables", &self.variables)?;
+        put_field(&mut object, alloc, "version", &self.version)?;
+        Ok(Value::Object(object))
     }
 }

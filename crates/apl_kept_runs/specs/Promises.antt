@@ -1,0 +1,34 @@
+-- At any stop a run may be saved, loaded again and gone on with: what follows is the same.
+use Rattle.std.specs.Prelude.{◌≡◌, ℕ, Bool, true, List, [], None}
+use Rattle.apl_machine_state.specs.State.{State, is_idle, turn}
+use Rattle.apl_parts.specs.Taken.{parts_of}
+use Rattle.apl_parts.specs.Restored.{state_of}
+use Rattle.apl_saved.specs.Rules.{AreRuled}
+use Rattle.apl_savable.specs.Savable.{IsSavable}
+use Rattle.apl_session.specs.Events.{typed}
+use Rattle.apl_resume.specs.Cut.{cut, cut_steps, stops_in}
+use Rattle.apl_kept_runs.specs.Kept.{kept_cut, kept_run, whole}
+
+-- A state that is saved without loss but for its output: nothing runs, no definition is open, a file can hold it, its parts keep to the rules of a file,
+-- and what is loaded of them is that state.
+pub record CanBeKept (s : State) : Type 0 where
+  pub idle : is_idle s ≡ true
+  pub closed : s.definition ≡ None
+  pub savable : IsSavable s
+  pub ruled : AreRuled (parts_of s)
+  pub same : state_of (parts_of s) ≡ record s { output = [] }
+
+-- What is promised of a line that is given n steps, and saved and loaded again at the stops that are asked for, whichever these are.
+pub record IsSameRun (asked : ℕ → Bool) (x : State) (line : List ℕ) (n : ℕ) : Type 0 where
+  -- at each stop it can be saved
+  pub kept : (k : ℕ) → (turn (kept_run asked x line k).state).stopped ≡ true → CanBeKept (turn (kept_run asked x line k).state).state
+  -- for each k after k steps both have the same state, and have written the same
+  pub on_the_way : (k : ℕ) → whole (kept_run asked x line k) ≡ cut_steps k (typed x line)
+  -- and have answered as many stops
+  pub stops : (k : ℕ) → (kept_run asked x line k).stops ≡ stops_in k (typed x line)
+  -- at the end both have the same state, and have written the same
+  pub at_the_end : whole (kept_cut asked x line n) ≡ cut x line n
+
+-- the law
+abbrev pub KeptRunsAreTheSame : Type 0
+KeptRunsAreTheSame = (asked : ℕ → Bool) (x : State) (line : List ℕ) (n : ℕ) → IsSavable x → is_idle x ≡ true → IsSameRun asked x line n

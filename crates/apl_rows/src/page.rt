@@ -1,0 +1,200 @@
+//! What comes of rows, as it is written.
+
+use crate::lacks::Lack;
+use apl_charset::{Ch, Text};
+use std::alloc::{AllocError, Global};
+use std::fmt::Display;
+
+/// What is written of a row. Where memory is wanting something is left out, and the page tells so.
+#[derive(Drop)]
+pub struct Page {
+    pub alloc: Global,
+    text: String,
+    is_short: bool,
+}
+
+impl Page {
+    /// An empty page.
+    pub fn new(alloc: Global) -> Page {
+        Page {
+            alloc,
+            text: String::new(alloc),
+            is_short: false,
+        }
+    }
+
+    /// What is written.
+    pub fn as_str(&self) -> &str {
+        self.text.as_str()
+    }
+
+    /// Forgets what is written.
+    pub fn clear(&mut self) {
+        self.text.clear();
+    }
+
+    /// Whether memory was wanting, so that something was left out.
+    pub fn is_short(&self) -> bool {
+        self.is_short
+    }
+
+    /// Notes whether memory was wanting.
+    pub fn note(&mut self, written: Result<(), AllocError>) {
+        if written.is_err() {
+            self.is_short = true;
+        }
+    }
+
+    /// Writes a text.
+    pub fn put(&mut self, text: &str) {
+        let written = self.text.push_str(text);
+        self.note(written);
+    }
+
+    /// Writes a character.
+    pub fn mark(&mut self, c: char) {
+        let written = self.text.push(c);
+        self.note(written);
+    }
+
+    /// Writes what a value is shown as.
+    pub fn show<T: Display>(&mut self, value: &T) {
+        let written = write!(self.text, "{value}");
+        self.note(written);
+    }
+
+    /// Writes a byte in two hexadecimal digits.
+    pub fn digits(&mut self, byte: u8) {
+        let written = write!(self.text, "{byte:02x}");
+        self.note(written);
+    }
+
+    /// Ends the line.
+    pub fn end(&mut self) {
+        self.mark('\n');
+    }
+
+    /// Writes a text and ends the line.
+    pub fn line(&mut self, text: &str) {
+        self.put(text);
+        self.end();
+    }
+
+    /// Writes what a value is shown as, and a text behind it, and ends the line.
+    pub fn count<T: Display>(&mut self, value: &T, what: &str) {
+        self.show(value);
+        self.line(what);
+    }
+
+    /// Writes a word and what a value is shown as.
+    pub fn said<T: Display>(&mut self, word: &str, value: &T) {
+        self.put(word);
+        self.show(value);
+    }
+
+    /// Writes numbers, a blank between each two.
+    pub fn numbers<T: Display>(&mut self, numbers: &[T]) {
+        let mut between = "";
+        for number in numbers {
+            self.said(between, number);
+            between = " ";
+        }
+    }
+
+    /// Writes characters.
+    pub fn spell(&mut self, text: &[Ch]) {
+        for c in text {
+            self.mark(c.code());
+        }
+    }
+
+    /// Writes characters as a line behind a mark.
+    pub fn text(&mut self, mark: char, text: &[Ch]) {
+        self.mark(mark);
+        self.spell(text);
+        self.end();
+    }
+
+    /// Writes a word and what is called so, a blank behind it.
+    pub fn named(&mut self, word: &str, name: &[Ch]) {
+        self.put(word);
+        self.spell(name);
+        self.mark(' ');
+    }
+
+    /// Writes texts, a line each.
+    pub fn texts(&mut self, texts: &[Text]) {
+        for text in texts {
+            self.text('|', text.as_slice());
+        }
+    }
+
+    /// Writes a line of a text, and one that has no line feed behind another mark.
+    fn piece(&mut self, line: &str) {
+        match line.strip_suffix('\n') {
+            Some(line) => self.said("|", &line),
+            None => self.said(":", &line),
+        }
+        self.end();
+    }
+
+    /// Writes the lines of bytes that are text.
+    pub fn bytes(&mut self, bytes: &[u8]) {
+        let Ok(text) = str::from_utf8(bytes) else {
+            return self.line("no text");
+        };
+        for line in text.split_inclusive('\n') {
+            self.piece(line);
+        }
+    }
+
+    /// Writes what a line lacks.
+    fn lack(&mut self, lack: Lack) {
+        match lack {
+            Lack::Words => self.put("unknown"),
+            Lack::Memory => self.is_short = true,
+            Lack::Busy => self.put("busy"),
+            Lack::Fault(fault) => self.show(&fault),
+            Lack::Error(number) => self.said("error ", &number),
+            Lack::ErrorAt(number, at) => {
+                self.said("error ", &number);
+                self.said(" at ", &at);
+            }
+        }
+        self.end();
+    }
+
+    /// Writes why a call gives no answer.
+    pub fn refuse<E: Into<Lack>>(&mut self, error: E) {
+        self.lack(error.into());
+    }
+
+    /// What a call answers; where it answers nothing, writes why.
+    pub fn kept<T: Drop, E: Into<Lack>>(&mut self, answer: Result<T, E>) -> Option<T> {
+        match answer {
+            Ok(value) => Some(value),
+            Err(error) => {
+                self.refuse(error);
+                None
+            }
+        }
+    }
+
+    /// A list, an empty one where memory is wanting.
+    pub fn list<T: Drop>(&mut self, list: Result<Vec<T>, AllocError>) -> Vec<T> {
+        match list {
+            Ok(list) => list,
+            Err(_) => {
+                self.is_short = true;
+                Vec::new(self.alloc)
+            }
+        }
+    }
+
+    /// Adds to a list.
+    pub fn add<T: Drop>(&mut self, list: &mut Vec<T>, item: T) {
+        if list.push(item).is_err() {
+            self.is_short = true;
+        }
+    }
+}
