@@ -1,0 +1,93 @@
+"""The crates of this repository as the toolchain's rt has them, proved side by side: what bin/build, bin/check-embedding, bin/gate-cost
+and bin/wrong-bodies share. What is proved is kept in crates/NAME/out, so that only what has changed is proved again."""
+import importlib.machinery
+import importlib.util
+import os
+import re
+import shutil
+import sys
+import time
+from concurrent.futures import FIRST_COMPLETED, ThreadPoolExecutor, wait
+
+TOP = os.path.dirname(os.path.dirname(os.path.realpath(__file__)))
+# A crate is proved by one process, since there are more crates than processors.
+JOBS = ["--jobs", "1"]
+
+
+def load():
+    """Returns the toolchain's program rt as a module."""
+    path = shutil.which("rt")
+    if not path:
+        sys.exit("there is no rt here: the toolchain's folder bin/ must be in PATH")
+    loader = importlib.machinery.SourceFileLoader("rt", os.path.realpath(path))
+    module = importlib.util.module_from_spec(importlib.util.spec_from_loader("rt", loader))
+    sys.modules["rt"] = module
+    loader.exec_module(module)
+    # its first call sets a signal's handler, which only the main thread may
+    module.rtlib.guarded()
+    return module
+
+
+def listed(rt):
+    """Returns the crates of the repository by name, lowest first."""
+    return {it.name: it for it in sorted(rt.rtlib.crates_below(TOP), key=lambda it: len(it.below()))}
+
+
+def size(crate):
+    """Returns a crate's lines, by which its time is judged."""
+    return crate.count(rb"\n")
+
+
+def in_lanes(crates, work):
+    """Calls work for each of the crates, as many side by side as there are processors, each once those below it have ended well, and
+    first those with the longest chain above them. Returns the names of those that ended well."""
+    behind = {}
+    for crate in sorted(crates, key=lambda it: -len(it.below())):
+        behind[crate] = size(crate) + max((behind[it] for it in behind if crate in it.below()), default=0)
+    left, running, well = sorted(crates, key=lambda it: -behind[it]), {}, set()
+    lanes = os.cpu_count() or 1
+    with ThreadPoolExecutor(lanes) as pool:
+        while left or running:
+            ready = [it for it in left if all(low not in behind or low in well for low in it.below())]
+            if not ready and not running:
+                break
+            for crate in ready[: lanes - len(running)]:
+                left.remove(crate)
+                running[pool.submit(work, crate)] = crate
+            for it in wait(running, return_when=FIRST_COMPLETED).done:
+                crate = running.pop(it)
+                well |= {crate} if it.result() else set()
+    return {it.name for it in well}
+
+
+def prove(rt, crates, tell=lambda *_: None):
+    """Proves libraries, of which each one's own are among them or stand. It tells of each that is proved, and returns the names of the
+    others, which it tells of on standard error."""
+    held = rt.rtlib.lock(crates)
+
+    def work(crate):
+        began, is_kept = time.monotonic(), crate.is_built()
+        os.makedirs(f"{crate.folder}/out", exist_ok=True)
+        log = f"{crate.folder}/out/proof"
+        with open(log, "w", encoding="utf-8") as crate.out:
+            status = crate.build_rlib(JOBS, anew=False)
+        if status:
+            with open(log, encoding="utf-8", errors="replace") as said:
+                print(f"{crate.name} is not proved:\n{said.read()}", file=sys.stderr, flush=True)
+        else:
+            tell(crate, is_kept, time.monotonic() - began)
+        return not status
+
+    try:
+        well = in_lanes(crates, work)
+    finally:
+        for it in held:
+            os.close(it)
+    return [it.name for it in crates if it.name not in well]
+
+
+def edits(crate, folder):
+    """Returns the paths of the changed bodies in a folder of a crate's, in order."""
+    path = f"{crate.folder}/{folder}"
+    names = sorted(os.listdir(path)) if os.path.isdir(path) else []
+    return [f"{path}/{it}" for it in names if re.search(r"\.edit$", it)]
