@@ -1,5 +1,6 @@
 """The crates of this repository as the toolchain's rt has them, proved side by side: what bin/build, bin/check-embedding, bin/gate-cost
 and bin/wrong-bodies share. What is proved is kept in crates/NAME/out, so that only what has changed is proved again."""
+import functools
 import importlib.machinery
 import importlib.util
 import os
@@ -23,6 +24,8 @@ def load():
     module = importlib.util.module_from_spec(importlib.util.spec_from_loader("rt", loader))
     sys.modules["rt"] = module
     loader.exec_module(module)
+    # rt works out the sum of a crate's files anew for each way down to it, of which some crates here have 200,000: minutes each
+    module.rtlib.Crate.stamp = functools.cache(module.rtlib.Crate.stamp)
     # its first call sets a signal's handler, which only the main thread may
     module.rtlib.guarded()
     return module
