@@ -1,37 +1,26 @@
 // The faults.
-ghost use Rattle.std.specs.Prelude.{◌≡◌, true};
+ghost use Rattle.std.specs.Prelude.{◌≡◌, true, Some};
 ghost use Rattle.std.specs.Int.{is_in_range};
 ghost use Rattle.std.specs.List.{list_all};
 ghost use Rattle.apl_faults.specs.Report.{number_of, name_of, is_alone};
 
+use std::fmt;
 use thiserror::Error;
 
 /// What stops a statement, a definition or a command. Its text is its name in a report.
 #[derive(Clone, Copy, PartialEq, Eq, Debug, Error)]
 pub enum Fault {
-    #[error("SYNTAX ERROR")]
     Syntax = 1,
-    #[error("VALUE ERROR")]
     Value,
-    #[error("DOMAIN ERROR")]
     Domain,
-    #[error("RANK ERROR")]
     Rank,
-    #[error("LENGTH ERROR")]
     Length,
-    #[error("INDEX ERROR")]
     Index,
-    #[error("AXIS ERROR")]
     Axis,
-    #[error("LIMIT ERROR")]
     Limit,
-    #[error("DEFN ERROR")]
     Defn,
-    #[error("INTERRUPT")]
     Interrupt,
-    #[error("CHARACTER ERROR")]
     Character,
-    #[error("INCORRECT COMMAND")]
     Command,
 }
 
@@ -45,24 +34,32 @@ impl Fault {
 
     /// Its name in a report, in ASCII.
     #[tactic(auto, unfolding(crate::specs::Report::name_of))]
-    pub fn name(self) -> &'static [u8]
+    fn text(self) -> &'static str
         ensures is { result.now ≡ name_of self }
         ensures ascii { list_all (λ b. is_in_range 32 126 b) result.now ≡ true }
     {
         match self {
-            Fault::Syntax => b"SYNTAX ERROR",
-            Fault::Value => b"VALUE ERROR",
-            Fault::Domain => b"DOMAIN ERROR",
-            Fault::Rank => b"RANK ERROR",
-            Fault::Length => b"LENGTH ERROR",
-            Fault::Index => b"INDEX ERROR",
-            Fault::Axis => b"AXIS ERROR",
-            Fault::Limit => b"LIMIT ERROR",
-            Fault::Defn => b"DEFN ERROR",
-            Fault::Interrupt => b"INTERRUPT",
-            Fault::Character => b"CHARACTER ERROR",
-            Fault::Command => b"INCORRECT COMMAND",
+            Fault::Syntax => "SYNTAX ERROR",
+            Fault::Value => "VALUE ERROR",
+            Fault::Domain => "DOMAIN ERROR",
+            Fault::Rank => "RANK ERROR",
+            Fault::Length => "LENGTH ERROR",
+            Fault::Index => "INDEX ERROR",
+            Fault::Axis => "AXIS ERROR",
+            Fault::Limit => "LIMIT ERROR",
+            Fault::Defn => "DEFN ERROR",
+            Fault::Interrupt => "INTERRUPT",
+            Fault::Character => "CHARACTER ERROR",
+            Fault::Command => "INCORRECT COMMAND",
         }
+    }
+
+    /// The bytes of its name in a report, in ASCII.
+    pub fn name(self) -> &'static [u8]
+        ensures is { result.now ≡ name_of self }
+        ensures ascii { list_all (λ b. is_in_range 32 126 b) result.now ≡ true }
+    {
+        self.text().as_bytes()
     }
 
     /// Whether its report is its name alone: a bad line, definition or command has no column.
@@ -70,5 +67,14 @@ impl Fault {
         ensures { result ≡ is_alone self }
     {
         matches!(self, Fault::Defn | Fault::Character | Fault::Command)
+    }
+}
+
+/// Writes its name in a report.
+impl fmt::Display for Fault {
+    ghost output = { λ fault. Some (name_of fault) };
+
+    fn fmt<W: fmt::Write>(&self, f: &mut fmt::Formatter<W>) -> fmt::Result {
+        f.write_str(self.text())
     }
 }

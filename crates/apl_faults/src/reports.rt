@@ -1,5 +1,5 @@
 // Reports of faults.
-ghost use Rattle.std.specs.Prelude.{◌≡◌, ◌≤◌, ◌<◌, ◌^◌, IfOk, OnOk, replicate, ◌++◌, ◌∷◌, []};
+ghost use Rattle.std.specs.Prelude.{◌≡◌, ◌≤◌, ◌+◌, ◌-◌, IfOk, OnOk, replicate, ◌++◌, ◌∷◌, []};
 ghost use Rattle.apl_faults.specs.Report.{name_of, place, prefix, call_of, report};
 
 use crate::fault::Fault;
@@ -52,14 +52,25 @@ fn prefix(alloc: Global, call: Option<Call>) -> Result<Vec<Ch>, AllocError>
     Ok(out)
 }
 
-/// Blanks, and a caret after them.
-fn caret(alloc: Global, blanks: usize) -> Result<Text, AllocError>
-    ensures { IfOk result (λ t. t ≡ replicate blanks 32 ++ 94 ∷ []) }
+/// Adds blanks.
+fn push_blanks(out: &mut Vec<Ch>, count: usize) -> Result<(), AllocError>
+    ensures { OnOk result (out.new.items ≡ out.old.items ++ replicate count 32) }
 {
-    let mut out = Vec::new(alloc);
-    for _ in 0..blanks {
+    for _ in 0..count {
         out.push(Ch::ascii(b' '))?;
     }
+    Ok(())
+}
+
+/// A caret under a column, counted from 1, of a text that stands behind `before` blanks.
+fn caret(alloc: Global, before: usize, column: usize) -> Result<Text, AllocError>
+    requires { 1 ≤ column }
+    ensures { IfOk result (λ t. t ≡ replicate (before + (column - 1)) 32 ++ 94 ∷ []) }
+{
+    let mut out = Vec::new(alloc);
+    // Two runs of blanks, since a sum of the two might not fit a usize.
+    push_blanks(&mut out, before)?;
+    push_blanks(&mut out, column - 1)?;
     out.push(Ch::ascii(b'^'))?;
     Ok(Text::new(out))
 }
@@ -83,7 +94,7 @@ pub fn report(
     text: &[Ch],
     column: usize,
 ) -> Result<Vec<Text>, AllocError>
-    requires { (1 ≤ column) × (column < 2 ^ 32) }
+    requires { 1 ≤ column }
     ensures { IfOk result (λ v. v.items ≡ report fault (call_of call.entry) text.now column) }
 {
     let mut lines = Vec::new(alloc);
@@ -95,6 +106,6 @@ pub fn report(
     let before = second.len();
     second.extend_from_slice(text)?;
     lines.push(Text::new(second))?;
-    lines.push(caret(alloc, before + (column - 1))?)?;
+    lines.push(caret(alloc, before, column)?)?;
     Ok(lines)
 }
