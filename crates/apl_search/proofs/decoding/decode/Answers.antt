@@ -1,4 +1,4 @@
-use Rattle.std.proofs.Common.{◌≡◌, ℕ, ℤ, pos, List, map, length, Result, Ok, Vec, Global, ap, sym, ◌∙◌}
+use Rattle.std.proofs.Common.{◌≡◌, ℕ, ℤ, pos, List, map, Result, Ok, Vec, Global, ap, sym, ◌∙◌}
 use Rattle.std.specs.List.{range_with_len}
 use Rattle.std.proofs.lemmas.List.{length-map}
 use Rattle.std.proofs.lemmas.List.FromFn.{length-range_with_len}
@@ -9,9 +9,9 @@ use Rattle.apl_arrays.specs.Index.{size_of}
 use Rattle.apl_arrays.specs.Cells.{Arr, Numbers}
 use Rattle.apl_arrays.specs.Checks.{limited}
 use Rattle.apl_arrays.specs.Results.{all_ok, ok_map}
-use Rattle.apl_arrays.proofs.Exits.{answers_err, answers_along, ok_map_err}
+use Rattle.apl_arrays.proofs.Exits.{answers_err, answers_along}
 use Rattle.apl_arrays.proofs.InTurn.{length-all_ok}
-use Rattle.apl_search.specs.Decoded.{bases_and_digits, first_length, shape_behind, valued}
+use Rattle.apl_search.specs.Decoded.{first_length, shape_behind, valued}
 use Rattle.apl_search.specs.Flat.{pair_at}
 use Rattle.apl_search.proofs.Digits.{digits_there, decode_ok}
 use Rattle.apl_search.proofs.Shapes.{limited_behind}
