@@ -1,5 +1,5 @@
 -- Scans: the folds of the first items along an axis.
-use Rattle.std.specs.Prelude.{ℕ, ℤ, ◌+◌, ◌==◌, cond, List, take, length, slice_index_or, Option, None, Some, Result, Ok, Err}
+use Rattle.std.specs.Prelude.{ℕ, ℤ, ◌+◌, ◌==◌, ◌||◌, Bool, cond, List, take, length, slice_index_or, Option, None, Some, Result, Ok}
 use Rattle.apl_faults.specs.declared.fault.Fault.{Fault}
 use Rattle.apl_faults.specs.declared.fault.Fault.TheVariants.{Domain}
 use Rattle.apl_arrays.specs.declared.axis_choice.Along.{Along}
@@ -9,6 +9,7 @@ use Rattle.apl_arrays.specs.Axes.{without}
 use Rattle.apl_arrays.specs.Cells.{Arr}
 use Rattle.apl_arrays.specs.Index.{size_of, indices}
 use Rattle.apl_arrays.specs.Kinds.{are_numbers}
+use Rattle.apl_arrays.specs.Checks.{demand}
 use Rattle.apl_arrays.specs.Results.{and_then, ok_map, all_ok}
 use Rattle.apl_arrays.specs.Views.{length_of}
 use Rattle.apl_scalar.specs.declared.function.Dyadic.{Dyadic}
@@ -27,12 +28,18 @@ fronts_along f axis a = all_ok (λ i. folded f (items_up_to axis a i)) (indices 
 abbrev pub fronts_shaped : Dyadic → ℕ → Arr → Result Arr Fault
 fronts_shaped f axis a = ok_map (numbers_in a.shape) (fronts_along f axis a)
 
--- an empty array and one that is of length 1 along the axis stay; of characters there is no other scan
+-- an empty array and one that is of length 1 along the axis stay
+abbrev pub stays : ℕ → Arr → Bool
+stays axis a = size_of a.shape == 0 || length_of a axis == 1
+
+-- a scalar stays; of characters there is no other scan
+abbrev pub scannable : Arr → Option ℕ → Result (Unit {0}) Fault
+scannable a None = Ok tt
+scannable a (Some axis) = demand (stays axis a || are_numbers a.items) Domain
+
+-- the fronts, unless the array stays
 abbrev pub scanned_along : Dyadic → ℕ → Arr → Result Arr Fault
-scanned_along f axis a =
-    cond (size_of a.shape == 0) (Ok a)
-    (cond (length_of a axis == 1) (Ok a)
-    (cond (are_numbers a.items) (fronts_shaped f axis a) (Err Domain)))
+scanned_along f axis a = and_then (scannable a (Some axis)) (λ u. cond (stays axis a) (Ok a) (fronts_shaped f axis a))
 
 -- a scalar stays
 abbrev pub scanned : Dyadic → Option ℕ → Arr → Result Arr Fault

@@ -1,6 +1,7 @@
 // Reduction along an axis.
 ghost use Rattle.std.specs.Prelude.{◌≡◌, ◌≢◌, ◌<◌, ◌≤◌, length, Ok};
-ghost use Rattle.apl_arrays.specs.Answers.{Answers};
+ghost use Rattle.apl_arrays.specs.Answers.{Answers, FaultsFirst};
+ghost use Rattle.apl_arrays.specs.Along.{axis_along};
 ghost use Rattle.apl_arrays.specs.Cells.{cells_of};
 ghost use Rattle.apl_arrays.specs.Index.{bound_of, size_of};
 ghost use Rattle.apl_arrays.specs.Ravels.{items_of};
@@ -108,8 +109,9 @@ fn reduce_axis(alloc: Global, function: Dyadic, axis: usize, view: &View<'_>) ->
 /// The reduction of an array, or of a view of one, by a scalar function: the fold of the elements along an axis, for each index list of the
 /// other axes and in their shape.
 ///
-/// The axis is looked at first, and named wrongly it is an axis fault. Along an axis of length 1 the elements stay as they are, and so does
-/// a scalar. Along one of length 0 each fold is the function's identity. Else the first fold that has a fault decides, in ravel order.
+/// The axis is looked at first, before memory is asked for, and named wrongly it is an axis fault. Along an axis of length 1 the elements
+/// stay as they are, and so does a scalar. Along one of length 0 each fold is the function's identity. Else the first fold that has a fault
+/// decides, in ravel order.
 pub fn reduce<C: Cells>(
     alloc: Global,
     function: Dyadic,
@@ -117,7 +119,8 @@ pub fn reduce<C: Cells>(
     array: &C,
     origin: usize,
 ) -> Result<Array, Stop>
-    ensures { Answers (λ r. r) (reduction function along.entry (C.array array.now) origin) result }
+    ensures value { Answers (λ r. r) (reduction function along.entry (C.array array.now) origin) result }
+    ensures at_once { FaultsFirst (axis_along along.entry (length (C.array array.now).shape) origin) result }
 {
     let view = array.view();
     match along.axis(view.rank(), origin) {

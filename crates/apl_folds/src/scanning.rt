@@ -1,12 +1,15 @@
 // Scan along an axis.
-ghost use Rattle.std.specs.Prelude.{◌≡◌, ◌<◌, length, cond, Err};
+ghost use Rattle.std.specs.Prelude.{◌≡◌, ◌<◌, length, cond, Err, Some};
 ghost use Rattle.apl_faults.specs.declared.fault.Fault.TheVariants.{Domain};
-ghost use Rattle.apl_arrays.specs.Answers.{Answers};
+ghost use Rattle.apl_arrays.specs.Answers.{Answers, FaultsFirst};
+ghost use Rattle.apl_arrays.specs.Along.{axis_along};
 ghost use Rattle.apl_arrays.specs.Cells.{Numbers};
+ghost use Rattle.apl_arrays.specs.Checks.{demand};
 ghost use Rattle.apl_arrays.specs.Kinds.{are_numbers};
+ghost use Rattle.apl_arrays.specs.Results.{and_then};
 ghost use Rattle.apl_arrays.specs.Ravels.{items_of};
 ghost use Rattle.apl_arrays.specs.Strides.{IsView};
-ghost use Rattle.apl_folds.specs.Scans.{fronts_along, fronts_shaped, scanned_along, scanning};
+ghost use Rattle.apl_folds.specs.Scans.{fronts_along, fronts_shaped, scannable, scanned_along, scanning};
 ghost use Rattle.apl_folds.specs.Lines.{shown_by};
 
 use crate::lines::{Lines, folds_of_numbers};
@@ -53,7 +56,8 @@ fn scan_elements(
     view: &View<'_>,
 ) -> Result<Array, Stop>
     requires { axis < length view.now.shape }
-    ensures { Answers (λ r. r) (cond (are_numbers view.now.items) (fronts_shaped function axis view.now) (Err Domain)) result }
+    ensures value { Answers (λ r. r) (cond (are_numbers view.now.items) (fronts_shaped function axis view.now) (Err Domain)) result }
+    ensures at_once { FaultsFirst (demand (are_numbers view.now.items) Domain) result }
 {
     let shape = view.shape();
     let room = size(shape.as_slice());
@@ -70,7 +74,8 @@ fn scan_elements(
 /// The scan along an axis.
 fn scan_axis(alloc: Global, function: Dyadic, axis: usize, view: &View<'_>) -> Result<Array, Stop>
     requires { axis < length view.now.shape }
-    ensures { Answers (λ r. r) (scanned_along function axis view.now) result }
+    ensures value { Answers (λ r. r) (scanned_along function axis view.now) result }
+    ensures at_once { FaultsFirst (scannable view.now (Some axis)) result }
 {
     let shape = view.shape();
     if size(shape.as_slice()) == 0 {
@@ -86,7 +91,8 @@ fn scan_axis(alloc: Global, function: Dyadic, axis: usize, view: &View<'_>) -> R
 /// there, in the array's shape.
 ///
 /// The axis is looked at first, and named wrongly it is an axis fault. A scalar, an empty array and one that is of length 1 along the axis
-/// stay as they are. Characters are a domain fault. Else the first fold that has a fault decides, in ravel order.
+/// stay as they are. Characters are a domain fault, like the axis before memory is asked for. Else the first fold that has a fault decides,
+/// in ravel order.
 pub fn scan<C: Cells>(
     alloc: Global,
     function: Dyadic,
@@ -94,7 +100,8 @@ pub fn scan<C: Cells>(
     array: &C,
     origin: usize,
 ) -> Result<Array, Stop>
-    ensures { Answers (λ r. r) (scanning function along.entry (C.array array.now) origin) result }
+    ensures value { Answers (λ r. r) (scanning function along.entry (C.array array.now) origin) result }
+    ensures at_once { FaultsFirst (and_then (axis_along along.entry (length (C.array array.now).shape) origin) (scannable (C.array array.now))) result }
 {
     let view = array.view();
     match along.axis(view.rank(), origin) {

@@ -18,9 +18,13 @@ use Rattle.apl_folds.specs.Folds.{item_at, folded}
 abbrev pub paired : Dyadic → Arr → Arr → List ℕ → Result ℤ Fault
 paired g a b i = dyadic_at g (Some (item_at a (take (length a.shape) i))) (Some (item_at b (drop (length a.shape) i)))
 
+-- the shape of the outer product, or LIMIT
+abbrev pub outer_shape : Arr → Arr → Result (List ℕ) Fault
+outer_shape a b = limited (a.shape ++ b.shape)
+
 -- each item of the first array with each of the second one, after the limits
 abbrev pub outer_product : Dyadic → Arr → Arr → Result Arr Fault
-outer_product g a b = and_then (limited (a.shape ++ b.shape)) (λ s. ok_map (numbers_in s) (all_ok (paired g a b) (indices s)))
+outer_product g a b = and_then (outer_shape a b) (λ s. ok_map (numbers_in s) (all_ok (paired g a b) (indices s)))
 
 -- the length of an axis, which for a scalar is 1
 abbrev pub length_or_one : ℕ → Arr → ℕ
@@ -50,9 +54,17 @@ all_folded f meet is = and_then (all_ok meet is) (λ rows. all_ok (λ row. folde
 abbrev pub last_axis : Arr → ℕ
 last_axis a = length a.shape - 1
 
+-- how long the last axis of the first array and the first axis of the second one are when joined, or LENGTH
+abbrev pub axes_joined : Arr → Arr → Result ℕ Fault
+axes_joined a b = joined_length (length_or_one (last_axis a) a) (length_or_one 0 b)
+
+-- the shape of the inner product, or LIMIT
+abbrev pub inner_shape : Arr → Arr → Result (List ℕ) Fault
+inner_shape a b = limited (without (last_axis a) a.shape ++ without 0 b.shape)
+
 -- the last axis of the first array with the first axis of the second one: lengths, then limits, then for each element and along the axis g, then the folds by f
 abbrev pub inner_product : Dyadic → Dyadic → Arr → Arr → Result Arr Fault
 inner_product f g a b =
-    and_then (joined_length (length_or_one (last_axis a) a) (length_or_one 0 b)) (λ n.
-    and_then (limited (without (last_axis a) a.shape ++ without 0 b.shape)) (λ s.
+    and_then (axes_joined a b) (λ n.
+    and_then (inner_shape a b) (λ s.
     ok_map (numbers_in s) (all_folded f (met_items g (joined_item (last_axis a) a) (joined_item 0 b) (last_axis a) n) (indices s))))

@@ -1,7 +1,7 @@
 // Inner products.
 ghost use Rattle.std.specs.Prelude.{◌≡◌, ◌<◌, ◌*◌, ◌^◌, ◌++◌, ◌∷◌, [], length, map, Ok, IfOk};
 ghost use Rattle.std.specs.List.{range_with_len};
-ghost use Rattle.apl_arrays.specs.Answers.{Answers};
+ghost use Rattle.apl_arrays.specs.Answers.{Answers, FaultsFirst};
 ghost use Rattle.apl_arrays.specs.Axes.{without};
 ghost use Rattle.apl_arrays.specs.Cells.{cells_of};
 ghost use Rattle.apl_arrays.specs.Index.{indices};
@@ -10,7 +10,7 @@ ghost use Rattle.apl_arrays.specs.Results.{all_ok, ok_map, and_then};
 ghost use Rattle.apl_arrays.specs.declared.cell.Cell.TheVariants.{Num};
 ghost use Rattle.apl_scalar.specs.Functions.{dyadic_of};
 ghost use Rattle.apl_folds.specs.Folds.{folded};
-ghost use Rattle.apl_operators.specs.Products.{joined_length, joined_item, length_or_one, last_axis, met_items, all_folded, inner_product};
+ghost use Rattle.apl_operators.specs.Products.{joined_length, joined_item, length_or_one, last_axis, met_items, all_folded, axes_joined, inner_shape, inner_product};
 ghost use Rattle.apl_operators.specs.Joints.{met, met_cells, folds_of, so_far, step_of, Joins};
 
 use crate::joint::{Joint, joined, without_first, without_last};
@@ -236,8 +236,8 @@ fn inner_values(
 /// the folds of its values by the outer function, in the shape of the other axes of the first array and then the second one's.
 ///
 /// A scalar serves as a vector of one element, and an axis of length 1 extends. Other axes of unequal lengths are a length fault. Then it is
-/// a limit fault where no array may have the shape. Then the first fault of the inner function decides, in ravel order of the result and then
-/// along the axis, and at last the first fault of the folds.
+/// a limit fault where no array may have the shape: both are found before memory is asked for. Then the first fault of the inner function
+/// decides, in ravel order of the result and then along the axis, and at last the first fault of the folds.
 pub fn inner<A: Cells, B: Cells>(
     alloc: Global,
     outer_function: Dyadic,
@@ -245,7 +245,8 @@ pub fn inner<A: Cells, B: Cells>(
     a: &A,
     b: &B,
 ) -> Result<Array, Stop>
-    ensures { Answers (λ r. r) (inner_product outer_function inner_function (A.array a.now) (B.array b.now)) result }
+    ensures value { Answers (λ r. r) (inner_product outer_function inner_function (A.array a.now) (B.array b.now)) result }
+    ensures at_once { FaultsFirst (and_then (axes_joined (A.array a.now) (B.array b.now)) (λ n. inner_shape (A.array a.now) (B.array b.now))) result }
 {
     let a = a.view();
     let b = b.view();

@@ -1,13 +1,13 @@
 // Outer products.
 ghost use Rattle.std.specs.Prelude.{◌≡◌, ◌<◌, ◌≤◌, ◌*◌, ◌^◌, ◌++◌, length, slice_index_or, pos};
 ghost use Rattle.std.specs.List.{range_with_len};
-ghost use Rattle.apl_arrays.specs.Answers.{Answers, Appends};
+ghost use Rattle.apl_arrays.specs.Answers.{Answers, Appends, FaultsFirst};
 ghost use Rattle.apl_arrays.specs.Cells.{cells_of};
 ghost use Rattle.apl_arrays.specs.Index.{indices};
 ghost use Rattle.apl_arrays.specs.Ravels.{items_of};
 ghost use Rattle.apl_arrays.specs.Results.{all_ok};
 ghost use Rattle.apl_scalar.specs.Functions.{dyadic_of};
-ghost use Rattle.apl_operators.specs.Products.{paired, outer_product};
+ghost use Rattle.apl_operators.specs.Products.{paired, outer_shape, outer_product};
 ghost use Rattle.apl_operators.specs.Places.{crossed, crossed_cells};
 
 use crate::line::{Each, Same, meet};
@@ -135,15 +135,17 @@ fn outer_values(
 
 /// The outer product: a function of each element of one array with each of another, in the shape of the first one and then the second one's.
 ///
-/// It is a limit fault where no array may have this shape. Then the first fault in ravel order decides: a character is a domain fault but for
-/// [`Dyadic::Equal`] and [`Dyadic::NotEqual`], and else it is what the function says of two numbers. An empty result has no fault.
+/// It is a limit fault where no array may have this shape, before memory is asked for. Then the first fault in ravel order decides: a
+/// character is a domain fault but for [`Dyadic::Equal`] and [`Dyadic::NotEqual`], and else it is what the function says of two numbers. An
+/// empty result has no fault.
 pub fn outer<A: Cells, B: Cells>(
     alloc: Global,
     function: Dyadic,
     a: &A,
     b: &B,
 ) -> Result<Array, Stop>
-    ensures { Answers (λ r. r) (outer_product function (A.array a.now) (B.array b.now)) result }
+    ensures value { Answers (λ r. r) (outer_product function (A.array a.now) (B.array b.now)) result }
+    ensures at_once { FaultsFirst (outer_shape (A.array a.now) (B.array b.now)) result }
 {
     let a = a.view();
     let b = b.view();

@@ -1,6 +1,6 @@
 // What is left without the first or last elements along each axis.
 ghost use Rattle.std.specs.Prelude.{◌≡◌, ◌≤◌, length, IfOk, true};
-ghost use Rattle.apl_arrays.specs.Answers.{Answers};
+ghost use Rattle.apl_arrays.specs.Answers.{Answers, FaultsFirst};
 ghost use Rattle.apl_reshape.specs.Take.{dropped, dropped_by, fits_axes, widened};
 
 use crate::formed::formed;
@@ -48,9 +48,11 @@ fn left_of_widened(alloc: Global, counts: &[i64], b: &Array) -> Result<Array, Al
 /// What is left of B without the first so many elements along each axis, or without the last where the number in A is below 0.
 ///
 /// A is a scalar or a vector, else it is a rank fault. It is a length fault where it has not a number for each axis, though a scalar B gets
-/// as many axes as there are numbers. Characters are a domain fault. It is a limit fault where a scalar gets too many axes.
+/// as many axes as there are numbers. Characters are a domain fault. It is a limit fault where a scalar gets too many axes. Every fault is
+/// found before memory is asked for.
 pub fn drop_items(alloc: Global, a: &Array, b: &Array) -> Result<Array, Stop>
-    ensures { Answers (λ r. r) (dropped a.now b.now) result }
+    ensures value { Answers (λ r. r) (dropped a.now b.now) result }
+    ensures at_once { FaultsFirst (dropped a.now b.now) result }
 {
     let counts = counts_named(a, b.shape())?;
     if counts.len() > MAX_RANK {

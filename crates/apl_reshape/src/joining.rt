@@ -1,6 +1,6 @@
 // Two arrays joined along an axis.
 ghost use Rattle.std.specs.Prelude.{◌≡◌, ◌<◌, ◌≤◌, length, max, drop, take, true};
-ghost use Rattle.apl_arrays.specs.Answers.{Answers};
+ghost use Rattle.apl_arrays.specs.Answers.{Answers, FaultsFirst};
 ghost use Rattle.apl_arrays.specs.Axes.{without};
 ghost use Rattle.apl_arrays.specs.Checks.{same};
 ghost use Rattle.apl_arrays.specs.Index.{bound_of, size_of};
@@ -67,7 +67,8 @@ fn join_with(
     requires s_small { bound_of s.now ≤ MAX_ELEMENTS }
     requires t_small { bound_of t.now ≤ MAX_ELEMENTS }
     requires agree { same (without axis s.now) (without axis t.now) ≡ true }
-    ensures { Answers (λ r. r) (joined_of axis s.now t.now a.now b.now) result }
+    ensures value { Answers (λ r. r) (joined_of axis s.now t.now a.now b.now) result }
+    ensures at_once { FaultsFirst (joined_of axis s.now t.now a.now b.now) result }
 {
     let pair = paired(a.ravel(), b.ravel())?;
     let shape = joined_lengths(axis, s, t);
@@ -82,7 +83,8 @@ fn join_with(
 /// Two arrays joined along an axis.
 fn join_on(alloc: Global, axis: usize, a: &Array, b: &Array) -> Result<Array, Stop>
     requires { axis < max (max (length a.now.shape) (length b.now.shape)) 1 }
-    ensures { Answers (λ r. r) (joined_on axis a.now b.now) result }
+    ensures value { Answers (λ r. r) (joined_on axis a.now b.now) result }
+    ensures at_once { FaultsFirst (joined_on axis a.now b.now) result }
 {
     let s = lengths_beside(axis, a.shape(), b.shape());
     let t = lengths_beside(axis, b.shape(), a.shape());
@@ -99,7 +101,8 @@ fn join_on(alloc: Global, axis: usize, a: &Array, b: &Array) -> Result<Array, St
 ///
 /// The faults are first those of [`Along::axis`]. A scalar extends over the other axes, and an operand of one axis less gets the axis with
 /// length 1; other ranks that differ are a rank fault, and then lengths that differ on another axis a length fault. Numbers with characters
-/// are a domain fault, but an empty operand takes the other's type. It is a limit fault where the result is beyond the limits.
+/// are a domain fault, but an empty operand takes the other's type. It is a limit fault where the result is beyond the limits. Every fault
+/// is found before memory is asked for.
 pub fn catenate(
     alloc: Global,
     along: Along<'_>,
@@ -107,7 +110,8 @@ pub fn catenate(
     b: &Array,
     origin: usize,
 ) -> Result<Array, Stop>
-    ensures { Answers (λ r. r) (catenated along.entry origin a.now b.now) result }
+    ensures value { Answers (λ r. r) (catenated along.entry origin a.now b.now) result }
+    ensures at_once { FaultsFirst (catenated along.entry origin a.now b.now) result }
 {
     match along.axis(a.rank().max(b.rank()), origin) {
         Ok(Some(axis)) => join_on(alloc, axis, a, b),

@@ -1,6 +1,6 @@
 // The shape of an array, its elements as a vector, and its elements in another shape.
 ghost use Rattle.std.specs.Prelude.{◌≡◌, ◌≤◌, length, IfOk, map, pos};
-ghost use Rattle.apl_arrays.specs.Answers.{Answers};
+ghost use Rattle.apl_arrays.specs.Answers.{Answers, FaultsFirst};
 ghost use Rattle.apl_arrays.specs.Index.{bound_of};
 ghost use Rattle.apl_reshape.specs.Reshape.{raveled, reshaped, shape_of};
 
@@ -48,9 +48,11 @@ pub fn ravel(alloc: Global, b: &Array) -> Result<Array, Stop>
 /// The elements of B in ravel order, taken round, in the shape that A names.
 ///
 /// A is a scalar or a vector of lengths, else it is a rank fault. It is a domain fault where A has characters or a number below 0, then a
-/// limit fault where the shape is beyond the limits. Where B has no elements, zeros or blanks stand for them.
+/// limit fault where the shape is beyond the limits. Every fault is found before memory is asked for. Where B has no elements, zeros or
+/// blanks stand for them.
 pub fn reshape(alloc: Global, a: &Array, b: &Array) -> Result<Array, Stop>
-    ensures { Answers (λ r. r) (reshaped a.now b.now) result }
+    ensures value { Answers (λ r. r) (reshaped a.now b.now) result }
+    ensures at_once { FaultsFirst (reshaped a.now b.now) result }
 {
     let lengths = shape_named_by(a)?;
     let count = size(lengths.as_slice());

@@ -2,7 +2,7 @@
 ghost use Rattle.std.specs.Prelude.{◌≡◌, ◌<◌, ◌≤◌, ◌+◌, ◌++◌, ◌^◌, length, IfOk, OnOk, map, pos, slice_index_or, unsigned_abs};
 ghost use Rattle.std.specs.Int.{is_negative};
 ghost use Rattle.std.specs.List.{range_with_len};
-ghost use Rattle.apl_arrays.specs.Answers.{Answers};
+ghost use Rattle.apl_arrays.specs.Answers.{Answers, FaultsFirst};
 ghost use Rattle.apl_arrays.specs.Cells.{cells_of};
 ghost use Rattle.apl_arrays.specs.Index.{bound_of, indices, size_of};
 ghost use Rattle.apl_arrays.specs.Ravels.{items_of};
@@ -186,9 +186,11 @@ fn ravel_taken(
 /// too few.
 ///
 /// A is a scalar or a vector, else it is a rank fault. It is a length fault where it has not a number for each axis, though a scalar B gets
-/// as many axes as there are numbers. Characters are a domain fault. It is a limit fault where the result is beyond the limits.
+/// as many axes as there are numbers. Characters are a domain fault. It is a limit fault where the result is beyond the limits. Every fault
+/// is found before memory is asked for.
 pub fn take_items(alloc: Global, a: &Array, b: &Array) -> Result<Array, Stop>
-    ensures { Answers (λ r. r) (taken a.now b.now) result }
+    ensures value { Answers (λ r. r) (taken a.now b.now) result }
+    ensures at_once { FaultsFirst (taken a.now b.now) result }
 {
     let counts = counts_named(a, b.shape())?;
     let lengths = magnitudes(counts)?;

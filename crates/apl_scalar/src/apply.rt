@@ -1,7 +1,7 @@
 // Scalar functions of arrays.
 ghost use Rattle.std.specs.Prelude.{◌≡◌, ◌<◌, ℕ, length, cond, true, false, slice_index_or, pos};
 ghost use Rattle.std.specs.List.{range_with_len};
-ghost use Rattle.apl_arrays.specs.Answers.{Answers};
+ghost use Rattle.apl_arrays.specs.Answers.{Answers, FaultsFirst};
 ghost use Rattle.apl_arrays.specs.Cells.{cell_at, Numbers};
 ghost use Rattle.apl_arrays.specs.Index.{size_of, indices};
 ghost use Rattle.apl_arrays.specs.Results.{all_ok, ok_map};
@@ -190,12 +190,13 @@ pub fn monadic(alloc: Global, function: Monadic, b: &Array) -> Result<Array, Sto
 
 /// A scalar function of two arrays.
 ///
-/// An operand of one element extends over the other. Else unequal ranks are a rank fault, then unequal shapes a length fault. Then the
-/// first fault in ravel order decides: a character is a domain fault but for [`Dyadic::Equal`] and [`Dyadic::NotEqual`], and so are numbers
-/// that have no value. A value that leaves 64 bits is a limit fault. Where both have one element, the result has the shape of the greater
-/// rank. An empty result has no fault.
+/// An operand of one element extends over the other. Else unequal ranks are a rank fault, then unequal shapes a length fault, both before
+/// memory is asked for. Then the first fault in ravel order decides: a character is a domain fault but for [`Dyadic::Equal`] and
+/// [`Dyadic::NotEqual`], and so are numbers that have no value. A value that leaves 64 bits is a limit fault. Where both have one element,
+/// the result has the shape of the greater rank. An empty result has no fault.
 pub fn dyadic(alloc: Global, function: Dyadic, a: &Array, b: &Array) -> Result<Array, Stop>
-    ensures { Answers (λ r. r) (dyadic function a.now b.now) result }
+    ensures value { Answers (λ r. r) (dyadic function a.now b.now) result }
+    ensures at_once { FaultsFirst (extended a.now.shape b.now.shape) result }
 {
     let a_single = a.ravel().len() == 1;
     let b_single = b.ravel().len() == 1;

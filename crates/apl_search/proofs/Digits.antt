@@ -1,12 +1,12 @@
 -- What the checks of decoding leave, and the values by flat places.
-use Rattle.std.proofs.Common.{◌≡◌, ℕ, ℤ, pos, suc, ◌+◌, ◌*◌, ◌<◌, ◌≤◌, Bool, true, false, cond, eqb, List, [], ◌∷◌, map, length, Result, Ok, Err, refl, ap, sym, ◌∙◌, arith}
+use Rattle.std.proofs.Common.{◌≡◌, ℕ, ℤ, pos, suc, ◌+◌, ◌*◌, ◌<◌, ◌≤◌, Bool, true, false, eqb, List, [], ◌∷◌, map, length, Result, Ok, Err, refl, ap, sym, ◌∙◌, arith}
 use Rattle.std.specs.List.{range_with_len}
 use Rattle.std.proofs.Math.Nat.{mul-le-mul_right}
-use Rattle.std.proofs.lemmas.Bool.{eqb-true, eqb-false}
+use Rattle.std.proofs.lemmas.Bool.{eqb-true}
 use Rattle.std.proofs.lemmas.List.{length-map}
 use Rattle.apl_faults.specs.declared.fault.Fault.{Fault}
-use Rattle.apl_arrays.specs.declared.cell.Cell.TheVariants.{Num, Char}
-use Rattle.apl_arrays.specs.Index.{size_of, indices, position_in}
+use Rattle.apl_arrays.specs.declared.cell.Cell.TheVariants.{Num}
+use Rattle.apl_arrays.specs.Index.{size_of, indices}
 use Rattle.apl_arrays.specs.Cells.{Arr, Items, Numbers, Characters, cells_of}
 use Rattle.apl_arrays.specs.Checks.{vector_rank, numbers_of, count_of}
 use Rattle.apl_arrays.specs.Results.{and_then, ok_map, all_ok}

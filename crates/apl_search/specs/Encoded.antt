@@ -29,9 +29,13 @@ digits_in bases rs shape = ok_map (λ digits. record { shape = shape; items = Nu
 abbrev pub bases_and_numbers : Arr → Arr → Result (List ℤ × List ℤ) Fault
 bases_and_numbers a b = and_then (vector_rank a) (λ u. and_then (numbers_of a.items) (λ bases. ok_map (λ rs. (bases, rs)) (numbers_of b.items)))
 
--- encoding: a first axis for the bases, if they have one; the result's limits before its digits
+-- a first axis for the bases, if they have one, or LIMIT
+abbrev pub encoded_shape : Arr → Arr → Result (List ℕ) Fault
+encoded_shape a b = limited (a.shape ++ b.shape)
+
+-- encoding: the result's limits before its digits
 abbrev pub encode : Arr → Arr → Result Arr Fault
-encode a b = and_then (bases_and_numbers a b) (λ p. and_then (limited (a.shape ++ b.shape)) (digits_in p.0 p.1))
+encode a b = and_then (bases_and_numbers a b) (λ p. and_then (encoded_shape a b) (digits_in p.0 p.1))
 
 -- a number as large as one of 64 bits, or its opposite
 pub record IsNear (r : ℤ) : Type 0 where

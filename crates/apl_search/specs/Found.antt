@@ -1,5 +1,5 @@
 -- Items looked for among others.
-use Rattle.std.specs.Prelude.{ℕ, ℤ, pos, ◌+◌, ◌==◌, nat_eq, Bool, false, List, length, map, Result, Ok}
+use Rattle.std.specs.Prelude.{ℕ, pos, ◌+◌, ◌==◌, nat_eq, Bool, false, List, length, map, Result}
 use Rattle.std.specs.Ordering.{int_eq}
 use Rattle.std.specs.List.{position_or_len, list_any}
 use Rattle.apl_faults.specs.declared.fault.Fault.{Fault}

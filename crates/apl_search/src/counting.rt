@@ -1,7 +1,7 @@
 // The numbers up to a count.
 ghost use Rattle.std.specs.Prelude.{◌≡◌, ◌+◌, ◌≤◌, ◌^◌, ◌<◌, IfOk, map, pos};
 ghost use Rattle.std.specs.List.{range_with_len};
-ghost use Rattle.apl_arrays.specs.Answers.{Answers};
+ghost use Rattle.apl_arrays.specs.Answers.{Answers, FaultsFirst};
 ghost use Rattle.apl_search.specs.Counted.{natural, count_named, iota};
 
 use crate::result::array_of;
@@ -52,10 +52,11 @@ fn numbers_from(alloc: Global, first: usize, count: usize) -> Result<Vec<i64>, A
 /// The numbers from the index origin on, as many as an array of one number says, as a vector.
 ///
 /// More than one axis is a rank fault, then another count of elements a length fault, then a character or a negative number a domain
-/// fault, then a vector over the limits a limit fault.
+/// fault, then a vector over the limits a limit fault. Every fault is found before memory is asked for.
 pub fn iota(alloc: Global, b: &Array, origin: usize) -> Result<Array, Stop>
     requires { origin ≤ 1 }
-    ensures { Answers (λ r. r) (iota b.now origin) result }
+    ensures value { Answers (λ r. r) (iota b.now origin) result }
+    ensures at_once { FaultsFirst (iota b.now origin) result }
 {
     let count = count_in(b)?;
     within_limits(&[count])?;

@@ -1,7 +1,7 @@
 // Values of digits by bases.
 ghost use Rattle.std.specs.Prelude.{◌≡◌, ℕ, ◌+◌, ◌*◌, ◌<◌, ◌+ℤ◌, ◌*ℤ◌, pos, length, map, slice_index_or};
 ghost use Rattle.std.specs.List.{range_with_len};
-ghost use Rattle.apl_arrays.specs.Answers.{Answers};
+ghost use Rattle.apl_arrays.specs.Answers.{Answers, FaultsFirst};
 ghost use Rattle.apl_arrays.specs.Results.{all_ok, ok_map};
 ghost use Rattle.apl_scalar.specs.Functions.{in_range};
 ghost use Rattle.apl_search.specs.Decoded.{bases_and_digits, decode, first_length, joined_count, served, shape_behind, valued};
@@ -160,10 +160,11 @@ fn operands<'a>(a: &'a Array, b: &'a Array) -> Result<(&'a [i64], &'a [i64], usi
 /// From 0 on, each value so far is multiplied by the next base, and the next digit is added. One base serves for all digits, and one digit
 /// for all bases; a scalar `b` is one. The result has the shape of `b` without its first axis.
 ///
-/// More than one axis of `a` is a rank fault, then other counts a length fault, then characters a domain fault, then a value that leaves
-/// 64 bits a limit fault.
+/// More than one axis of `a` is a rank fault, then other counts a length fault, then characters a domain fault: all these before memory is
+/// asked for. Then a value that leaves 64 bits is a limit fault.
 pub fn decode(alloc: Global, a: &Array, b: &Array) -> Result<Array, Stop>
-    ensures { Answers (λ r. r) (decode a.now b.now) result }
+    ensures value { Answers (λ r. r) (decode a.now b.now) result }
+    ensures at_once { FaultsFirst (bases_and_digits a.now b.now) result }
 {
     let (bases, digits, count) = operands(a, b)?;
     let shape = behind(b.shape());

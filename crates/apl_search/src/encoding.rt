@@ -1,10 +1,10 @@
 // Digits of numbers by bases, from the last base on and the last digit first.
 ghost use Rattle.std.specs.Prelude.{◌≡◌, ◌-◌, ◌*◌, ◌^◌, ◌<◌, ◌++◌, IfOk, length, map, pos, reverse, slice_index_or};
 ghost use Rattle.std.specs.List.{All, range_with_len};
-ghost use Rattle.apl_arrays.specs.Answers.{Answers};
-ghost use Rattle.apl_arrays.specs.Results.{all_ok, ok_map};
+ghost use Rattle.apl_arrays.specs.Answers.{Answers, FaultsFirst};
+ghost use Rattle.apl_arrays.specs.Results.{all_ok, and_then, ok_map};
 ghost use Rattle.apl_scalar.specs.Functions.{in_range, residue};
-ghost use Rattle.apl_search.specs.Encoded.{bases_and_numbers, digits_by, encode, left_of, IsNear};
+ghost use Rattle.apl_search.specs.Encoded.{bases_and_numbers, digits_by, encode, encoded_shape, left_of, IsNear};
 
 use crate::decoding::narrowed;
 use crate::dividing::divided;
@@ -116,10 +116,11 @@ fn operands<'a>(a: &'a Array, b: &'a Array) -> Result<(&'a [i64], &'a [i64]), Fa
 /// The digit by the last base is what division by it leaves, with the sign of the base, and the next base goes on with the quotient rounded
 /// down. The base 0 takes all that is left as its digit.
 ///
-/// More than one axis of `a` is a rank fault, then characters a domain fault, then a shape over the limits a limit fault, then a digit that
-/// leaves 64 bits too.
+/// More than one axis of `a` is a rank fault, then characters a domain fault, then a shape over the limits a limit fault: all these before
+/// memory is asked for. Then a digit that leaves 64 bits is a limit fault too.
 pub fn encode(alloc: Global, a: &Array, b: &Array) -> Result<Array, Stop>
-    ensures { Answers (λ r. r) (encode a.now b.now) result }
+    ensures value { Answers (λ r. r) (encode a.now b.now) result }
+    ensures at_once { FaultsFirst (and_then (bases_and_numbers a.now b.now) (λ p. encoded_shape a.now b.now)) result }
 {
     let (bases, numbers) = operands(a, b)?;
     let joined = joined_shape(a.shape(), b.shape());

@@ -1,6 +1,6 @@
 // First places of items among others.
 ghost use Rattle.std.specs.Prelude.{◌≡◌, ◌==◌, ◌+◌, ◌≤◌, length, map, pos, IfOk};
-ghost use Rattle.apl_arrays.specs.Answers.{Answers};
+ghost use Rattle.apl_arrays.specs.Answers.{Answers, FaultsFirst};
 ghost use Rattle.apl_arrays.specs.Cells.{cells_of, Numbers, Characters};
 ghost use Rattle.apl_arrays.specs.Checks.{demand};
 ghost use Rattle.apl_arrays.specs.Ravels.{items_of};
@@ -99,10 +99,11 @@ fn one_axis(a: &Array) -> Result<(), Fault>
 /// For each item of `b` its first place in the vector `a`, counted from the index origin, or the place behind the last, in the shape of `b`.
 /// A character is never equal to a number.
 ///
-/// Another count of axes of `a` than 1 is a rank fault.
+/// Another count of axes of `a` than 1 is a rank fault, before memory is asked for.
 pub fn index_of(alloc: Global, a: &Array, b: &Array, origin: usize) -> Result<Array, Stop>
     requires { origin ≤ 1 }
-    ensures { Answers (λ r. r) (index_of a.now b.now origin) result }
+    ensures value { Answers (λ r. r) (index_of a.now b.now origin) result }
+    ensures at_once { FaultsFirst (index_of a.now b.now origin) result }
 {
     one_axis(a)?;
     let places = places_in_ravel(alloc, b.ravel(), a.ravel(), origin)?;

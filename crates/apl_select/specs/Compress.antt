@@ -1,13 +1,13 @@
 -- Compression and expansion: a vector of zeros and ones along an axis.
-use Rattle.std.specs.Prelude.{ℕ, ℤ, pos, negsuc, ◌==◌, ◌||◌, nat_lt, nat_le, Bool, false, cond, List, map, take, length, slice_index_or, count_by, Option, None, Some, Result, Ok, Err}
+use Rattle.std.specs.Prelude.{ℕ, ℤ, pos, negsuc, ◌==◌, ◌||◌, nat_lt, Bool, false, cond, List, map, take, length, slice_index_or, count_by, Option, None, Some, Result, Ok, Err}
 use Rattle.std.specs.List.{filter, list_all, range_with_len}
 use Rattle.apl_faults.specs.declared.fault.Fault.{Fault}
-use Rattle.apl_faults.specs.declared.fault.Fault.TheVariants.{Domain, Rank, Length}
+use Rattle.apl_faults.specs.declared.fault.Fault.TheVariants.{Domain, Length}
 use Rattle.apl_arrays.specs.declared.axis_choice.Along.{Along}
 use Rattle.apl_arrays.specs.Cells.{Arr, Items, Numbers, Characters}
 use Rattle.apl_arrays.specs.Results.{and_then, ok_map}
 use Rattle.apl_arrays.specs.Views.{length_of}
-use Rattle.apl_arrays.specs.Checks.{demand, numbers_of, count_of}
+use Rattle.apl_arrays.specs.Checks.{demand, vector_rank, numbers_of, count_of}
 use Rattle.apl_select.specs.Lined.{lined, axis_in, extended, laid_within}
 
 -- the number is 1
@@ -41,26 +41,33 @@ kept bits n count = map (λ k. Some (extended n k)) (filter (λ k. is_one (slice
 abbrev pub spread : List ℤ → ℕ → List (Option ℕ)
 spread bits n = map (λ k. cond (is_one (slice_index_or bits k (pos 0))) (Some (extended n (count_by is_one (take k bits)))) None) (range_with_len 0 (length bits))
 
--- the places at ones are kept: LENGTH before DOMAIN, the result's limits last
-abbrev pub compressed_along : Arr → ℕ → Arr → Result Arr Fault
-compressed_along a axis b =
-    and_then (common_count (count_of a) (length_of b axis)) (λ count.
-    and_then (bits_of a.items) (λ bits.
-    laid_within axis (kept bits (length_of b axis) count) b))
+-- the axis along which a mask goes: a given axis first, then RANK where the mask has more than one axis
+abbrev pub mask_axis : Along → Arr → Arr → ℕ → Result ℕ Fault
+mask_axis along a b origin = and_then (axis_in along b origin) (λ axis. ok_map (λ u. axis) (vector_rank a))
 
--- there are as many ones as places, or one place that serves at each: LENGTH before DOMAIN, the result's limits last
-abbrev pub expanded_along : Arr → ℕ → Arr → Result Arr Fault
-expanded_along a axis b =
+-- the places on an axis that a mask keeps: LENGTH before DOMAIN
+abbrev pub places_kept : Arr → ℕ → Arr → Result (List (Option ℕ)) Fault
+places_kept a axis b =
+    and_then (common_count (count_of a) (length_of b axis)) (λ count. ok_map (λ bits. kept bits (length_of b axis) count) (bits_of a.items))
+
+-- the places over which a mask spreads those of an axis: as many ones as places, or one place that serves at each; LENGTH before DOMAIN
+abbrev pub places_spread : Arr → ℕ → Arr → Result (List (Option ℕ)) Fault
+places_spread a axis b =
     and_then (demand (length_of b axis == 1 || ones a.items == length_of b axis) Length) (λ u.
-    and_then (bits_of a.items) (λ bits.
-    laid_within axis (spread bits (length_of b axis)) b))
+    ok_map (λ bits. spread bits (length_of b axis)) (bits_of a.items))
 
--- compression: a given axis first, then RANK where the mask has more than one axis
+-- the places at ones are kept, the result's limits last
+abbrev pub compressed_along : Arr → ℕ → Arr → Result Arr Fault
+compressed_along a axis b = and_then (places_kept a axis b) (λ places. laid_within axis places b)
+
+-- the places are spread over the ones, the result's limits last
+abbrev pub expanded_along : Arr → ℕ → Arr → Result Arr Fault
+expanded_along a axis b = and_then (places_spread a axis b) (λ places. laid_within axis places b)
+
+-- compression: what is asked of the axis and the mask, then of their lengths
 abbrev pub compressed : Along → Arr → Arr → ℕ → Result Arr Fault
-compressed along a b origin =
-    and_then (axis_in along b origin) (λ axis. and_then (demand (nat_le (length a.shape) 1) Rank) (λ u. compressed_along a axis (lined b)))
+compressed along a b origin = and_then (mask_axis along a b origin) (λ axis. compressed_along a axis (lined b))
 
--- expansion, with the same checks first
+-- expansion, in the same order
 abbrev pub expanded : Along → Arr → Arr → ℕ → Result Arr Fault
-expanded along a b origin =
-    and_then (axis_in along b origin) (λ axis. and_then (demand (nat_le (length a.shape) 1) Rank) (λ u. expanded_along a axis (lined b)))
+expanded along a b origin = and_then (mask_axis along a b origin) (λ axis. expanded_along a axis (lined b))

@@ -31,8 +31,12 @@ all_picked (n ∷ ns) origin [] = Ok []
 all_picked (n ∷ ns) origin (slot ∷ slots) = and_then (picked_by n origin slot) (λ p. ok_map (λ ps. p ∷ ps) (all_picked ns origin slots))
 
 -- as many slots as axes, else RANK
+abbrev pub slots_fit : Arr → List (Option Arr) → Result (Unit {0}) Fault
+slots_fit a slots = demand (length slots == length a.shape) Rank
+
+-- what the slots pick, if they are as many
 abbrev pub slots_of : Arr → ℕ → List (Option Arr) → Result (List Places) Fault
-slots_of a origin slots = and_then (demand (length slots == length a.shape) Rank) (λ u. all_picked a.shape origin slots)
+slots_of a origin slots = and_then (slots_fit a slots) (λ u. all_picked a.shape origin slots)
 
 -- the slots' shapes one after another
 abbrev pub joined_shape : List Places → List ℕ

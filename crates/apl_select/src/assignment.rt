@@ -1,12 +1,12 @@
 // Indexed assignment.
 ghost use Rattle.std.specs.Prelude.{◌≡◌, ◌≤◌, ◌==◌, ◌||◌, Ok};
 ghost use Rattle.apl_faults.specs.declared.fault.Fault.TheVariants.{Domain};
-ghost use Rattle.apl_arrays.specs.Answers.{Answers};
+ghost use Rattle.apl_arrays.specs.Answers.{Answers, FaultsFirst};
 ghost use Rattle.apl_arrays.specs.Checks.{count_of, demand};
 ghost use Rattle.apl_arrays.specs.Index.{bound_of, size_of};
 ghost use Rattle.apl_arrays.specs.Results.{and_then, ok_map};
 ghost use Rattle.apl_select.specs.Assignment.{assigned, fits_over, same_type, written};
-ghost use Rattle.apl_select.specs.Indexing.{joined_shape};
+ghost use Rattle.apl_select.specs.Indexing.{joined_shape, slots_fit};
 ghost use Rattle.apl_select.specs.Reached.{AreOnAxes};
 ghost use Rattle.apl_select.specs.Written.{AreEnough};
 
@@ -51,10 +51,10 @@ fn assign(
 /// the last of those for one place stands. A single element serves at each place. An empty slot picks the whole axis, and numbers count places
 /// from the index origin.
 ///
-/// Another count of slots than of axes is a rank fault. Then of the slots from left to right characters are a domain fault, but where there
-/// are none, and a number that counts no place of its axis is an index fault. Slots whose shapes joined are beyond the limits of an array
-/// are a limit fault. Then, axes of length 1 left away, another count of axes of `b` than of the joined shape is a rank fault, and another
-/// length a length fault. Elements of another type than `v`'s are a domain fault, but where no place is picked.
+/// Another count of slots than of axes is a rank fault, before memory is asked for. Then of the slots from left to right characters are a
+/// domain fault, but where there are none, and a number that counts no place of its axis is an index fault. Slots whose shapes joined are
+/// beyond the limits of an array are a limit fault. Then, axes of length 1 left away, another count of axes of `b` than of the joined shape
+/// is a rank fault, and another length a length fault. Elements of another type than `v`'s are a domain fault, but where no place is picked.
 pub fn index_assign(
     alloc: Global,
     v: &Array,
@@ -62,7 +62,8 @@ pub fn index_assign(
     b: &Array,
     origin: usize,
 ) -> Result<Array, Stop>
-    ensures { Answers (λ r. r) (assigned v.now slots.now b.now origin) result }
+    ensures value { Answers (λ r. r) (assigned v.now slots.now b.now origin) result }
+    ensures at_once { FaultsFirst (slots_fit v.now slots.now) result }
 {
     let picks = picks_of(alloc, v, slots, origin)?;
     let shape = joined_shape(alloc, picks.as_slice())?;

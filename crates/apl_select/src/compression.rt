@@ -1,11 +1,13 @@
 // Compression and expansion.
 ghost use Rattle.std.specs.Prelude.{◌≡◌, ◌<◌, ◌≤◌, nat_le, length};
-ghost use Rattle.apl_arrays.specs.Answers.{Answers};
+ghost use Rattle.apl_arrays.specs.Answers.{Answers, FaultsFirst};
 ghost use Rattle.apl_arrays.specs.Cells.{cells_of};
 ghost use Rattle.apl_arrays.specs.Checks.{vector_rank};
 ghost use Rattle.apl_arrays.specs.Index.{bound_of, size_of};
 ghost use Rattle.apl_arrays.specs.Ravels.{items_of};
-ghost use Rattle.apl_select.specs.Compress.{compressed, compressed_along, expanded, expanded_along};
+ghost use Rattle.apl_arrays.specs.Results.{and_then};
+ghost use Rattle.apl_select.specs.Compress.{compressed, compressed_along, expanded, expanded_along, mask_axis, places_kept, places_spread};
+ghost use Rattle.apl_select.specs.Lined.{lined};
 
 use crate::bits::{bits_in, common_count, fits_ones, kept, ones, spread};
 use crate::lines::{axis_in, laid, lined_shape};
@@ -35,7 +37,8 @@ fn compress_along(
     requires axis { axis < length shape.now }
     requires full { length (cells_of (items_of ravel.now)) ≡ size_of shape.now }
     requires small { bound_of shape.now ≤ MAX_ELEMENTS }
-    ensures { Answers (λ r. r) (compressed_along a.now axis (record { shape = shape.now; items = items_of ravel.now })) result }
+    ensures value { Answers (λ r. r) (compressed_along a.now axis (record { shape = shape.now; items = items_of ravel.now })) result }
+    ensures at_once { FaultsFirst (places_kept a.now axis (record { shape = shape.now; items = items_of ravel.now })) result }
 {
     let count = common_count(a.ravel().len(), shape[axis])?;
     let bits = bits_in(a.ravel())?;
@@ -54,7 +57,8 @@ fn expand_along(
     requires axis { axis < length shape.now }
     requires full { length (cells_of (items_of ravel.now)) ≡ size_of shape.now }
     requires small { bound_of shape.now ≤ MAX_ELEMENTS }
-    ensures { Answers (λ r. r) (expanded_along a.now axis (record { shape = shape.now; items = items_of ravel.now })) result }
+    ensures value { Answers (λ r. r) (expanded_along a.now axis (record { shape = shape.now; items = items_of ravel.now })) result }
+    ensures at_once { FaultsFirst (places_spread a.now axis (record { shape = shape.now; items = items_of ravel.now })) result }
 {
     fits_ones(ones(a.ravel()), shape[axis])?;
     let bits = bits_in(a.ravel())?;
@@ -65,7 +69,8 @@ fn expand_along(
 /// The elements of `b` along an axis where `a` has a 1. A single element of either extends over the other, and a scalar `b` is a vector.
 ///
 /// A named axis that isn't one of `b`'s is an axis fault, then more than one axis of `a` a rank fault, then unequal lengths are a length
-/// fault, then anything but zeros and ones in `a` is a domain fault. A result beyond the limits of an array is a limit fault.
+/// fault, then anything but zeros and ones in `a` is a domain fault: all these before memory is asked for. A result beyond the limits of an
+/// array is a limit fault.
 pub fn compress(
     alloc: Global,
     along: Along,
@@ -73,7 +78,8 @@ pub fn compress(
     b: &Array,
     origin: usize,
 ) -> Result<Array, Stop>
-    ensures { Answers (λ r. r) (compressed along.entry a.now b.now origin) result }
+    ensures value { Answers (λ r. r) (compressed along.entry a.now b.now origin) result }
+    ensures at_once { FaultsFirst (and_then (mask_axis along.entry a.now b.now origin) (λ axis. places_kept a.now axis (lined b.now))) result }
 {
     let axis = axis_in(along, b.rank(), origin)?;
     within_a_vector(a)?;
@@ -84,8 +90,8 @@ pub fn compress(
 /// a scalar `b` is a vector.
 ///
 /// A named axis that isn't one of `b`'s is an axis fault, then more than one axis of `a` a rank fault, then another count of ones than of
-/// places is a length fault, then anything but zeros and ones in `a` is a domain fault. A result beyond the limits of an array is a limit
-/// fault.
+/// places is a length fault, then anything but zeros and ones in `a` is a domain fault: all these before memory is asked for. A result beyond
+/// the limits of an array is a limit fault.
 pub fn expand(
     alloc: Global,
     along: Along,
@@ -93,7 +99,8 @@ pub fn expand(
     b: &Array,
     origin: usize,
 ) -> Result<Array, Stop>
-    ensures { Answers (λ r. r) (expanded along.entry a.now b.now origin) result }
+    ensures value { Answers (λ r. r) (expanded along.entry a.now b.now origin) result }
+    ensures at_once { FaultsFirst (and_then (mask_axis along.entry a.now b.now origin) (λ axis. places_spread a.now axis (lined b.now))) result }
 {
     let axis = axis_in(along, b.rank(), origin)?;
     within_a_vector(a)?;

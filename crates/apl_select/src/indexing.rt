@@ -1,11 +1,11 @@
 // Indexing.
 ghost use Rattle.std.specs.Prelude.{◌≡◌, ◌≤◌, length, IfOk};
-ghost use Rattle.apl_arrays.specs.Answers.{Answers};
+ghost use Rattle.apl_arrays.specs.Answers.{Answers, FaultsFirst};
 ghost use Rattle.apl_arrays.specs.Cells.{cells_of};
 ghost use Rattle.apl_arrays.specs.Index.{bound_of, indices, position_in, size_of};
 ghost use Rattle.apl_arrays.specs.Ravels.{items_of};
 ghost use Rattle.apl_arrays.specs.Views.{picked};
-ghost use Rattle.apl_select.specs.Indexing.{indexed, joined_shape, led_to};
+ghost use Rattle.apl_select.specs.Indexing.{indexed, joined_shape, led_to, slots_fit};
 ghost use Rattle.apl_select.specs.Reached.{AreOnAxes};
 
 use crate::lines::shaped;
@@ -38,15 +38,17 @@ fn read_ravel(
 /// The elements of `b` that slots pick, one slot for each axis, in the slots' shapes one after another. An empty slot picks the whole axis.
 /// Numbers count places from the index origin.
 ///
-/// Another count of slots than of axes is a rank fault. Then of the slots from left to right characters are a domain fault, but where there
-/// are none, and a number that counts no place of its axis is an index fault. A result beyond the limits of an array is a limit fault.
+/// Another count of slots than of axes is a rank fault, before memory is asked for. Then of the slots from left to right characters are a
+/// domain fault, but where there are none, and a number that counts no place of its axis is an index fault. A result beyond the limits of
+/// an array is a limit fault.
 pub fn index(
     alloc: Global,
     b: &Array,
     slots: &[Option<Array>],
     origin: usize,
 ) -> Result<Array, Stop>
-    ensures { Answers (λ r. r) (indexed b.now slots.now origin) result }
+    ensures value { Answers (λ r. r) (indexed b.now slots.now origin) result }
+    ensures at_once { FaultsFirst (slots_fit b.now slots.now) result }
 {
     let picks = picks_of(alloc, b, slots, origin)?;
     let shape = joined_shape(alloc, picks.as_slice())?;

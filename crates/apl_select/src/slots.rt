@@ -1,10 +1,10 @@
 // What index slots pick of the axes of an array.
 ghost use Rattle.std.specs.Prelude.{◌≡◌, ◌<◌, ◌≤◌, [], ◌∷◌, length, pos, slice_index_or, IfOk, Some};
 ghost use Rattle.std.specs.List.{All, range_with_len};
-ghost use Rattle.apl_arrays.specs.Answers.{Answers};
+ghost use Rattle.apl_arrays.specs.Answers.{Answers, FaultsFirst};
 ghost use Rattle.apl_arrays.specs.Index.{size_of};
 ghost use Rattle.apl_arrays.specs.Results.{all_ok};
-ghost use Rattle.apl_select.specs.Indexing.{all_picked, joined_shape, picked_by, place_numbered, slots_of};
+ghost use Rattle.apl_select.specs.Indexing.{all_picked, joined_shape, picked_by, place_numbered, slots_fit, slots_of};
 ghost use Rattle.apl_select.specs.Reached.{AreOnAxes};
 
 use apl_arrays::{Array, Stop, numbers_in};
@@ -154,6 +154,7 @@ pub(crate) fn picks_of(
     origin: usize,
 ) -> Result<Vec<Picked>, Stop>
     ensures value { Answers (λ v. v.items) (slots_of array.now origin slots.now) result }
+    ensures at_once { FaultsFirst (slots_fit array.now slots.now) result }
     ensures on_axes { IfOk result (λ v. AreOnAxes array.now.shape v.items) }
 {
     if slots.len() != array.rank() {

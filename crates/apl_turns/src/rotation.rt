@@ -1,6 +1,6 @@
 // Lines of arrays turned round.
 ghost use Rattle.std.specs.Prelude.{◌≡◌, ◌≢◌, ◌*◌, ◌<◌, ◌≤◌, ℕ, length, map, IfOk, IfSome, ◌+◌, ◌==◌, slice_index_or};
-ghost use Rattle.apl_arrays.specs.Answers.{Answers};
+ghost use Rattle.apl_arrays.specs.Answers.{Answers, FaultsFirst};
 ghost use Rattle.apl_arrays.specs.Axes.{without};
 ghost use Rattle.apl_arrays.specs.Cells.{cells_of};
 ghost use Rattle.apl_arrays.specs.Checks.{demand, same};
@@ -134,7 +134,7 @@ fn fits_lines(a: &Array, b: &Array, axis: Option<usize>) -> Result<(), Fault>
 /// index and the number together, modulo the length. A scalar, which one element of `a` turns, stays.
 ///
 /// The faults are first those of [`Along::axis`], then a rank fault where `a` has neither one element nor one axis less than `b`, and a length
-/// fault where its shape is not that of `b` without the axis. A character is a domain fault.
+/// fault where its shape is not that of `b` without the axis. A character is a domain fault. Every fault is found before memory is asked for.
 pub fn rotate(
     alloc: Global,
     along: Along<'_>,
@@ -142,7 +142,8 @@ pub fn rotate(
     b: &Array,
     origin: usize,
 ) -> Result<Array, Stop>
-    ensures { Answers (λ r. r) (rotated along.entry origin a.now b.now) result }
+    ensures value { Answers (λ r. r) (rotated along.entry origin a.now b.now) result }
+    ensures at_once { FaultsFirst (rotated along.entry origin a.now b.now) result }
 {
     let axis = along.axis(b.rank(), origin)?;
     fits_lines(a, b, axis)?;

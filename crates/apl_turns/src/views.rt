@@ -1,7 +1,7 @@
 // Results that are copied out of views.
 ghost use Rattle.std.specs.Prelude.{◌≡◌, ◌-◌, ◌≤◌, map, Ok};
 ghost use Rattle.std.specs.List.{range_with_len};
-ghost use Rattle.apl_arrays.specs.Answers.{Answers};
+ghost use Rattle.apl_arrays.specs.Answers.{Answers, FaultsFirst};
 ghost use Rattle.apl_turns.specs.Turns.{transposed, transposed_by, reversed_along};
 
 use crate::numbered_axes::named_axes;
@@ -33,9 +33,10 @@ pub fn transpose(alloc: Global, b: &Array) -> Result<Array, Stop>
 /// elements whose indices on them are equal.
 ///
 /// More than one axis of `a` is a rank fault, another count than that of the axes of `b` a length fault. A character is a domain fault, and
-/// so is a number below the origin, or a gap between the numbers.
+/// so is a number below the origin, or a gap between the numbers. Every fault is found before memory is asked for.
 pub fn transpose_by(alloc: Global, a: &Array, b: &Array, origin: usize) -> Result<Array, Stop>
-    ensures { Answers (λ r. r) (transposed_by origin a.now b.now) result }
+    ensures value { Answers (λ r. r) (transposed_by origin a.now b.now) result }
+    ensures at_once { FaultsFirst (transposed_by origin a.now b.now) result }
 {
     let axes = named_axes(a, b.rank(), origin)?;
     Ok(View::whole(b).turned(axes.as_slice()).copied(alloc)?)
@@ -43,9 +44,10 @@ pub fn transpose_by(alloc: Global, a: &Array, b: &Array, origin: usize) -> Resul
 
 /// An array with an axis taken the other way. A scalar stays.
 ///
-/// The faults are those of [`Along::axis`].
+/// The faults are those of [`Along::axis`], and are found before memory is asked for.
 pub fn reverse(alloc: Global, along: Along<'_>, b: &Array, origin: usize) -> Result<Array, Stop>
-    ensures { Answers (λ r. r) (reversed_along along.entry origin b.now) result }
+    ensures value { Answers (λ r. r) (reversed_along along.entry origin b.now) result }
+    ensures at_once { FaultsFirst (reversed_along along.entry origin b.now) result }
 {
     let whole = View::whole(b);
     match along.axis(b.rank(), origin)? {

@@ -5,12 +5,13 @@ use Rattle.apl_faults.specs.declared.fault.Fault.TheVariants.{Domain}
 use Rattle.apl_arrays.specs.declared.cell.Cell.TheVariants.{Num}
 use Rattle.apl_arrays.specs.declared.cell.Ravel.{Ravel}
 use Rattle.apl_arrays.specs.Cells.{Arr, Numbers}
+use Rattle.apl_arrays.specs.Checks.{demand}
 use Rattle.apl_arrays.specs.Index.{size_of}
 use Rattle.apl_arrays.specs.Kinds.{are_numbers}
 use Rattle.apl_arrays.specs.Ravels.{items_of}
 use Rattle.apl_arrays.specs.Results.{ok_map}
 use Rattle.apl_arrays.specs.Strides.{lengths, seen}
-use Rattle.apl_arrays.proofs.Exits.{answers_along, answers_err, ok_map_err}
+use Rattle.apl_arrays.proofs.Exits.{answers_along, answers_err, first_passes, ok_map_err}
 use Rattle.apl_arrays.proofs.InTurn.{length-all_ok}
 use Rattle.apl_arrays.proofs.Order.{length-indices}
 use Rattle.apl_arrays.proofs.Steps.{length-lengths}
@@ -23,8 +24,8 @@ use Rattle.apl_folds.proofs.scanning.scan_elements.Goals as goal
 pub fronts-requires-clause-axis : goal.fronts-requires-clause-axis
 fronts-requires-clause-axis c = omega (arith, length-lengths c.strided-strided.result.axes.now, ap length c.strided-strided.ensures.shape)
 
-pub returns-in_err-folds-in-Nums : goal.returns-in_err-folds-in-Nums
-returns-in_err-folds-in-Nums c =
+pub returns-in_err-folds-in-Nums-clause-value : goal.returns-in_err-folds-in-Nums-clause-value
+returns-in_err-folds-in-Nums-clause-value c =
     let p = err_from_is_err_and c.from_residual.result c.from_residual.ensures.1 in
     let numeric : are_numbers c.args.view.now.items ≡ true =
     ap are_numbers c.strided-strided.ensures.items ∙ ap (λ (r : Ravel). are_numbers (seen (items_of r) c.strided-strided.result.offset c.strided-strided.result.axes.now)) c.in-Nums.is in
@@ -43,8 +44,8 @@ formed-requires-clause-full c =
     ∙ length-indices (lengths c.strided-strided.result.axes.now)
     ∙ ap size_of (sym c.strided-strided.ensures.shape ∙ sym c.shape-shape.ensures.value)
 
-pub returns-in_ok-folds-in-Nums : goal.returns-in_ok-folds-in-Nums
-returns-in_ok-folds-in-Nums c =
+pub returns-in_ok-folds-in-Nums-clause-value : goal.returns-in_ok-folds-in-Nums-clause-value
+returns-in_ok-folds-in-Nums-clause-value c =
     let numeric : are_numbers c.args.view.now.items ≡ true =
     ap are_numbers c.strided-strided.ensures.items ∙ ap (λ (r : Ravel). are_numbers (seen (items_of r) c.strided-strided.result.offset c.strided-strided.result.axes.now)) c.in-Nums.is in
     answers_along (λ (r : Arr). r) _ _ c.formed.result
@@ -54,3 +55,15 @@ returns-in_ok-folds-in-Nums c =
     ∙ same_array (lengths c.strided-strided.result.axes.now) c.shape-shape.result.items (Numbers c.in_ok-folds-in-Nums.folds.items) (Numbers c.in_ok-folds-in-Nums.folds.items)
     (sym c.strided-strided.ensures.shape ∙ sym c.shape-shape.ensures.value) refl)
     c.formed.ensures
+
+pub returns-in_err-folds-in-Nums-clause-at_once : goal.returns-in_err-folds-in-Nums-clause-at_once
+returns-in_err-folds-in-Nums-clause-at_once c =
+    let numeric : are_numbers c.args.view.now.items ≡ true =
+    ap are_numbers c.strided-strided.ensures.items ∙ ap (λ (r : Ravel). are_numbers (seen (items_of r) c.strided-strided.result.offset c.strided-strided.result.axes.now)) c.in-Nums.is in
+    first_passes (demand (are_numbers c.args.view.now.items) Domain) tt _ (ap (λ (b : Bool). demand b Domain) numeric)
+
+pub returns-in_ok-folds-in-Nums-clause-at_once : goal.returns-in_ok-folds-in-Nums-clause-at_once
+returns-in_ok-folds-in-Nums-clause-at_once c =
+    let numeric : are_numbers c.args.view.now.items ≡ true =
+    ap are_numbers c.strided-strided.ensures.items ∙ ap (λ (r : Ravel). are_numbers (seen (items_of r) c.strided-strided.result.offset c.strided-strided.result.axes.now)) c.in-Nums.is in
+    first_passes (demand (are_numbers c.args.view.now.items) Domain) tt _ (ap (λ (b : Bool). demand b Domain) numeric)

@@ -23,8 +23,8 @@ pub joined_shape-shape-requires-clause-b : goal.joined_shape-shape-requires-clau
 joined_shape-shape-requires-clause-b g c =
     rw (c.without_first-right.ensures.others, c.as_slice-2.ensures.value, c.shape-b_shape.ensures.value) (omega (arith, length-without 0 c.view-b.result.shape, c.shape-b_shape.ensures.array.few_axes))
 
-pub returns-in_err-values : goal.returns-in_err-values
-returns-in_err-values g c =
+pub returns-in_err-values-clause-value : goal.returns-in_err-values-clause-value
+returns-in_err-values-clause-value g c =
     let p = err_from_is_err_and c.from_residual-in_err-values.result c.from_residual-in_err-values.ensures.1 in
     let shape_a : c.as_slice.result.now ≡ c.view-a.result.shape = c.as_slice.ensures.value ∙ c.shape-a_shape.ensures.value in
     let shape_b : c.as_slice-2.result.now ≡ c.view-b.result.shape = c.as_slice-2.ensures.value ∙ c.shape-b_shape.ensures.value in

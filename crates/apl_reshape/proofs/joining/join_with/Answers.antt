@@ -30,8 +30,8 @@ formed-requires-clause-full c =
     ∙ length-joined c.args.axis (get_or c.args.s.now c.args.axis 0) (place_in c.args.a.now.shape c.args.s.now) (place_in c.args.b.now.shape c.args.t.now) (both_of c.in_ok-pair.pair) (joined_shape c.args.axis c.args.s.now c.args.t.now)
     ∙ ap size_of (sym (c.as_slice-3.ensures.value ∙ c.joined_lengths-shape.ensures))
 
-pub returns : goal.returns
-returns c =
+pub returns-clause-value : goal.returns-clause-value
+returns-clause-value c =
     joined_answer c.args.axis c.args.s.now c.args.t.now c.as_slice.result.now c.as_slice-3.result.now c.args.a.now c.args.b.now c.formed.result
     (items_of c.ravel.result.now) (items_of c.ravel-2.result.now) (items_of c.in_ok-ravel.ravel) (both_of c.in_ok-pair.pair)
     c.in_ok-pair.ensures c.ravel.ensures.value c.ravel-2.ensures.value c.in_ok-within_limits.ensures (c.as_slice.ensures.value ∙ c.joined_lengths-shape.ensures) (c.as_slice-3.ensures.value ∙ c.joined_lengths-shape.ensures)

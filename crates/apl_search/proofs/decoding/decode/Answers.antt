@@ -1,4 +1,4 @@
-use Rattle.std.proofs.Common.{◌≡◌, ℕ, ℤ, pos, List, map, length, Result, Ok, Vec, Global, ap, sym, ◌∙◌}
+use Rattle.std.proofs.Common.{◌≡◌, ℕ, ℤ, pos, List, map, Result, Ok, Vec, Global, ap, sym, ◌∙◌}
 use Rattle.std.specs.List.{range_with_len}
 use Rattle.std.proofs.lemmas.List.{length-map}
 use Rattle.std.proofs.lemmas.List.FromFn.{length-range_with_len}
@@ -9,9 +9,9 @@ use Rattle.apl_arrays.specs.Index.{size_of}
 use Rattle.apl_arrays.specs.Cells.{Arr, Numbers}
 use Rattle.apl_arrays.specs.Checks.{limited}
 use Rattle.apl_arrays.specs.Results.{all_ok, ok_map}
-use Rattle.apl_arrays.proofs.Exits.{answers_err, answers_along, ok_map_err}
+use Rattle.apl_arrays.proofs.Exits.{answers_err, answers_along}
 use Rattle.apl_arrays.proofs.InTurn.{length-all_ok}
-use Rattle.apl_search.specs.Decoded.{bases_and_digits, first_length, shape_behind, valued}
+use Rattle.apl_search.specs.Decoded.{first_length, shape_behind, valued}
 use Rattle.apl_search.specs.Flat.{pair_at}
 use Rattle.apl_search.proofs.Digits.{digits_there, decode_ok}
 use Rattle.apl_search.proofs.Shapes.{limited_behind}
@@ -23,8 +23,8 @@ values-requires-clause-digits c =
     digits_there c.args.a.now c.args.b.now c.in_ok-bases.bases.now c.in_ok-bases.digits.now c.in_ok-bases.count c.length_along.result c.size.result c.in_ok-bases.ensures
     (c.length_along.ensures ∙ ap first_length c.shape-2.ensures.value) (c.size.ensures ∙ ap size_of behind) c.shape.ensures.array.full
 
-pub returns-in_err-values : goal.returns-in_err-values
-returns-in_err-values c =
+pub returns-in_err-values-clause-value : goal.returns-in_err-values-clause-value
+returns-in_err-values-clause-value c =
     let behind : c.behind-shape.result.now ≡ shape_behind c.args.b.now.shape = c.behind-shape.ensures ∙ ap shape_behind c.shape.ensures.value in
     let f : ℕ → Result ℤ Fault = λ p. valued (pos 0) (map (pair_at c.in_ok-bases.bases.now c.in_ok-bases.digits.now c.length_along.result c.size.result p) (range_with_len 0 c.in_ok-bases.count)) in
     let made : List ℤ → Arr = λ values. record { shape = c.behind-shape.result.now; items = Numbers values } in
@@ -43,8 +43,8 @@ array_of-requires c =
     ∙ length-all_ok f (range_with_len 0 c.size.result) c.in_ok-values.values.items c.in_ok-values.ensures
     ∙ length-range_with_len 0 c.size.result ∙ c.size.ensures
 
-pub returns : goal.returns
-returns c =
+pub returns-clause-value : goal.returns-clause-value
+returns-clause-value c =
     let behind : c.behind-shape.result.now ≡ shape_behind c.args.b.now.shape = c.behind-shape.ensures ∙ ap shape_behind c.shape.ensures.value in
     let made : List ℤ → Arr = λ values. record { shape = c.behind-shape.result.now; items = Numbers values } in
     let with : List ℕ → Arr = λ s. record { shape = s; items = Numbers c.in_ok-values.values.items } in

@@ -1,4 +1,4 @@
-use Rattle.std.proofs.Common.{arith, ◌≡◌, ◌+ℤ◌, ◌*ℤ◌, ap, sym, ◌∙◌}
+use Rattle.std.proofs.Common.{arith, ◌+ℤ◌, ◌*ℤ◌}
 use mir.Syntax.{w128, w64}
 use mir.Val.{SFits}
 use borrow.Author.Numbers.{signed_product}

@@ -1,4 +1,4 @@
-use Rattle.std.proofs.Common.{rules, ◌≡◌, sym, ◌∙◌, to_z, w64}
+use Rattle.std.proofs.Common.{rules, sym, ◌∙◌, to_z, w64}
 use mir.Val.{SFits}
 use Rattle.std.proofs.lemmas.Int.{to_z-of_z}
 use Rattle.apl_search.specs.Flat.{pair_at}

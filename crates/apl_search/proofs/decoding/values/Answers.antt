@@ -1,4 +1,4 @@
-use Rattle.std.proofs.Common.{rules, ◌≡◌, ℕ, ℤ, pos, map, Result, sym, ◌∙◌, w64}
+use Rattle.std.proofs.Common.{rules, ℕ, ℤ, pos, map, Result, sym, ◌∙◌, w64}
 use mir.Val.{SFits}
 use Rattle.std.specs.List.{range_with_len}
 use Rattle.std.proofs.lemmas.Int.{to_z-of_z}

@@ -1,4 +1,4 @@
-use Rattle.std.proofs.Common.{◌≡◌, ◌*ℤ◌, ◌-ℤ◌, ℤ, ap, sym, ◌∙◌}
+use Rattle.std.proofs.Common.{◌*ℤ◌, ◌-ℤ◌, ℤ, ap, sym, ◌∙◌}
 use mir.Syntax.{w128}
 use mir.Val.{SFits}
 use Rattle.std.proofs.lemmas.Int.{to_z-of_z}

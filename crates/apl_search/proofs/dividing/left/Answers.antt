@@ -3,7 +3,6 @@ use mir.Syntax.{w128}
 use mir.Val.{SFits}
 use Rattle.std.specs.Int.{int_div_euclid}
 use Rattle.std.proofs.lemmas.Int.{ints, to_z-of_z}
-use Rattle.apl_search.specs.Encoded.{left_of, IsNear}
 use Rattle.apl_search.proofs.Rounded.{left_up, left_down, near_rest, fits_near}
 use Rattle.apl_search.proofs.dividing.left.Goals as goal
 

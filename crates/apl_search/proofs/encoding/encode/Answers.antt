@@ -1,4 +1,4 @@
-use Rattle.std.proofs.Common.{◌≡◌, ◌++◌, ℕ, ℤ, List, length, Result, Ok, Vec, Global, ap, sym, ◌∙◌}
+use Rattle.std.proofs.Common.{◌≡◌, ◌++◌, ℕ, ℤ, List, Vec, Global, ap, sym, ◌∙◌}
 use Rattle.std.proofs.lemmas.List.{length-map}
 use Rattle.std.proofs.lemmas.Result.{err_from_is_err_and}
 use Rattle.apl_arrays.specs.declared.cell.Cell.TheVariants.{Num}
@@ -11,8 +11,8 @@ use Rattle.apl_search.specs.Encoded.{digits_by}
 use Rattle.apl_search.proofs.Encodings.{small, filled, encode_limit, encode_ok}
 use Rattle.apl_search.proofs.encoding.encode.Goals as goal
 
-pub returns-in_err-within_limits : goal.returns-in_err-within_limits
-returns-in_err-within_limits c =
+pub returns-in_err-within_limits-clause-value : goal.returns-in_err-within_limits-clause-value
+returns-in_err-within_limits-clause-value c =
     let joined : c.as_slice-shape.result.now ≡ c.args.a.now.shape ++ c.args.b.now.shape = cc in
     let p = err_from_is_err_and c.from_residual-in_err-within_limits.result c.from_residual-in_err-within_limits.ensures.1 in
     rw (p.1, p.2)
@@ -24,8 +24,8 @@ digits_of-requires c =
     small c.args.a.now c.args.b.now c.in_ok-bases.bases.now c.in_ok-bases.numbers.now c.as_slice-shape.result.now c.as_slice-shape.result.now c.in_ok-bases.ensures
     c.shape.ensures.array.full c.shape-2.ensures.array.full joined c.in_ok-within_limits.ensures
 
-pub returns-in_err-digits : goal.returns-in_err-digits
-returns-in_err-digits c =
+pub returns-in_err-digits-clause-value : goal.returns-in_err-digits-clause-value
+returns-in_err-digits-clause-value c =
     let joined : c.as_slice-shape.result.now ≡ c.args.a.now.shape ++ c.args.b.now.shape = cc in
     let made : List ℤ → Arr = λ digits. record { shape = c.as_slice-shape.result.now; items = Numbers digits } in
     let p = err_from_is_err_and c.from_residual-in_err-digits.result c.from_residual-in_err-digits.ensures.1 in
@@ -43,8 +43,8 @@ array_of-requires c =
     c.shape.ensures.array.full c.shape-2.ensures.array.full joined
     (length-all_ok in_range (digits_by c.in_ok-bases.bases.now c.in_ok-bases.numbers.now) c.in_ok-digits.digits.items c.in_ok-digits.ensures)
 
-pub returns : goal.returns
-returns c =
+pub returns-clause-value : goal.returns-clause-value
+returns-clause-value c =
     let joined : c.as_slice-shape.result.now ≡ c.args.a.now.shape ++ c.args.b.now.shape = cc in
     let made : List ℤ → Arr = λ digits. record { shape = c.as_slice-shape.result.now; items = Numbers digits } in
     let with : List ℕ → Arr = λ s. record { shape = s; items = Numbers c.in_ok-digits.digits.items } in

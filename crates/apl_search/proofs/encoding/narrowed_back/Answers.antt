@@ -1,4 +1,4 @@
-use Rattle.std.proofs.Common.{rules, ◌≡◌, ℕ, ℤ, pos, length, reverse, get_or, Result, sym, ◌∙◌, w64}
+use Rattle.std.proofs.Common.{rules, ℕ, ℤ, pos, length, reverse, get_or, Result, sym, ◌∙◌, w64}
 use mir.Val.{SFits}
 use Rattle.std.proofs.lemmas.Int.{to_z-of_z}
 use Rattle.apl_faults.specs.declared.fault.Fault.{Fault}

@@ -1,4 +1,4 @@
-use Rattle.std.proofs.Common.{◌≡◌, ◌-◌, ℕ, pos, length, reverse, get_or}
+use Rattle.std.proofs.Common.{◌≡◌, ◌-◌, pos, length, reverse, get_or}
 use Rattle.std.specs.List.{range_with_len}
 use Rattle.apl_arrays.specs.Results.{all_ok}
 use Rattle.apl_arrays.proofs.InTurn.{after}

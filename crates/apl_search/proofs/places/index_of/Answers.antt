@@ -6,8 +6,8 @@ use Rattle.apl_arrays.specs.Results.{ok_map}
 use Rattle.apl_search.specs.Found.{places_in}
 use Rattle.apl_search.proofs.places.index_of.Goals as goal
 
-pub returns : goal.returns
-returns c =
+pub returns-clause-value : goal.returns-clause-value
+returns-clause-value c =
     let count : List ℕ → List ℤ = map (λ (place : ℕ). pos (c.args.origin + place)) in
     let made : List ℤ → Arr = λ l. record { shape = c.args.b.now.shape; items = Numbers l } in
     let places : c.in_ok-places.places.items ≡ count (places_in c.args.a.now.items c.args.b.now.items) =

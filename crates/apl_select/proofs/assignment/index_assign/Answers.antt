@@ -7,8 +7,8 @@ use Rattle.apl_select.proofs.assignment.index_assign.Goals as goal
 pub assign-requires-clause-joined : goal.assign-requires-clause-joined
 assign-requires-clause-joined c = c.as_slice-4.ensures.value ∙ c.in_ok-shape.ensures ∙ ap joined_shape (c.as_slice.ensures.value ∙ sym c.as_slice-3.ensures.value)
 
-pub returns : goal.returns
-returns c =
+pub returns-clause-value : goal.returns-clause-value
+returns-clause-value c =
     let shape : c.as_slice-4.result.now ≡ joined_shape c.in_ok-picks.picks.items = c.as_slice-4.ensures.value ∙ c.in_ok-shape.ensures ∙ ap joined_shape c.as_slice.ensures.value in
     let same : c.as_slice-2.result.now ≡ c.as_slice-4.result.now = c.as_slice-2.ensures.value ∙ sym c.as_slice-4.ensures.value in
     let fits : limited c.as_slice-2.result.now ≡ Ok c.as_slice-2.result.now = c.in_ok-within_limits.ensures in

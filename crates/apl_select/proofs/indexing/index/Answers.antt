@@ -20,8 +20,8 @@ shaped-requires c =
     ∙ ap (λ (ps : List Places). size_of (joined_shape ps)) (c.as_slice-4.ensures.value ∙ sym c.as_slice.ensures.value)
     ∙ sym (ap size_of (c.as_slice-5.ensures.value ∙ c.in_ok-shape.ensures))
 
-pub returns : goal.returns
-returns c =
+pub returns-clause-value : goal.returns-clause-value
+returns-clause-value c =
     let shape : c.as_slice-5.result.now ≡ joined_shape c.in_ok-picks.picks.items = c.as_slice-5.ensures.value ∙ c.in_ok-shape.ensures ∙ ap joined_shape c.as_slice.ensures.value in
     let items : items_of c.in_ok-ravel.ravel ≡ picked c.args.b.now.items (λ i. position_in c.args.b.now.shape (led_to c.in_ok-picks.picks.items i)) (indices (joined_shape c.in_ok-picks.picks.items)) =
     c.in_ok-ravel.ensures

@@ -13,8 +13,8 @@ turn_array-requires-clause-each c =
     let count : length c.in_ok-numbers.numbers.now ≡ size_of c.args.a.now.shape = count_of_numbers _ c.in_ok-numbers.numbers.now c.in_ok-numbers.ensures ∙ ap (λ (t : Items). length (cells_of t)) c.ravel.ensures.value ∙ c.ravel.ensures.full in
     λ ne. fit_count c.args.a.now c.args.b.now c.in-Some.axis (length c.in_ok-numbers.numbers.now) fits count ne
 
-pub returns-in_ok-turn_array-in-Some : goal.returns-in_ok-turn_array-in-Some
-returns-in_ok-turn_array-in-Some c =
+pub returns-in_ok-turn_array-in-Some-clause-value : goal.returns-in_ok-turn_array-in-Some-clause-value
+returns-in_ok-turn_array-in-Some-clause-value c =
     let fits : fits_lines c.args.a.now c.args.b.now (Some c.in-Some.axis) ≡ Ok tt = rw c.in-Some.is at (sym c.in_ok-fits_lines.ensures) in
     let count : length c.in_ok-numbers.numbers.now ≡ size_of c.args.a.now.shape = count_of_numbers _ c.in_ok-numbers.numbers.now c.in_ok-numbers.ensures ∙ ap (λ (t : Items). length (cells_of t)) c.ravel.ensures.value ∙ c.ravel.ensures.full in
     let along : axis_along c.args.along (length c.args.b.now.shape) c.args.origin ≡ Ok (Some c.in-Some.axis) =
