@@ -145,7 +145,8 @@ pub(crate) fn code_of(
     ensures { IfOk result (λ code. Translates code.value false (bound_of tokens.now classes.now).items) }
 {
     let bound = bind(alloc, tokens, classes)?;
-    cache.translate(&bound)
+    let line = cache.translate(&bound)?;
+    Ok(line.code)
 }
 
 /// A statement, or a text that is executed, with its tokens.

@@ -39,7 +39,7 @@ fn waiting_line(
         operands,
     } = rest;
     let bound = bind(alloc, tokens, classes.as_slice())?;
-    let code = cache.translate(&bound)?;
+    let code = cache.translate(&bound)?.code;
     let _items = bound.items();
     let _len = code.len();
     let line = FrameBuf::pendent(alloc, bound, code, done, operands)?;

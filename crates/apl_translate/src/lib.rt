@@ -12,7 +12,7 @@ mod ready;
 mod translation;
 
 pub use binding::bind;
-pub use cache::{Cache, KEPT};
+pub use cache::{Cache, KEPT, LineCode};
 pub use form::{Bound, Form, Placed, Word};
 pub use laws::phrases_of_the_table;
 pub use ready::Translated;
