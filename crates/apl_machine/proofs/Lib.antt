@@ -19,3 +19,4 @@ pub mod Erased
 pub mod Restored
 pub mod Held
 pub mod Few
+pub mod Frequently

@@ -8,3 +8,4 @@ pub mod Changes
 pub mod Paces
 pub mod Spaces
 pub mod Refusals
+pub mod Next

@@ -6,6 +6,7 @@ mod branching;
 mod change;
 mod entering;
 mod executing;
+mod frequent;
 mod locals;
 mod machine;
 mod objects;

@@ -12,10 +12,9 @@ ghost use Rattle.apl_names.specs.Maps.{IsMap};
 ghost use Rattle.apl_machine.specs.Refusals.{error_number};
 ghost use Rattle.apl_machine.specs.Spaces.{IsSound, state_of};
 
-use crate::change::change_of;
 use crate::objects::{clear, define, erase, function_in, is_variable};
 use crate::reports::{token_fault, typed_fault};
-use crate::stepping::{abandon, apply, progress_of};
+use crate::stepping::{abandon, make, progress_of};
 use crate::workspace::Workspace;
 use apl_arrays::Array;
 use apl_charset::{Ch, Text};
@@ -192,15 +191,7 @@ impl Machine {
         if self.is_idle() {
             return Ok(Progress::Idle);
         }
-        let space = &self.workspace;
-        let change = change_of(
-            space.alloc,
-            &space.names,
-            &space.traces,
-            space.io,
-            &space.contexts,
-        )?;
-        let pace = apply(&mut self.workspace, change)?;
+        let pace = make(&mut self.workspace)?;
         Ok(progress_of(&self.workspace.contexts, pace))
     }
 

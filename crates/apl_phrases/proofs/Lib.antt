@@ -1,3 +1,4 @@
+pub mod Becoming
 pub mod Effects
 pub mod Marks
 pub mod Rows

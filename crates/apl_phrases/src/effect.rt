@@ -96,7 +96,23 @@ fn asks_origin(row: &Row) -> bool
     }
 }
 
-/// What a phrase of a row gives that the primitives give.
+/// What the primitives give of a row.
+pub fn of_row(
+    alloc: Global,
+    scene: Scene<'_>,
+    row: &Row,
+    arguments: Arguments<'_>,
+) -> Result<Array, Stop>
+    requires { scene.io ≤ 1 }
+    ensures { (lines : List ℤ) → Answers (λ a. a) (phrase_value row.now (taken arguments.entry) (index_origin (seen scene.entry lines))) result }
+{
+    if asks_origin(row) {
+        return phrase_value(alloc, row, arguments, scene.origin());
+    }
+    phrase_value(alloc, row, arguments, 1)
+}
+
+/// What a phrase of a row does that the primitives give.
 pub fn value(
     alloc: Global,
     scene: Scene<'_>,
@@ -106,8 +122,5 @@ pub fn value(
     requires { scene.io ≤ 1 }
     ensures { IfOk result (λ e. (lines : List ℤ) (operands : List (Option Operand)) → IsEffect lines e (of_result (phrase_value row.now (taken arguments.entry) (index_origin (seen scene.entry lines)))) operands) }
 {
-    if asks_origin(row) {
-        return effect_of(phrase_value(alloc, row, arguments, scene.origin()));
-    }
-    effect_of(phrase_value(alloc, row, arguments, 1))
+    effect_of(of_row(alloc, scene, row, arguments))
 }

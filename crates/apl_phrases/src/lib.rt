@@ -5,6 +5,7 @@ mod assign;
 mod calls;
 mod effect;
 mod execute;
+mod frequent;
 mod lines;
 mod lines_among;
 mod name_class;
@@ -14,6 +15,7 @@ mod watch;
 
 pub use effect::{Deed, Effect};
 pub use execute::colon_of;
+pub use frequent::{assigned, given, grouped};
 pub use lines::said;
 pub use phrase::perform;
 pub use scene::{Scene, origin_name};

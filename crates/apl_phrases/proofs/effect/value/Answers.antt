@@ -1,4 +1,4 @@
-use Rattle.std.proofs.Common.{ℤ, List, Option, Result, subst}
+use Rattle.std.proofs.Common.{ℤ, List, Option, Result}
 use Rattle.std.proofs.lemmas.Result.{IfOk-weaker}
 use Rattle.apl_arrays.specs.Answers.{Answers}
 use Rattle.apl_arrays.specs.Cells.{Arr}
@@ -10,16 +10,11 @@ use Rattle.apl_primitives.specs.Taken.{taken}
 use Rattle.apl_primitives.specs.Values.{phrase_value}
 use Rattle.apl_phrases.specs.declared.effect.Effect.{Effect}
 use Rattle.apl_phrases.specs.Effects.{IsEffect, seen}
-use Rattle.apl_phrases.specs.Origins.{IsOfNoOrigin}
 use Rattle.apl_phrases.proofs.effect.value.Goals as goal
 
 pub returns : goal.returns
 returns c =
-    let none : IsOfNoOrigin c.args.row.now = c.asks_origin.ensures c.if-asks_origin.false in
-    let P : Effect → Type 0 = λ e. (lines : List ℤ) (defined : Result Arr Fault) (operands : List (Option Operand)) → Answers (λ a. a) defined c.phrase_value-2.result → IsEffect lines e (of_result defined) operands in
-    let Q : Effect → Type 0 = λ e. (lines : List ℤ) (operands : List (Option Operand)) → IsEffect lines e (of_result (phrase_value c.args.row.now (taken c.args.arguments) (index_origin (seen c.args.scene lines)))) operands in
-    IfOk-weaker c.effect_of-2.result P Q
-    (λ e h. λ lines operands. subst (λ (v : Result Arr Fault). IsEffect lines e (of_result v) operands)
-    (none (taken c.args.arguments) 1 (index_origin (seen c.args.scene lines)))
-    (h lines (phrase_value c.args.row.now (taken c.args.arguments) 1) operands c.phrase_value-2.ensures))
-    c.effect_of-2.ensures
+    let given : List ℤ → Result Arr Fault = λ lines. phrase_value c.args.row.now (taken c.args.arguments) (index_origin (seen c.args.scene lines)) in
+    let P : Effect → Type 0 = λ e. (lines : List ℤ) (defined : Result Arr Fault) (operands : List (Option Operand)) → Answers (λ a. a) defined c.of_row.result → IsEffect lines e (of_result defined) operands in
+    let Q : Effect → Type 0 = λ e. (lines : List ℤ) (operands : List (Option Operand)) → IsEffect lines e (of_result (given lines)) operands in
+    IfOk-weaker c.effect_of.result P Q (λ e h. λ lines operands. h lines (given lines) operands (c.of_row.ensures lines)) c.effect_of.ensures
