@@ -1,5 +1,5 @@
 // Texts: lists of characters.
-ghost use Rattle.std.specs.Prelude.{◌≡◌, ◌==◌, true, ◌++◌, IfOk, OnOk};
+ghost use Rattle.std.specs.Prelude.{◌≡◌, ◌==◌, true, ◌++◌, decimal, IfOk, OnOk};
 ghost use Rattle.std.proofs.Common.{rules};
 ghost use Rattle.std.specs.Cmp.Lexicographic.{pointwise};
 ghost use Rattle.std.specs.Cmp.Rules.{comparing};
@@ -8,6 +8,7 @@ ghost use Rattle.std.specs.List.{list_all};
 ghost use Rattle.apl_charset.specs.Text.{IsText};
 
 use crate::character::Ch;
+use itoa::Buffer;
 use std::alloc::{AllocError, Global};
 use std::marker::Model;
 
@@ -87,5 +88,15 @@ pub fn push_ascii(out: &mut Vec<Ch>, text: &[u8]) -> Result<(), AllocError>
     for b in text {
         out.push(Ch::ascii(*b))?;
     }
+    Ok(())
+}
+
+/// Adds a number in decimal at the end: its digits, the first of them a zero for 0 alone. After an
+/// error a front of it may have been added.
+pub fn push_number(out: &mut Vec<Ch>, number: u64) -> Result<(), AllocError>
+    ensures { OnOk result (out.new.items ≡ out.old.items ++ decimal number) }
+{
+    let mut digits = Buffer::new();
+    push_ascii(out, digits.format(number).as_bytes())?;
     Ok(())
 }
