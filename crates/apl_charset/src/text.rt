@@ -5,6 +5,7 @@ ghost use Rattle.std.specs.Cmp.Lexicographic.{pointwise};
 ghost use Rattle.std.specs.Cmp.Rules.{comparing};
 ghost use Rattle.std.specs.Int.{is_in_range};
 ghost use Rattle.std.specs.List.{list_all};
+ghost use Rattle.std.specs.Str.{bytes_eq};
 ghost use Rattle.apl_charset.specs.Text.{IsText};
 
 use crate::character::Ch;
@@ -99,4 +100,19 @@ pub fn push_number(out: &mut Vec<Ch>, number: u64) -> Result<(), AllocError>
     let mut digits = Buffer::new();
     push_ascii(out, digits.format(number).as_bytes())?;
     Ok(())
+}
+
+/// Whether the characters of a text are those of a word in ASCII.
+pub fn is_word(text: &[Ch], word: &[u8]) -> bool
+    ensures { result ≡ bytes_eq text.now word.now }
+{
+    if text.len() != word.len() {
+        return false;
+    }
+    for i in 0..text.len() {
+        if text[i].code() != word[i] as char {
+            return false;
+        }
+    }
+    true
 }
