@@ -2,3 +2,4 @@ pub mod Lines
 pub mod Members
 pub mod Unique
 pub mod Decodings
+pub mod Digits

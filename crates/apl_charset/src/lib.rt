@@ -7,4 +7,4 @@ mod text;
 
 pub use character::Ch;
 pub use line::{CharFault, decode_line, encode, one_answer, one_decoding};
-pub use text::{Text, in_set, push_ascii};
+pub use text::{Text, in_set, is_word, push_ascii, push_number};

@@ -1,13 +1,15 @@
 // Texts: lists of characters.
-ghost use Rattle.std.specs.Prelude.{◌≡◌, ◌==◌, true, ◌++◌, IfOk, OnOk};
+ghost use Rattle.std.specs.Prelude.{◌≡◌, ◌==◌, true, ◌++◌, decimal, IfOk, OnOk};
 ghost use Rattle.std.proofs.Common.{rules};
 ghost use Rattle.std.specs.Cmp.Lexicographic.{pointwise};
 ghost use Rattle.std.specs.Cmp.Rules.{comparing};
 ghost use Rattle.std.specs.Int.{is_in_range};
 ghost use Rattle.std.specs.List.{list_all};
+ghost use Rattle.std.specs.Str.{bytes_eq};
 ghost use Rattle.apl_charset.specs.Text.{IsText};
 
 use crate::character::Ch;
+use itoa::Buffer;
 use std::alloc::{AllocError, Global};
 use std::marker::Model;
 
@@ -88,4 +90,29 @@ pub fn push_ascii(out: &mut Vec<Ch>, text: &[u8]) -> Result<(), AllocError>
         out.push(Ch::ascii(*b))?;
     }
     Ok(())
+}
+
+/// Adds a number in decimal at the end: its digits, the first of them a zero for 0 alone. After an
+/// error a front of it may have been added.
+pub fn push_number(out: &mut Vec<Ch>, number: u64) -> Result<(), AllocError>
+    ensures { OnOk result (out.new.items ≡ out.old.items ++ decimal number) }
+{
+    let mut digits = Buffer::new();
+    push_ascii(out, digits.format(number).as_bytes())?;
+    Ok(())
+}
+
+/// Whether the characters of a text are those of a word in ASCII.
+pub fn is_word(text: &[Ch], word: &[u8]) -> bool
+    ensures { result ≡ bytes_eq text.now word.now }
+{
+    if text.len() != word.len() {
+        return false;
+    }
+    for i in 0..text.len() {
+        if text[i].code() != word[i] as char {
+            return false;
+        }
+    }
+    true
 }

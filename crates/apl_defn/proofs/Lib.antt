@@ -1,5 +1,4 @@
 pub mod Steps
-pub mod Digits
 pub mod Once
 pub mod Heads
 pub mod Named

@@ -6,9 +6,8 @@ ghost use Rattle.apl_defn.specs.Listing.{canonical, numbered, margin, listed};
 
 use crate::definition::Definition;
 use crate::parts::Header;
-use apl_charset::{Ch, Text, push_ascii};
+use apl_charset::{Ch, Text, push_ascii, push_number};
 use apl_symbols::Name;
-use itoa::Buffer;
 use std::alloc::{AllocError, Global};
 
 /// Adds a name and a character behind it.
@@ -82,9 +81,8 @@ fn numbered(alloc: Global, n: usize, line: &[Ch]) -> Result<Text, AllocError>
     ensures { IfOk result (λ text. text ≡ numbered n line.now) }
 {
     let mut out = Vec::new(alloc);
-    let mut digits = Buffer::new();
     push_ascii(&mut out, b"[")?;
-    push_ascii(&mut out, digits.format(n).as_bytes())?;
+    push_number(&mut out, n as u64)?;
     push_ascii(&mut out, b"] ")?;
     out.extend_from_slice(line)?;
     Ok(Text::new(out))

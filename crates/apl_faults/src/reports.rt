@@ -3,8 +3,7 @@ ghost use Rattle.std.specs.Prelude.{◌≡◌, ◌≤◌, ◌+◌, ◌-◌, IfOk
 ghost use Rattle.apl_faults.specs.Report.{name_of, place, prefix, call_of, report};
 
 use crate::fault::Fault;
-use apl_charset::{Ch, Text, push_ascii};
-use itoa::Buffer;
+use apl_charset::{Ch, Text, push_ascii, push_number};
 use std::alloc::{AllocError, Global};
 
 /// A standing call by its function's name and the number of its line.
@@ -19,10 +18,9 @@ pub struct Call<'a> {
 fn push_place(out: &mut Vec<Ch>, call: Call) -> Result<(), AllocError>
     ensures { OnOk result (out.new.items ≡ out.old.items ++ place (call.entry.name.now, call.entry.line)) }
 {
-    let mut digits = Buffer::new();
     out.extend_from_slice(call.name)?;
     push_ascii(out, b"[")?;
-    push_ascii(out, digits.format(call.line).as_bytes())?;
+    push_number(out, call.line as u64)?;
     push_ascii(out, b"]")?;
     Ok(())
 }

@@ -1,9 +1,9 @@
 // The text of a number, and what stands before it in a line.
-ghost use Rattle.std.specs.Prelude.{◌≡◌, ◌++◌, length, replicate, decimal, OnOk};
+ghost use Rattle.std.specs.Prelude.{◌≡◌, ◌++◌, length, replicate, OnOk};
 ghost use Rattle.apl_format.specs.Display.{number_text, padded};
 ghost use Rattle.apl_format.specs.Parts.{before};
 
-use apl_charset::{Ch, push_ascii};
+use apl_charset::{Ch, push_number as push_digits};
 use itoa::Buffer;
 use std::alloc::AllocError;
 
@@ -14,14 +14,6 @@ pub(crate) fn number_width(number: i64) -> usize
 {
     let mut digits = Buffer::new();
     digits.format(number).len()
-}
-
-fn push_digits(line: &mut Vec<Ch>, number: u64) -> Result<(), AllocError>
-    ensures { OnOk result (line.new.items ≡ line.old.items ++ decimal number) }
-{
-    let mut digits = Buffer::new();
-    push_ascii(line, digits.format(number).as_bytes())?;
-    Ok(())
 }
 
 /// Adds a number at the end. After an error a front of it may have been added.

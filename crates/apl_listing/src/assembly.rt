@@ -1,6 +1,5 @@
 //! Listings, read.
 ghost use Rattle.std.specs.Prelude.{◌≡◌, ◌≤◌, ◌<◌, ◌+◌, ℕ, List, ◌∷◌, ◌++◌, length, drop, IfOk, IfErr, IfSome, IfNone, MatchOption};
-ghost use Rattle.std.specs.Str.{bytes_eq};
 ghost use Rattle.apl_charset.specs.Text.{bytes, IsLine};
 ghost use Rattle.apl_code.specs.Code.{is_end, IsCode};
 ghost use Rattle.apl_code.specs.Instr.{IsInstr};
@@ -41,21 +40,6 @@ fn decoded(alloc: Global, line: &[u8]) -> Result<Option<Vec<Ch>>, AllocError>
     }
 }
 
-/// Whether two texts are equal.
-fn same(a: &[Ch], b: &[Ch]) -> bool
-    ensures { result ≡ bytes_eq a.now b.now }
-{
-    if a.len() != b.len() {
-        return false;
-    }
-    for i in 0..a.len() {
-        if a[i].code() != b[i].code() {
-            return false;
-        }
-    }
-    true
-}
-
 /// The instruction of this number whose line, without its end, these characters are.
 fn instr_of(alloc: Global, number: usize, text: &[Ch]) -> Result<Option<Instr>, AllocError>
     ensures found { IfOk result (λ o. IfSome o (λ i. IsInstr i × (text.now ≡ body number i))) }
@@ -70,7 +54,7 @@ fn instr_of(alloc: Global, number: usize, text: &[Ch]) -> Result<Option<Instr>, 
     }
     let mut printed = Vec::new(alloc);
     push_body(&mut printed, number, &instr)?;
-    if same(printed.as_slice(), text) {
+    if printed.as_slice() == text {
         Ok(Some(instr))
     } else {
         Ok(None)

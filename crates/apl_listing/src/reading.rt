@@ -1,12 +1,11 @@
 //! What a line says, read generously: what is read is compared with the line that it has.
 ghost use Rattle.std.specs.Prelude.{◌≡◌, ◌<◌, ◌-◌, ◌==◌, map, slice_index, option_map, IfOk};
-ghost use Rattle.std.specs.Str.{bytes_eq};
 ghost use Rattle.apl_code.specs.Names.{is_letter};
 ghost use Rattle.apl_listing.specs.Reading.{until, past, words, number_of, source_of, name_of, function_of, variable_of, operator_at, function_at, variable_at, has_axis, monadic_at, dyadic_at, under_at, reduce_at, inner_at, outer_at, read_at, call_at, assign_at, assign_indexed_at, end_at, ending_named, plain_named, variable_named, operator_named, action_named, refilled, placed, instr_at};
 ghost use Rattle.apl_listing.specs.Listing.{action_list};
 
 use crate::writing::index_list;
-use apl_charset::Ch;
+use apl_charset::{Ch, is_word};
 use apl_code::{Action, Arguments, Ending, Function, Instr, Row, Source, Variable};
 use apl_symbols::{Name, Operator, Symbol, SystemName};
 use std::alloc::{AllocError, Global};
@@ -22,21 +21,6 @@ pub(crate) fn split(text: &[Ch], mark: char) -> (&[Ch], &[Ch])
         }
     }
     (text, &text[text.len()..])
-}
-
-/// Whether the characters are that word.
-fn is_word(text: &[Ch], word: &[u8]) -> bool
-    ensures { result ≡ bytes_eq text.now word.now }
-{
-    if text.len() != word.len() {
-        return false;
-    }
-    for i in 0..text.len() {
-        if text[i].code() != word[i] as char {
-            return false;
-        }
-    }
-    true
 }
 
 /// Whether a name may begin with it.

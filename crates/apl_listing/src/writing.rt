@@ -1,24 +1,15 @@
 //! Listings, written.
-ghost use Rattle.std.specs.Prelude.{◌≡◌, ◌<◌, ◌++◌, ◌∷◌, [], length, slice_get, map, decimal, Some, true, IfOk, OnOk};
+ghost use Rattle.std.specs.Prelude.{◌≡◌, ◌<◌, ◌++◌, ◌∷◌, [], length, slice_get, map, Some, true, IfOk, OnOk};
 ghost use Rattle.std.specs.Int.{is_in_range};
 ghost use Rattle.std.specs.List.{list_all};
 ghost use Rattle.apl_charset.specs.Text.{bytes};
 ghost use Rattle.apl_symbols.specs.Glyphs.{glyph_of};
 ghost use Rattle.apl_listing.specs.Listing.{fields, system_word, function_word, variable_word, operator_glyph, operator_name, row_words, ending_words, action_words, action_list, list_place, without, operand, operand_words, body, line, listed};
 
-use apl_charset::{Ch, push_ascii};
+use apl_charset::{Ch, push_ascii, push_number};
 use apl_code::{Action, Code, Ending, Function, Instr, Row, Source, Variable};
 use apl_symbols::{Operator, Primitive, Symbol, SystemName};
-use itoa::Buffer;
 use std::alloc::{AllocError, Global};
-
-fn push_number(out: &mut Vec<Ch>, n: usize) -> Result<(), AllocError>
-    ensures { OnOk result (out.new.items ≡ out.old.items ++ decimal n) }
-{
-    let mut digits = Buffer::new();
-    push_ascii(out, digits.format(n).as_bytes())?;
-    Ok(())
-}
 
 /// Adds a system name, the quad in front of its letters.
 fn push_system(out: &mut Vec<Ch>, name: SystemName) -> Result<(), AllocError>
@@ -193,7 +184,7 @@ fn push_operand(out: &mut Vec<Ch>, source: Option<Source>) -> Result<(), AllocEr
         Some(Source::Stack) => push_ascii(out, b"S "),
         Some(Source::Constant(k)) => {
             push_ascii(out, b"#")?;
-            push_number(out, k)?;
+            push_number(out, k as u64)?;
             push_ascii(out, b" ")
         }
     }
@@ -239,12 +230,12 @@ fn push_operands(out: &mut Vec<Ch>, instr: &Instr) -> Result<(), AllocError>
 pub(crate) fn push_body(out: &mut Vec<Ch>, number: usize, instr: &Instr) -> Result<(), AllocError>
     ensures { OnOk result (out.new.items ≡ out.old.items ++ body number instr.now) }
 {
-    push_number(out, number)?;
+    push_number(out, number as u64)?;
     push_ascii(out, b" ")?;
     push_action(out, instr.action)?;
     push_operands(out, instr)?;
     push_ascii(out, b"@")?;
-    push_number(out, instr.at)?;
+    push_number(out, instr.at as u64)?;
     Ok(())
 }
 

@@ -18,7 +18,7 @@ AreMaps (m ∷ ms) = IsMap m × AreMaps ms
 pub same_scopes : (s t : Scope) → ((q : Text) → s q ≡ t q) → s ≡ t
 same_scopes s t h = λ j q. h q j
 
-lower : (l n : Text) (m : Map) → name_cmp l n ≡ Less → IsAbove n m → IsAbove l m
+pub lower : (l n : Text) (m : Map) → name_cmp l n ≡ Less → IsAbove n m → IsAbove l m
 lower l n [] lt h = tt
 lower l n (e ∷ es) lt h = (chain l n e.0 lt h.0, h.1)
 

@@ -63,13 +63,13 @@ filled w (Call d n locals rest ∷ below) = record { first = locals; others = en
 filled w (Execute text rest ∷ below) = filled w below
 
 -- the contexts with their own maps
-own-maps : (w : World) (contexts : List Context) → with_maps (environment w contexts) contexts ≡ contexts
+pub own-maps : (w : World) (contexts : List Context) → with_maps (environment w contexts) contexts ≡ contexts
 own-maps w [] = refl
 own-maps w (Statement text rest ∷ below) = ap (λ (cs : List Context). Statement text rest ∷ cs) (own-maps w below)
 own-maps w (Call d n locals rest ∷ below) = ap (λ (cs : List Context). Call d n locals rest ∷ cs) (own-maps w below)
 own-maps w (Execute text rest ∷ below) = ap (λ (cs : List Context). Execute text rest ∷ cs) (own-maps w below)
 
-own-globals : (w : World) (contexts : List Context) → left_over (environment w contexts) contexts ≡ w.globals
+pub own-globals : (w : World) (contexts : List Context) → left_over (environment w contexts) contexts ≡ w.globals
 own-globals w [] = refl
 own-globals w (Statement text rest ∷ below) = own-globals w below
 own-globals w (Call d n locals rest ∷ below) = own-globals w below

@@ -1,12 +1,11 @@
 -- What maps say when entries come or go.
 use Rattle.std.proofs.Common.{◌≡◌, Bool, true, false, cond, List, [], ◌∷◌, ◌++◌, Option, Some, None, refl, sym, ap, subst, ◌∙◌, true≢false}
-use Rattle.std.specs.declared.cmp.Ordering.TheVariants.{Less}
 use Rattle.std.specs.Option.{option_or}
 use Rattle.std.specs.Str.{bytes_eq}
 use Rattle.apl_names.specs.declared.binding.Binding.{Binding}
-use Rattle.apl_names.specs.Maps.{IsAbove, IsMap, Map, Text, map_of, name_cmp, said, without_entry}
-use Rattle.apl_names.proofs.Texts.{same, flip, chain}
-use Rattle.apl_names.proofs.Maps.{none_above, said_with, with_map}
+use Rattle.apl_names.specs.Maps.{IsAbove, IsMap, Map, Text, map_of, said, without_entry}
+use Rattle.apl_names.proofs.Texts.{same, flip}
+use Rattle.apl_names.proofs.Maps.{lower, none_above, said_with, with_map}
 
 -- what is listed first stands
 pub said-listed : (es : List (Text × Binding)) (q : Text) → said (map_of es) q ≡ said es q
@@ -27,10 +26,6 @@ said-append (e ∷ es) fs q = ap (λ o. cond (bytes_eq q e.0) (Some e.1) o) (sai
 
 -- ---- without an entry
 
-lower : (l n : Text) (m : Map) → name_cmp l n ≡ Less → IsAbove n m → IsAbove l m
-lower l n [] lt h = tt
-lower l n (e ∷ es) lt h = (chain l n e.0 lt h.0, h.1)
-
 without-above : (l n : Text) (m : Map) → IsAbove l m → IsAbove l (without_entry n m)
 without-above l n [] h = tt
 without-above l n (e ∷ es) h = by (bytes_eq n e.0) (without-above e.0 n es h.1)
@@ -39,7 +34,7 @@ without-above l n (e ∷ es) h = by (bytes_eq n e.0) (without-above e.0 n es h.1
     by true later = lower l e.0 es h.0 h.1
     by false later = (h.0, later)
 
-later-map : (n : Text) (m : Map) → IsAbove n m → IsMap m
+pub later-map : (n : Text) (m : Map) → IsAbove n m → IsMap m
 later-map n [] h = tt
 later-map n (e ∷ es) h = h.1
 

@@ -33,7 +33,7 @@ no-hole cs (forms.Word w) st = refl
 no-hole cs forms.Given st = refl
 no-hole cs forms.Slots st = refl
 
-none-filled : (cs : List Arr) (ps : List Placed) (st : List Operand) → holes (filled cs ps st) ≡ 0
+pub none-filled : (cs : List Arr) (ps : List Placed) (st : List Operand) → holes (filled cs ps st) ≡ 0
 none-filled cs [] st = refl
 none-filled cs (p ∷ ps) st =
     let first : hole (content_at cs p.form st) ≡ 0 = no-hole cs p.form st in
@@ -47,7 +47,7 @@ first-holed cs (forms.Word w) at ps st h g = let e : holes (holed cs ps st) ≡ 
 first-holed cs forms.Given at ps st h g = let e : holes (filled cs ps st) ≡ 0 = none-filled cs ps st in omega arith
 first-holed cs forms.Slots at ps st h g = cc
 
-one-holed : (cs : List Arr) (ps : List Placed) (st : List Operand) → B ∷ map kind_of_operand st ≡ wanted_kinds ps → holes (holed cs ps st) ≡ 1
+pub one-holed : (cs : List Arr) (ps : List Placed) (st : List Operand) → B ∷ map kind_of_operand st ≡ wanted_kinds ps → holes (holed cs ps st) ≡ 1
 one-holed cs [] st h = cc
 one-holed cs (p ∷ ps) st h = first-holed cs p.form p.at ps st h (one-holed cs ps st)
 

@@ -96,7 +96,7 @@ globals-kept p h = record {
 
 -- ---- vectors
 
-vectors-ascend : (which : Watched → List ℕ) (fs : List Watched) → AreAscending (vectors_of which fs)
+pub vectors-ascend : (which : Watched → List ℕ) (fs : List Watched) → AreAscending (vectors_of which fs)
 vectors-ascend which [] = tt
 vectors-ascend which (f ∷ fs) = with-ascends f.definition.header.name (which f) (vectors_of which fs) (vectors-ascend which fs)
 

@@ -1,5 +1,5 @@
 -- The parts of a state.
-use Rattle.std.specs.Prelude.{ℕ, List, [], ◌∷◌, ◌++◌, map, reverse, Option, Some, None, option_map}
+use Rattle.std.specs.Prelude.{ℕ, List, [], ◌∷◌, map, reverse, Option, option_map}
 use Rattle.std.specs.List.{flat_map}
 use Rattle.apl_arrays.specs.Cells.{Arr}
 use Rattle.apl_symbols.specs.declared.class.Class.{Class}
@@ -11,13 +11,14 @@ use Rattle.apl_translate.specs.declared.form.Form.{Form}
 use Rattle.apl_translate.specs.declared.form.Form.TheVariants as forms
 use Rattle.apl_translate.specs.declared.form.Placed.{Placed}
 use Rattle.apl_vectors.specs.Vectors.{Vectors, vector_of}
-use Rattle.apl_defn.specs.Definitions.{Text, Definition, Header}
+use Rattle.apl_defn.specs.Definitions.{Text, Definition}
 use Rattle.apl_names.specs.declared.binding.Binding.{Binding}
 use Rattle.apl_names.specs.declared.binding.Binding.TheVariants.{Value, Function}
 use Rattle.apl_names.specs.Maps.{Map, said, value_in}
 use Rattle.apl_machine_state.specs.Items.{Rest, operand_stack}
 use Rattle.apl_machine_state.specs.Environment as model
 use Rattle.apl_machine_state.specs.State.{State}
+use Rattle.apl_order.specs.Kept.{names_in}
 use Rattle.apl_parts.specs.declared.parts.ContextPart.{ContextPart}
 use Rattle.apl_parts.specs.declared.parts.ContextPart.TheVariants.{Statement, Call, Execute}
 use Rattle.apl_parts.specs.Pieces.{Waiting, Standing, Watched}
@@ -37,14 +38,6 @@ classes_of items = flat_map (λ p. class_in p.form) items
 -- what is kept of a line that awaits an answer
 abbrev pub waiting_of : Rest → Waiting
 waiting_of rest = record { classes = classes_of rest.bound.items; done = rest.done; operands = operand_stack rest.items }
-
-abbrev pub named : Option Text → List Text
-named None = []
-named (Some name) = name ∷ []
-
--- the names of a header that have values: the result, the arguments, the locals
-abbrev pub names_in : Header → List Text
-names_in h = named h.result ++ (named h.left ++ (named h.right ++ h.locals))
 
 -- what these names have for values in a map
 abbrev pub values_in : Map → List Text → List (Text × Option Arr)

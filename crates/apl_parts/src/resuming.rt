@@ -109,8 +109,8 @@ fn call_of(
     Ok(Call::new(function, at, line))
 }
 
-/// What a name of a call stands for: its value, if it has one.
-fn bound_to(value: Option<Array>) -> Binding
+/// What a name of a call stands for: its value, if it has one, else nothing yet.
+pub fn bound_to(value: Option<Array>) -> Binding
     ensures { result ≡ bound_to value }
 {
     match value {
@@ -119,8 +119,12 @@ fn bound_to(value: Option<Array>) -> Binding
     }
 }
 
-/// Adds the labels, each of which is the number of its line.
-fn push_labels(names: &mut Vec<(Name, Binding)>, labels: &[(Name, usize)]) -> Result<(), AllocError>
+/// Adds labels with what they stand for in a call: each is the number of its line. After an error a
+/// front of them may have been added.
+pub fn push_labels(
+    names: &mut Vec<(Name, Binding)>,
+    labels: &[(Name, usize)],
+) -> Result<(), AllocError>
     requires { All (λ l. l.1 ≤ 999) labels.now }
     ensures { OnOk result (names.new.items ≡ names.old.items ++ map label_of labels.now) }
 {

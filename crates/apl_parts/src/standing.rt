@@ -3,8 +3,9 @@ ghost use Rattle.std.specs.Prelude.{◌≡◌, ◌++◌, ◌∷◌, ◌<◌, [],
 ghost use Rattle.apl_frames.specs.Flat.{flat_rest};
 ghost use Rattle.apl_contexts.specs.Contexts.{dressed};
 ghost use Rattle.apl_names.specs.Maps.{first_map, said, value_in};
+ghost use Rattle.apl_order.specs.Kept.{named, names_in};
 ghost use Rattle.apl_parts.specs.Making.{dress, scope_beneath};
-ghost use Rattle.apl_parts.specs.Taken.{class_in, classes_of, named, names_in, part_of, values_in, waiting_of};
+ghost use Rattle.apl_parts.specs.Taken.{class_in, classes_of, part_of, values_in, waiting_of};
 
 use crate::parts::{CallPart, ContextPart, RestPart, StatementPart};
 use apl_arrays::Array;

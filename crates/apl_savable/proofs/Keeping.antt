@@ -54,11 +54,11 @@ use Rattle.apl_frames.proofs.Standing.{AtPhrase, AtEnd, acts}
 use Rattle.apl_saved.specs.Rules as rules
 use Rattle.apl_saved.specs.Rules.{Calls, HasNoLabel}
 use Rattle.apl_parts.specs.Taken.{part_of}
+use Rattle.apl_parts.proofs.InOrder.{one-holed}
 use Rattle.apl_savable.specs.Savable.{AreSavable, HasCalled, HasCalledIn, IsCalledBy, IsNamed, IsSavable, IsUnderWay}
 use Rattle.apl_savable.specs.Promises.{DefinitionsKeepSavable, ErasuresKeepSavable, InterruptsKeepSavable, StatementsKeepSavable, StepsKeepSavable}
 use Rattle.apl_savable.proofs.IndexLists.{empty-slots}
 use Rattle.apl_savable.proofs.Fits.{line-fits}
-use Rattle.apl_savable.proofs.Lines.{one-holed}
 use Rattle.apl_savable.proofs.Maps.{SavesWith, all-own, assigned-saves, begun-origin}
 use Rattle.apl_savable.proofs.Rights.{AreSlots, IsRight, IsTarget, no-label, outcome-right}
 use Rattle.apl_savable.proofs.UnderWay.{awaits-under-way, begun-under-way, given-under-way}

@@ -1,57 +1,32 @@
 -- A line that awaits an answer, in parts and put together again.
-use Rattle.std.proofs.Common.{◌≡◌, ℕ, zero, suc, ◌≤◌, false, List, [], ◌∷◌, ◌++◌, map, take, reverse, refl, sym, ap, subst, ◌∙◌, arith}
+use Rattle.std.proofs.Common.{◌≡◌, ℕ, zero, suc, ◌≤◌, false, List, [], ◌∷◌, map, take, reverse, refl, sym, ap, subst, ◌∙◌, arith}
 use Rattle.apl_arrays.specs.Cells.{Arr}
 use Rattle.apl_listing.specs.Kinds.{kinds}
 use Rattle.apl_defn.specs.Definitions.{Text}
-use Rattle.apl_translate.specs.declared.form.Form.{Form}
-use Rattle.apl_translate.specs.declared.form.Form.TheVariants as forms
 use Rattle.apl_translate.specs.declared.form.Placed.{Placed}
 use Rattle.apl_translate.specs.Binding.{bound_of}
-use Rattle.apl_translate.specs.Forms.{IsFresh, forms_after, wanted, wanted_kinds}
+use Rattle.apl_translate.specs.Forms.{IsFresh, forms_after, wanted_kinds}
 use Rattle.apl_translate.specs.Lines.{Line}
 use Rattle.apl_translate.specs.Phrase.{Kind, B}
 use Rattle.apl_translate.specs.Translation.{Translates}
 use Rattle.apl_machine_state.specs.declared.operand.Operand.{Operand}
 use Rattle.apl_machine_state.specs.Items.{Rest, kind_of_operand, operand_stack}
 use Rattle.apl_machine_state.specs.Environment.{Context}
-use Rattle.apl_order.specs.Order.{hole, holes}
+use Rattle.apl_order.specs.Order.{holes}
 use Rattle.apl_frames.specs.declared.frame.Stage.{Stage}
 use Rattle.apl_frames.specs.declared.frame.Stage.TheVariants.{Ready, Pendent, Emptied}
-use Rattle.apl_frames.specs.Flat.{content_at, filled, flat_rest, holed, items_at, rest_with, stack_after}
+use Rattle.apl_frames.specs.Flat.{flat_rest, items_at, rest_with}
 use Rattle.apl_frames.proofs.Pendent.{kinds_awaited}
 use Rattle.apl_frames.proofs.Standing.{stack_of_line}
 use Rattle.apl_parts.specs.Pieces.{Waiting}
 use Rattle.apl_parts.specs.Taken.{classes_of, part_of, waiting_of}
 use Rattle.apl_parts.specs.Restored as restored
+use Rattle.apl_parts.proofs.InOrder.{none-filled}
 use Rattle.apl_saved.specs.Rules.{Awaits, IsPendent}
 use Rattle.apl_savable.specs.Savable.{AreLeft, HasCalled, IsUnderWay}
 use Rattle.apl_savable.proofs.Classes.{classes-again}
 
 -- ---- holes
-
-no-hole : (cs : List Arr) (f : Form) (st : List Operand) → hole (content_at cs f st) ≡ 0
-no-hole cs (forms.Constant k) st = refl
-no-hole cs (forms.Word w) st = refl
-no-hole cs forms.Given st = refl
-no-hole cs forms.Slots st = refl
-
-pub none-filled : (cs : List Arr) (ps : List Placed) (st : List Operand) → holes (filled cs ps st) ≡ 0
-none-filled cs [] st = refl
-none-filled cs (p ∷ ps) st =
-    let first : hole (content_at cs p.form st) ≡ 0 = no-hole cs p.form st in
-    let others : holes (filled cs ps (stack_after p.form st)) ≡ 0 = none-filled cs ps (stack_after p.form st) in
-    omega arith
-
-first-holed : (cs : List Arr) (f : Form) (at : ℕ) (ps : List Placed) (st : List Operand) → B ∷ map kind_of_operand st ≡ wanted f ++ wanted_kinds ps
-    → (B ∷ map kind_of_operand st ≡ wanted_kinds ps → holes (holed cs ps st) ≡ 1) → holes (holed cs (record { form = f; at = at } ∷ ps) st) ≡ 1
-first-holed cs (forms.Constant k) at ps st h g = let e : holes (holed cs ps st) ≡ 1 = g h in omega arith
-first-holed cs (forms.Word w) at ps st h g = let e : holes (holed cs ps st) ≡ 1 = g h in omega arith
-first-holed cs forms.Given at ps st h g = let e : holes (filled cs ps st) ≡ 0 = none-filled cs ps st in omega arith
-first-holed cs forms.Slots at ps st h g = cc
-
-pub one-holed : (cs : List Arr) (ps : List Placed) (st : List Operand) → B ∷ map kind_of_operand st ≡ wanted_kinds ps → holes (holed cs ps st) ≡ 1
-one-holed cs [] st h = cc
-one-holed cs (p ∷ ps) st h = first-holed cs p.form p.at ps st h (one-holed cs ps st)
 
 one-zero : ◌≡◌ {A = ℕ} 0 1 → ⊥
 one-zero h = cc

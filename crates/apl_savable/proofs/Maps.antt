@@ -20,7 +20,7 @@ use Rattle.apl_names.proofs.Maps.{said_with}
 use Rattle.apl_machine_state.specs.Environment.{Context, Statement, Call, Execute, Scene, World, environment, index_origin, left_over, origin_by, origin_in, origin_name, scalar, scene, with_maps}
 use Rattle.apl_machine_state.specs.Calls.{bound_to, call_map, label_of, local_of, named, names_of_call}
 use Rattle.apl_order.specs.Kept.{AreGlobals, AreKept, IsObject}
-use Rattle.apl_order.proofs.Assigned.{filled}
+use Rattle.apl_order.proofs.Assigned.{filled, own-globals, own-maps}
 use Rattle.apl_order.proofs.CallMaps.{IsNoFunction, call-function}
 use Rattle.apl_order.proofs.Defined.{labels-said, own-said}
 use Rattle.apl_order.proofs.Maps.{said-listed}
@@ -116,18 +116,6 @@ pub all-own : (w : World) (contexts : List Context) → AreGlobals w.globals →
 all-own w contexts g h q = found-own w contexts q g h
 
 -- ---- a name is given a value
-
-own-maps : (w : World) (contexts : List Context) → with_maps (environment w contexts) contexts ≡ contexts
-own-maps w [] = refl
-own-maps w (Statement text rest ∷ below) = ap (λ (cs : List Context). Statement text rest ∷ cs) (own-maps w below)
-own-maps w (Call d n locals rest ∷ below) = ap (λ (cs : List Context). Call d n locals rest ∷ cs) (own-maps w below)
-own-maps w (Execute text rest ∷ below) = ap (λ (cs : List Context). Execute text rest ∷ cs) (own-maps w below)
-
-own-globals : (w : World) (contexts : List Context) → left_over (environment w contexts) contexts ≡ w.globals
-own-globals w [] = refl
-own-globals w (Statement text rest ∷ below) = own-globals w below
-own-globals w (Call d n locals rest ∷ below) = own-globals w below
-own-globals w (Execute text rest ∷ below) = own-globals w below
 
 abbrev pub AreNamed : Map → Type 0
 AreNamed g = (q : Text) → IsNamed q (said g q)

@@ -13,9 +13,11 @@ use Rattle.apl_defn.specs.Definitions.{Text, Definition}
 use Rattle.apl_names.specs.declared.binding.Binding.{Binding}
 use Rattle.apl_names.specs.declared.binding.Binding.TheVariants.{Unset, Label, Value, Function}
 use Rattle.apl_names.specs.Maps.{IsAbove, IsMap, Map, function_in as function_of, name_cmp, said}
-use Rattle.apl_names.proofs.Texts.{apart, chain, flip, itself, same}
+use Rattle.apl_names.proofs.Texts.{apart, flip, itself, same}
+use Rattle.apl_names.proofs.Maps.{lower}
 use Rattle.apl_vectors.specs.Vectors.{Vectors, vector_of}
 use Rattle.apl_order.specs.Kept.{AreGlobals, AreLines, AreVectors, IsObject, IsVectorOf}
+use Rattle.apl_order.proofs.Maps.{later-map}
 use Rattle.apl_parts.specs.Pieces.{Watched}
 use Rattle.apl_parts.specs.Taken.{function_in, variable_in}
 use Rattle.apl_parts.specs.Restored.{IsWatched}
@@ -26,14 +28,6 @@ abbrev Entry : Type 0
 Entry = Text × Binding
 
 -- ---- what a map says of its entries
-
-lower : (l n : Text) (m : Map) → name_cmp l n ≡ Less → IsAbove n m → IsAbove l m
-lower l n [] lt h = tt
-lower l n (e ∷ es) lt h = (chain l n e.0 lt h.0, h.1)
-
-pub later-map : (n : Text) (m : Map) → IsAbove n m → IsMap m
-later-map n [] h = tt
-later-map n (e ∷ es) h = h.1
 
 said-first : (e : Entry) (es : Map) → said (e ∷ es) e.0 ≡ Some e.1
 said-first e es = ap (λ c. cond c (Some e.1) (said es e.0)) (itself e.0)

@@ -4,7 +4,7 @@ use Rattle.std.specs.Prelude.{is_some}
 use Rattle.std.specs.Str.{bytes_eq}
 use Rattle.std.proofs.lemmas.List.Elements.{All-cons, All-nil}
 use Rattle.apl_arrays.specs.Cells.{Arr}
-use Rattle.apl_defn.specs.Definitions.{Text, Definition, Header}
+use Rattle.apl_defn.specs.Definitions.{Text, Definition}
 use Rattle.apl_names.specs.declared.binding.Binding.{Binding}
 use Rattle.apl_names.specs.declared.binding.Binding.TheVariants.{Unset, Label, Value, Function}
 use Rattle.apl_names.specs.Maps.{Map, said, value_in}
@@ -12,23 +12,11 @@ use Rattle.apl_names.specs.Slots.{has}
 use Rattle.apl_names.proofs.Texts.{flip, itself}
 use Rattle.apl_machine_state.specs.Environment.{origin_name}
 use Rattle.apl_machine_state.specs.Calls.{bound_to, label_of}
-use Rattle.apl_order.specs.Kept.{IsCallMap, names_by}
-use Rattle.apl_order.specs.Kept as kept
+use Rattle.apl_order.specs.Kept.{IsCallMap, names_by, names_in}
 use Rattle.apl_order.proofs.Maps.{said-listed}
-use Rattle.apl_parts.specs.Taken.{named, names_in, values_in}
+use Rattle.apl_parts.specs.Taken.{values_in}
 use Rattle.apl_saved.specs.Rules.{IsLocal, IsOrigin}
 use Rattle.apl_savable.specs.Savable.{IsOriginBy}
-
--- the names of a header
-same-named : (o : Option Text) → named o ≡ kept.named o
-same-named None = refl
-same-named (Some n) = refl
-
-pub same-names : (h : Header) → names_in h ≡ kept.names_in h
-same-names h =
-    ap (λ (ns : List Text). ns ++ (named h.left ++ (named h.right ++ h.locals))) (same-named h.result)
-    ∙ ap (λ (ns : List Text). kept.named h.result ++ (ns ++ (named h.right ++ h.locals))) (same-named h.left)
-    ∙ ap (λ (ns : List Text). kept.named h.result ++ (kept.named h.left ++ (ns ++ h.locals))) (same-named h.right)
 
 pub values-names : (m : Map) (ns : List Text) → map (λ (l : Text × Option Arr). l.0) (values_in m ns) ≡ ns
 values-names m [] = refl
@@ -45,8 +33,8 @@ some-listed m (n ∷ ns) ls q h = by (bytes_eq q n) (bytes_eq n q) (flip n q) h 
     by false true e k f = absurd (true≢false e)
     by false false e k f = f k
 
-some-said : (d : Definition) (m : Map) (q : Text) → IsCallMap d m → has (kept.names_in d.header) q ≡ true → is_some (said m q) ≡ true
-some-said d m q h k = ap (λ (n : Map). is_some (said n q)) (sym h) ∙ ap is_some (said-listed (names_by m d) q) ∙ some-listed m (kept.names_in d.header) (map label_of d.labels) q k
+some-said : (d : Definition) (m : Map) (q : Text) → IsCallMap d m → has (names_in d.header) q ≡ true → is_some (said m q) ≡ true
+some-said d m q h k = ap (λ (n : Map). is_some (said n q)) (sym h) ∙ ap is_some (said-listed (names_by m d) q) ∙ some-listed m (names_in d.header) (map label_of d.labels) q k
 
 origin-value : (o : Option Binding) → is_some o ≡ true → IsOriginBy o → IsOrigin (value_in o)
 origin-value None e h = absurd (true≢false (sym e))
@@ -73,4 +61,4 @@ each-local m (n ∷ ns) f h =
     (each-local m ns (λ q k. f q (has-later n ns q k)) h)
 
 pub all-local : (d : Definition) (m : Map) → IsCallMap d m → IsOriginBy (said m origin_name) → All IsLocal (values_in m (names_in d.header))
-all-local d m c h = subst (λ (ns : List Text). All IsLocal (values_in m ns)) (sym (same-names d.header)) (each-local m (kept.names_in d.header) (λ q k. some-said d m q c k) h)
+all-local d m c h = each-local m (names_in d.header) (λ q k. some-said d m q c k) h

@@ -6,16 +6,16 @@ use Rattle.apl_defn.specs.Definitions.{Text, line_of}
 use Rattle.apl_machine_state.specs.Items.{Rest}
 use Rattle.apl_machine_state.specs.Environment.{Context, Statement, Call, Execute, rest_of, standing}
 use Rattle.apl_order.specs.Order.{HasHoles, IsAtLine, IsBelow, IsSuspended}
-use Rattle.apl_order.specs.Kept.{AreKept, IsKeptContext}
+use Rattle.apl_order.specs.Kept.{AreKept, IsKeptContext, names_in}
 use Rattle.apl_order.proofs.Standing.{AreIdle, order-idle}
 use Rattle.apl_parts.specs.declared.parts.ContextPart.{ContextPart}
-use Rattle.apl_parts.specs.Taken.{part_of, waiting_of, names_in}
+use Rattle.apl_parts.specs.Taken.{part_of, waiting_of}
 use Rattle.apl_parts.specs.Restored.{waiting_in}
 use Rattle.apl_saved.specs.Rules.{AreContexts, Follows, IsContext, IsPendentIn, IsStatement, StandsOn, counted, text_of}
 use Rattle.apl_savable.specs.Savable.{AreSavable, HasCalledIn, IsSavableContext, IsUnderWayIn}
 use Rattle.apl_savable.specs.Promises.{PartsAreRuled}
 use Rattle.apl_savable.proofs.Lines.{awaits-part, pendent-line, pendent-part}
-use Rattle.apl_savable.proofs.Origins.{all-local, same-names, values-names}
+use Rattle.apl_savable.proofs.Origins.{all-local, values-names}
 use Rattle.apl_savable.proofs.Objects.{all-named, all-watched, are-listed, functions-ascend, names-apart, of-entries, variables-ascend}
 use Rattle.apl_savable.specs.Savable.{IsNamed}
 
@@ -44,7 +44,7 @@ ruled-context (Execute text rest) s k at h = (s.0, pendent-part text rest s.1 (p
 ruled-context (Call d n locals rest) s k at h = record {
   defined = k.0;
   at_line = at;
-  names = values-names locals (names_in d.header) ∙ same-names d.header;
+  names = values-names locals (names_in d.header);
   locals = all-local d locals k.1 s.0;
   rest = pendent-in (line_of d n) rest s.1 h;
 }

@@ -18,21 +18,20 @@ use Rattle.apl_machine_state.specs.Environment.{Context, Statement, Call, Execut
 use Rattle.apl_machine_state.specs.Calls.{bound_to, label_of}
 use Rattle.apl_machine_state.specs.State.{clear}
 use Rattle.apl_order.specs.Order.{IsBelow}
-use Rattle.apl_order.specs.Kept.{AreGlobals, AreKept, AreVectors, IsCallMap, IsKeptContext, IsObject, IsVectorOf}
-use Rattle.apl_order.proofs.Maps.{listed-map, said-append, said-listed}
+use Rattle.apl_order.specs.Kept.{AreGlobals, AreKept, AreVectors, IsCallMap, IsKeptContext, IsObject, IsVectorOf, names_in}
+use Rattle.apl_order.proofs.Maps.{later-map, listed-map, said-append, said-listed}
 use Rattle.apl_order.proofs.Standing.{AreIdle, order-idle}
-use Rattle.apl_order.proofs.Vectors.{listed, listed-with, same-vectors, unless_empty, with-ascends}
-use Rattle.apl_order.specs.Kept.{AreAscending}
+use Rattle.apl_order.proofs.Vectors.{listed, listed-with, same-vectors, unless_empty}
 use Rattle.apl_parts.specs.Pieces.{Watched}
-use Rattle.apl_parts.specs.Taken.{function_in, names_in, part_of, parts_of, values_in, variable_in, waiting_of}
+use Rattle.apl_parts.specs.Taken.{function_in, part_of, parts_of, values_in, variable_in, waiting_of}
 use Rattle.apl_parts.specs.Restored.{context_of, function_entry, globals_of, names_of, state_of, variable_entry, vectors_of}
 use Rattle.apl_parts.specs.Restored as restored
 use Rattle.apl_parts.proofs.Added.{map_reverse}
+use Rattle.apl_parts.proofs.Kept.{vectors-ascend}
 use Rattle.apl_savable.specs.Savable.{AreSavable, IsSavableContext, IsUnderWayIn}
 use Rattle.apl_savable.specs.Promises.{SavedIsTheSame}
 use Rattle.apl_savable.proofs.Lines.{pendent-line, rest-again}
-use Rattle.apl_savable.proofs.Objects.{later-map, of-entries}
-use Rattle.apl_savable.proofs.Origins.{same-names}
+use Rattle.apl_savable.proofs.Objects.{of-entries}
 use Rattle.apl_savable.proofs.Ruled.{IsAwaiting, below-awaits, idle-rest}
 
 -- ---- contexts
@@ -47,7 +46,7 @@ names-again m (n ∷ ns) = ap (λ (es : List (Text × Binding)). (n, bound_to (v
 
 map-again : (d : Definition) (m : Map) → IsCallMap d m → map_of (map {B = Text × Binding} (λ (l : Text × Option Arr). (l.0, bound_to l.1)) (values_in m (names_in d.header)) ++ map label_of d.labels) ≡ m
 map-again d m h =
-    ap (λ (es : List (Text × Binding)). map_of (es ++ map label_of d.labels)) (names-again m (names_in d.header) ∙ ap (map {B = Text × Binding} (λ name. (name, bound_to (value_in (said m name))))) (same-names d.header)) ∙ h
+    ap (λ (es : List (Text × Binding)). map_of (es ++ map label_of d.labels)) (names-again m (names_in d.header)) ∙ h
 
 context-again : (c : Context) → IsSavableContext c → IsKeptContext c → IsAwaiting (rest_of c) → context_of (part_of c) ≡ c
 context-again (Statement text rest) s k h = ap (Statement text) (rest-again text rest s.1 (pendent-line text rest s.1 h))
@@ -165,10 +164,6 @@ listed-again (Some (n ∷ ns)) d h = refl
 
 record IsWhich (which : Watched → List ℕ) (stops traces vectors : Vectors) : Type 0 where
   gives : (n : Text) (d : Definition) → which (record { definition = d; stops = vector_of n stops; traces = vector_of n traces }) ≡ vector_of n vectors
-
-vectors-ascend : (which : Watched → List ℕ) (fs : List Watched) → AreAscending (vectors_of which fs)
-vectors-ascend which [] = tt
-vectors-ascend which (f ∷ fs) = with-ascends f.definition.header.name (which f) (vectors_of which fs) (vectors-ascend which fs)
 
 one-listed : (which : Watched → List ℕ) (stops traces vectors : Vectors) → IsWhich which stops traces vectors → (n q : Text) (b : Binding) (ws : List Watched) (o : Option Binding) → IsObject n (Some b) → IsVectorOf (function_of (Some b)) (listed vectors n)
     → listed (vectors_of which ws) q ≡ vector_part o (listed vectors q) → (bytes_eq q n ≡ true → o ≡ None) → listed (vectors_of which (function_in stops traces (n, b) ++ ws)) q ≡ vector_part (cond (bytes_eq q n) (Some b) o) (listed vectors q)

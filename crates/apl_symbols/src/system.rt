@@ -2,10 +2,9 @@
 ghost use Rattle.std.specs.Prelude.{◌≡◌, ◌<◌, ◌≤◌, true, length};
 ghost use Rattle.std.specs.Int.{is_in_range};
 ghost use Rattle.std.specs.List.{list_all};
-ghost use Rattle.std.specs.Str.{bytes_eq};
 ghost use Rattle.apl_symbols.specs.SystemNames.{letters_of, system_named};
 
-use apl_charset::Ch;
+use apl_charset::{Ch, is_word};
 
 /// A name that begins with `⎕`.
 #[derive(Clone, Copy, PartialEq, Eq, Hash, Debug)]
@@ -56,19 +55,4 @@ impl SystemName {
             SystemName::Trace => b"TRACE",
         }
     }
-}
-
-/// Whether the characters are that word.
-fn is_word(text: &[Ch], word: &[u8]) -> bool
-    ensures { result ≡ bytes_eq text.now word.now }
-{
-    if text.len() != word.len() {
-        return false;
-    }
-    for i in 0..text.len() {
-        if text[i].code() != word[i] as char {
-            return false;
-        }
-    }
-    true
 }

@@ -1,8 +1,6 @@
 -- A number's plain word is its shortest.
 use Rattle.std.proofs.Common.{◌≡◌, ℕ, zero, suc, ◌<◌, ◌≤◌, ◌^◌, Bool, true, false, ◌⊎◌, List, [], ◌∷◌, ◌++◌, length, refl, sym, ap, subst, ◌∙◌, inl, inr, arith}
 use Rattle.std.specs.Prelude.{ℤ, pos, negsuc, decimal}
-use Rattle.std.specs.List.{list_all}
-use Rattle.std.specs.Int.{is_in_range}
 use Rattle.std.specs.Str.Parse.{digits_value, AllDigits}
 use Rattle.std.proofs.lemmas.Bool.{le-leb, leb-true, ltb-true, ne_eqb}
 use Rattle.std.proofs.lemmas.Str.{digit_value_digit}
@@ -16,17 +14,6 @@ use Rattle.apl_tokens.specs.Spelling.{class_at, all_digits, signed, signed_value
 use Rattle.apl_tokens.specs.Plain.{number_word}
 use Rattle.apl_tokens.proofs.Classes.{and_left, and_right, digit_class, minus_class}
 use Rattle.apl_tokens.proofs.Digits.{digit_range}
-
--- digits print
-digit_prints : (c : ℕ) → (48 ≤ c) × (c ≤ 57) → is_in_range 32 126 c ≡ true
-digit_prints c h = rw (le-leb 32 c (omega arith), le-leb c 126 (omega arith)) refl
-
-digits_print : (ds : List ℕ) → AllDigits 10 ds → list_all (λ b. is_in_range 32 126 b) ds ≡ true
-digits_print [] h = refl
-digits_print (c ∷ ds) h = rw (digit_prints c (digit_from_value c h.0), digits_print ds h.1) refl
-
-pub decimal_prints : (n : ℕ) → n < 2 ^ 64 → list_all (λ b. is_in_range 32 126 b) (decimal n) ≡ true
-decimal_prints n lt = digits_print (decimal n) (decimal_is_IsNumeral n lt).0.1
 
 -- digits by their class and by their value
 digits_all : (ds : List ℕ) → all_digits ds ≡ true → AllDigits 10 ds

@@ -8,8 +8,7 @@ ghost use Rattle.apl_tokens.specs.Plain.{AreSpelled, number_word, more_numbers, 
 
 use crate::class::class_of;
 use crate::token::{Kind, Token};
-use apl_charset::{Ch, Text, push_ascii};
-use itoa::Buffer;
+use apl_charset::{Ch, Text, push_ascii, push_number};
 use std::alloc::{AllocError, Global};
 
 fn push_blanks(text: &mut Vec<Ch>, count: usize) -> Result<(), AllocError>
@@ -21,28 +20,20 @@ fn push_blanks(text: &mut Vec<Ch>, count: usize) -> Result<(), AllocError>
     Ok(())
 }
 
-fn push_digits(text: &mut Vec<Ch>, n: u64) -> Result<(), AllocError>
-    ensures { OnOk result (text.new.items ≡ text.old.items ++ decimal n) }
-{
-    let mut digits = Buffer::new();
-    push_ascii(text, digits.format(n).as_bytes())?;
-    Ok(())
-}
-
 /// Adds digits, with or without a high minus before them.
 fn push_signed(text: &mut Vec<Ch>, negative: bool, n: u64) -> Result<(), AllocError>
     ensures { OnOk result (text.new.items ≡ text.old.items ++ signed negative (decimal n)) }
 {
     if negative {
         text.push(Ch::member('¯'))?;
-        push_digits(text, n)?;
+        push_number(text, n)?;
         return Ok(());
     }
-    push_digits(text, n)?;
+    push_number(text, n)?;
     Ok(())
 }
 
-fn push_number(text: &mut Vec<Ch>, after_name: bool, n: i64) -> Result<(), AllocError>
+fn push_integer(text: &mut Vec<Ch>, after_name: bool, n: i64) -> Result<(), AllocError>
     ensures { OnOk result (text.new.items ≡ text.old.items ++ number_word after_name n) }
 {
     if n < 0 {
@@ -59,7 +50,7 @@ fn push_more(text: &mut Vec<Ch>, ns: &[i64]) -> Result<(), AllocError>
 {
     for n in ns {
         text.push(Ch::ascii(b' '))?;
-        push_number(text, false, *n)?;
+        push_integer(text, false, *n)?;
     }
     Ok(())
 }
@@ -70,7 +61,7 @@ fn push_numbers(text: &mut Vec<Ch>, after_name: bool, ns: &[i64]) -> Result<(), 
     let [first, more @ ..] = ns else {
         return Ok(());
     };
-    push_number(text, after_name, *first)?;
+    push_integer(text, after_name, *first)?;
     push_more(text, more)?;
     Ok(())
 }

@@ -15,14 +15,14 @@ returns-then-not-is_instr-clause-none c i h e =
     let t : c.in-Some.instr ≡ i = cc in
     c.if-not-is_instr.ensures (subst IsInstr (sym t) h)
 
-pub returns-then-same-clause-found : goal.returns-then-same-clause-found
-returns-then-same-clause-found c =
+pub returns-then-eq-clause-found : goal.returns-then-eq-clause-found
+returns-then-eq-clause-found c =
     let w : c.as_slice.result.now ≡ body c.args.number c.in-Some.instr = c.as_slice.ensures.value ∙ c.in_ok-push_body.ensures ∙ ap (λ o. o ++ body c.args.number c.in-Some.instr) c.new-printed.ensures.items in
-    (c.if-not-is_instr.ensures, sym (same_text c.as_slice.result.now c.args.text.now (sym c.if-same.true ∙ c.same.ensures)) ∙ w)
+    (c.if-not-is_instr.ensures, sym (same_text c.as_slice.result.now c.args.text.now (sym c.if-eq.true ∙ c.eq.ensures)) ∙ w)
 
-pub returns-else-same-clause-none : goal.returns-else-same-clause-none
-returns-else-same-clause-none c i h e =
+pub returns-else-eq-clause-none : goal.returns-else-eq-clause-none
+returns-else-eq-clause-none c i h e =
     let s : Some c.in-Some.instr ≡ Some i = sym c.in-Some.is ∙ is_read c.args.number c.args.text.now c.split.result.1.now c.in_ok-instr.field-0 c.ranges.number.fits c.split.ensures.after c.in_ok-instr.ensures i h e in
     let t : c.in-Some.instr ≡ i = cc in
     let w : c.as_slice.result.now ≡ body c.args.number c.in-Some.instr = c.as_slice.ensures.value ∙ c.in_ok-push_body.ensures ∙ ap (λ o. o ++ body c.args.number c.in-Some.instr) c.new-printed.ensures.items in
-    other_text c.as_slice.result.now c.args.text.now (sym c.if-same.false ∙ c.same.ensures) (w ∙ ap (body c.args.number) t ∙ sym e)
+    other_text c.as_slice.result.now c.args.text.now (sym c.if-eq.false ∙ c.eq.ensures) (w ∙ ap (body c.args.number) t ∙ sym e)

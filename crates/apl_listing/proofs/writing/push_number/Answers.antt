@@ -1,5 +1,0 @@
-use Rattle.apl_listing.proofs.Digits.{decimal_prints}
-use Rattle.apl_listing.proofs.writing.push_number.Goals as goal
-
-pub push_ascii-requires : goal.push_ascii-requires
-push_ascii-requires c = rw (c.as_bytes.ensures.value, c.format.ensures.text) (decimal_prints c.args.n c.ranges.n.fits)
