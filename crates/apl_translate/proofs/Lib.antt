@@ -9,3 +9,4 @@ mod Keeps
 pub mod Made
 pub mod Spelt
 mod Table
+pub mod OneCode
