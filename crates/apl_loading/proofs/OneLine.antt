@@ -12,6 +12,7 @@ use Rattle.apl_tokens.specs.declared.token.Token.{Token}
 use Rattle.apl_tokens.specs.declared.token.Kind.{Kind}
 use Rattle.apl_tokens.specs.declared.token.Kind.TheVariants as kinds
 use Rattle.apl_tokens.specs.declared.line.TokenError.{TokenError}
+use Rattle.apl_tokens.specs.Kinds.{is_name}
 use Rattle.apl_tokens.specs.Tokens.{tokens_of}
 use Rattle.apl_defn.specs.Definitions.{Text}
 use Rattle.apl_defn.specs.Defining.{label_in}
@@ -19,7 +20,7 @@ use Rattle.apl_code.specs.declared.instr.Instr.{Instr}
 use Rattle.apl_listing.specs.declared.stack.Kind.{Kind as Stacked}
 use Rattle.apl_listing.specs.declared.stack.Kind.TheVariants as stacked
 use Rattle.apl_machine_state.specs.declared.operand.Operand.{Operand}
-use Rattle.apl_translate.specs.Binding.{bound_of, is_name, name_in, names_of, without_label}
+use Rattle.apl_translate.specs.Binding.{bound_of, name_in, names_of, without_label}
 use Rattle.apl_translate.specs.Translation.{Translates}
 use Rattle.apl_translate.proofs.OneCode.{one_code}
 use Rattle.apl_parts.specs.Pieces.{Waiting}
