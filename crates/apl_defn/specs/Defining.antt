@@ -1,9 +1,7 @@
 -- The function that lines define, or why they define none.
-use Rattle.std.specs.Prelude.{◌≡◌, ◌≤◌, ℕ, suc, Bool, true, false, List, [], ◌∷◌, ◌++◌, map, length, Option, Some, None, Result, Ok, Err, nat_lt, if◌then◌else◌}
-use Rattle.apl_symbols.specs.declared.symbol.Symbol.TheVariants.{Colon}
-use Rattle.apl_tokens.specs.declared.token.Kind.{Kind}
-use Rattle.apl_tokens.specs.declared.token.Kind.TheVariants.{Symbol}
+use Rattle.std.specs.Prelude.{◌≡◌, ◌≤◌, ℕ, suc, List, [], ◌∷◌, ◌++◌, map, length, Option, Some, None, Result, Ok, Err, nat_lt, if◌then◌else◌}
 use Rattle.apl_tokens.specs.declared.token.Token.{Token}
+use Rattle.apl_tokens.specs.Kinds.{is_colon}
 use Rattle.apl_tokens.specs.Tokens.{tokens_of, Answer}
 use Rattle.apl_defn.specs.declared.error.DefnError.{DefnError}
 use Rattle.apl_defn.specs.declared.error.DefnError.TheVariants as error
@@ -20,10 +18,6 @@ fault_or (Err e) n later = Some n
 abbrev pub first_fault : ℕ → List Text → Option ℕ
 first_fault n [] = None
 first_fault n (line ∷ lines) = fault_or (tokens_of line) n (first_fault (suc n) lines)
-
-abbrev pub is_colon : Kind → Bool
-is_colon (Symbol Colon) = true
-is_colon kind = false
 
 -- the error is that of the first line with a fault, unless memory ran out
 abbrev pub FaultIs : DefnError → Option ℕ → Type 0

@@ -3,7 +3,7 @@ ghost use Rattle.std.specs.Prelude.{◌≡◌, ◌∷◌, ◌++◌, map, None, I
 ghost use Rattle.apl_tokens.specs.Tokens.{tokens_of};
 ghost use Rattle.apl_defn.specs.Headers.{names_of};
 ghost use Rattle.apl_defn.specs.Reading.{Answers};
-ghost use Rattle.apl_defn.specs.Defining.{is_colon, label_in, label_among, labelled, labels_from, first_fault, FaultIs, made, once_each, IsWhole, defined_of};
+ghost use Rattle.apl_defn.specs.Defining.{label_in, label_among, labelled, labels_from, first_fault, FaultIs, made, once_each, IsWhole, defined_of};
 
 use crate::definition::Definition;
 use crate::error::DefnError;
@@ -11,27 +11,21 @@ use crate::line::Line;
 use crate::parts::Header;
 use crate::reading::{are_distinct, head_of, name_in, names_of};
 use apl_charset::Text;
-use apl_symbols::{Name, Symbol};
-use apl_tokens::{Kind, Token};
+use apl_symbols::Name;
+use apl_tokens::Token;
 use std::alloc::{AllocError, Global};
 
 /// The most lines that a function has.
 const MOST_LINES: usize = 999;
 
-fn is_colon(kind: &Kind) -> bool
-    ensures { result ≡ is_colon kind.now }
-{
-    matches!(kind, Kind::Symbol(Symbol::Colon))
-}
-
-/// The label of tokens.
-fn label_in(tokens: &[Token]) -> Option<Name>
+/// The label of tokens: the name in front, where a colon stands behind it.
+pub fn label_in(tokens: &[Token]) -> Option<Name>
     ensures { result ≡ label_in tokens.now }
 {
     let [first, second, ..] = tokens else {
         return None;
     };
-    if !is_colon(&second.kind) {
+    if !second.kind.is_colon() {
         return None;
     }
     name_in(&first.kind)

@@ -13,7 +13,7 @@ mod parts;
 mod reading;
 
 pub use blanks::trimmed;
-pub use defining::define;
+pub use defining::{define, label_in};
 pub use definition::Definition;
 pub use error::DefnError;
 pub use laws::{definitions, headers};

@@ -1,5 +1,5 @@
 -- The code of a line by computation.
-use Rattle.std.proofs.Common.{◌≡◌, ℕ, zero, suc, ◌&&◌, ◌==◌, Bool, true, false, List, [], ◌∷◌, ◌++◌, length, take, drop, Option, Some, None, Ok, Err, bytes_eq, refl, sym, ◌∙◌, subst}
+use Rattle.std.proofs.Common.{◌≡◌, ℕ, zero, suc, ◌&&◌, ◌==◌, Bool, true, false, List, [], ◌∷◌, ◌++◌, length, take, drop, Option, Some, None, Ok, Err, bytes_eq, refl, sym, subst}
 use Rattle.std.specs.List.{list_all}
 use Rattle.std.specs.Cmp.{first_so, second_so}
 use Rattle.std.proofs.lemmas.Bool.{eqb-true}
@@ -14,6 +14,7 @@ use Rattle.apl_translate.specs.declared.form.Placed.{Placed}
 use Rattle.apl_translate.specs.Binding.{bound_of, names_of}
 use Rattle.apl_translate.specs.Phrase.{assigns, phrase}
 use Rattle.apl_translate.specs.Translation.{Follows, Translates, instruction, kinds, last_instruction, reduced}
+use Rattle.apl_translate.proofs.OneCode.{one_code}
 use Rattle.apl_line_laws.specs.Codes.{HasListing, HaveListings, IsCodeOf, Worked, in_bytes}
 
 -- ---- at most so many instructions
@@ -46,24 +47,6 @@ then_follows n assigned ps (Some p) later e h =
 translates : (n : ℕ) (assigned : Bool) (ps : List Placed) → ends_within n ps ≡ true → Translates (code_within n assigned ps) assigned ps
 translates zero assigned ps h = absurd (cc)
 translates (suc n) assigned ps h = then_follows n assigned ps (phrase None (kinds ps)) (λ b qs g. translates n b qs g) refl h
-
--- ---- items have one code
-
-one_next : (is js : List Instr) (i j : Instr) (a : Bool) (ps : List Placed) (o : Option (ℕ × Row)) → ((b : Bool) (qs : List Placed) → Translates is b qs → Translates js b qs → is ≡ js)
-    → Follows a ps i is (Translates is) o → Follows a ps j js (Translates js) o → i ∷ is ≡ j ∷ js
-one_next is js i j a ps None same x y =
-    let first : i ≡ j = x.0 ∙ sym y.0 in
-    let rest : is ≡ js = x.1 ∙ sym y.1 in
-    λ k. first k ∷ rest k
-one_next is js i j a ps (Some p) same x y =
-    let first : i ≡ j = x.0 ∙ sym y.0 in
-    let rest : is ≡ js = same (assigns p.1) (take p.0 ps ++ reduced p.1 (drop p.0 ps)) x.1 y.1 in
-    λ k. first k ∷ rest k
-
-one_code : (is js : List Instr) (a : Bool) (ps : List Placed) → Translates is a ps → Translates js a ps → is ≡ js
-one_code [] js a ps x y = absurd x
-one_code (i ∷ is) [] a ps x y = absurd y
-one_code (i ∷ is) (j ∷ js) a ps x y = one_next is js i j a ps (phrase None (kinds ps)) (λ b qs u v. one_code is js b qs u v) x y
 
 -- ---- worked lines
 

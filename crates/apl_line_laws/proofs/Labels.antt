@@ -7,9 +7,10 @@ use Rattle.apl_symbols.specs.declared.symbol.Symbol.TheVariants.{Colon}
 use Rattle.apl_tokens.specs.declared.token.Kind.{Kind}
 use Rattle.apl_tokens.specs.declared.token.Kind.TheVariants.{Name, Symbol}
 use Rattle.apl_tokens.specs.declared.token.Token.{Token}
+use Rattle.apl_tokens.specs.Kinds.{is_colon}
 use Rattle.apl_tokens.specs.Tokens.{Answer, tokens_of}
 use Rattle.apl_defn.specs.Definitions.{Text, Definition, line_at}
-use Rattle.apl_defn.specs.Defining.{is_colon, label_among, label_in, labelled, labels_from}
+use Rattle.apl_defn.specs.Defining.{label_among, label_in, labelled, labels_from}
 use Rattle.apl_defn.specs.Reading.{name_in}
 use Rattle.apl_defn.proofs.Limits.{defined_made}
 use Rattle.apl_array_laws.proofs.Pairs.{PairsHold, all_append, among_cases, first_among, from_pairs, none_among, one_list, pairs_append, to_pairs}

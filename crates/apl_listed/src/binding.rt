@@ -2,41 +2,15 @@
 ghost use Rattle.std.specs.Prelude.{◌≡◌, ℕ, List, Ok, map, IfOk};
 ghost use Rattle.std.specs.List.{flat_map};
 ghost use Rattle.apl_tokens.specs.Tokens.{tokens_of};
-ghost use Rattle.apl_translate.specs.Binding.{is_colon, is_name, name_in, without_label};
+ghost use Rattle.apl_translate.specs.Binding.{name_in};
 ghost use Rattle.apl_machine_state.specs.Environment.{class_of};
 ghost use Rattle.apl_listed.specs.Listings.{bound_now};
 
 use apl_machine::Machine;
-use apl_symbols::{Class, Symbol};
+use apl_symbols::Class;
 use apl_tokens::{Kind, Token};
-use apl_translate::{Bound, bind};
+use apl_translate::{Bound, bind, without_label};
 use std::alloc::{AllocError, Global};
-
-fn is_name(kind: &Kind) -> bool
-    ensures { result ≡ is_name kind.now }
-{
-    matches!(kind, Kind::Name(_))
-}
-
-fn is_colon(kind: &Kind) -> bool
-    ensures { result ≡ is_colon kind.now }
-{
-    matches!(kind, Kind::Symbol(Symbol::Colon))
-}
-
-/// The tokens behind the label.
-fn without_label(tokens: &[Token]) -> &[Token]
-    ensures { result.now ≡ without_label tokens.now }
-{
-    let [first, second, rest @ ..] = tokens else {
-        return tokens;
-    };
-    if is_name(&first.kind) && is_colon(&second.kind) {
-        rest
-    } else {
-        tokens
-    }
-}
 
 /// The classes that the names among these tokens have now.
 fn classes_of(alloc: Global, machine: &Machine, tokens: &[Token]) -> Result<Vec<Class>, AllocError>

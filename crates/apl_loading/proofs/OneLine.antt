@@ -12,6 +12,7 @@ use Rattle.apl_tokens.specs.declared.token.Token.{Token}
 use Rattle.apl_tokens.specs.declared.token.Kind.{Kind}
 use Rattle.apl_tokens.specs.declared.token.Kind.TheVariants as kinds
 use Rattle.apl_tokens.specs.declared.line.TokenError.{TokenError}
+use Rattle.apl_tokens.specs.Kinds.{is_name}
 use Rattle.apl_tokens.specs.Tokens.{tokens_of}
 use Rattle.apl_defn.specs.Definitions.{Text}
 use Rattle.apl_defn.specs.Defining.{label_in}
@@ -19,8 +20,9 @@ use Rattle.apl_code.specs.declared.instr.Instr.{Instr}
 use Rattle.apl_listing.specs.declared.stack.Kind.{Kind as Stacked}
 use Rattle.apl_listing.specs.declared.stack.Kind.TheVariants as stacked
 use Rattle.apl_machine_state.specs.declared.operand.Operand.{Operand}
-use Rattle.apl_translate.specs.Binding.{bound_of, is_name, name_in, names_of, without_label}
+use Rattle.apl_translate.specs.Binding.{bound_of, name_in, names_of, without_label}
 use Rattle.apl_translate.specs.Translation.{Translates}
+use Rattle.apl_translate.proofs.OneCode.{one_code}
 use Rattle.apl_parts.specs.Pieces.{Waiting}
 use Rattle.apl_workspace_file.specs.declared.fields.RestField.{RestField}
 use Rattle.apl_workspace_file.specs.declared.fields.StatementField.{StatementField}
@@ -28,7 +30,6 @@ use Rattle.apl_saved.specs.Spelled.{Pairwise, letter_of, letters_of}
 use Rattle.apl_saved.specs.Rules.{IsPendentLine, kind_of}
 use Rattle.apl_loading.specs.Made.{AreClasses, HasStack, IsRestBy, IsStatementBy, IsStatementLine, IsWaitingBy, is_named}
 use Rattle.apl_loading.proofs.Lists.{one_list}
-use Rattle.apl_saved.proofs.StackKinds.{one_code}
 
 -- ---- names of a line
 

@@ -9,6 +9,7 @@ use Rattle.apl_listing.specs.Listing.{listed}
 use Rattle.apl_machine_state.specs.declared.operand.Operand.{Operand}
 use Rattle.apl_translate.specs.Binding.{bound_of}
 use Rattle.apl_translate.specs.Translation.{Translates}
+use Rattle.apl_translate.proofs.OneCode.{one_code}
 use Rattle.apl_parts.specs.declared.parts.ContextPart.{ContextPart}
 use Rattle.apl_parts.specs.declared.parts.ContextPart.TheVariants as parts
 use Rattle.apl_parts.specs.Pieces.{Waiting}
@@ -24,7 +25,6 @@ use Rattle.apl_loading.specs.Refusals.{AreSmall, AreValues, Below, HasDefinition
 use Rattle.apl_loading.specs.Made.{Fits, IsAwaited, IsBelow, IsBuilt, IsListed, IsListedRest, IsMadeIn, IsMadeOf, MayStand, RefusesPart}
 use Rattle.apl_loading.proofs.OneContext.{same_context}
 use Rattle.apl_loading.proofs.OneLine.{same_tokens}
-use Rattle.apl_saved.proofs.StackKinds.{one_code}
 
 -- ---- what awaits, and what stands above
 

@@ -15,6 +15,7 @@ use Rattle.apl_tokens.specs.declared.token.Token.{Token}
 use Rattle.apl_translate.specs.Binding.{bound_of, without_label, nothing_left}
 use Rattle.apl_translate.specs.Forms.{IsFresh}
 use Rattle.apl_translate.proofs.Bindings.{items_fresh}
+use Rattle.apl_translate.proofs.OneCode.{one_code}
 use Rattle.apl_order.specs.Kept.{Ascend, AreAtMost}
 use Rattle.apl_contexts.specs.Contexts.{Newest, Beneath, Idle}
 use Rattle.apl_parts.specs.declared.parts.ContextPart.{ContextPart}
@@ -28,7 +29,7 @@ use Rattle.apl_saved.specs.Rules.{AreContexts, AreRuled, Calls, Ends, Follows, I
 use Rattle.apl_loading.proofs.Lists.{append_nil}
 use Rattle.apl_loading.proofs.OneContext.{all_by, by_all}
 use Rattle.apl_loading.proofs.OneDefinition.{laws}
-use Rattle.apl_saved.proofs.StackKinds.{one_code, pendent_kinds}
+use Rattle.apl_saved.proofs.StackKinds.{pendent_kinds}
 
 -- ---- lines that await an answer
 

@@ -5,6 +5,7 @@ use Rattle.std.specs.declared.cmp.Ordering.TheVariants.{Less}
 use Rattle.apl_arrays.specs.Cells.{Arr}
 use Rattle.apl_charset.specs.Text.{IsLine}
 use Rattle.apl_tokens.specs.declared.token.Token.{Token}
+use Rattle.apl_tokens.specs.Kinds.{is_name}
 use Rattle.apl_tokens.specs.Spelling.{IsName}
 use Rattle.apl_tokens.specs.Tokens.{tokens_of}
 use Rattle.apl_defn.specs.Definitions.{Text, Definition, Header, is_line, line_of}
@@ -17,7 +18,7 @@ use Rattle.apl_listing.specs.Listing.{listed}
 use Rattle.apl_listing.specs.declared.stack.Kind.TheVariants as kind
 use Rattle.apl_machine_state.specs.declared.operand.Operand.{Operand}
 use Rattle.apl_symbols.specs.declared.class.Class.{Class}
-use Rattle.apl_translate.specs.Binding.{is_name, names_of}
+use Rattle.apl_translate.specs.Binding.{names_of}
 use Rattle.apl_parts.specs.declared.parts.ContextPart.{ContextPart}
 use Rattle.apl_order.specs.Kept.{names_in}
 use Rattle.apl_parts.specs.Pieces.{Waiting, Standing}

@@ -1,10 +1,9 @@
 //! Lines, their tokens and their classes.
-ghost use Rattle.std.specs.Prelude.{◌≡◌, ◌≢◌, List, false, length, count_by, IfOk, IfErr, Ok, is_some};
-ghost use Rattle.apl_defn.specs.Defining.{label_in};
+ghost use Rattle.std.specs.Prelude.{◌≡◌, ◌≢◌, List, false, length, count_by, IfOk, IfErr, Ok};
 ghost use Rattle.apl_defn.specs.Definitions.{Text as Line};
 ghost use Rattle.apl_tokens.specs.declared.token.Token.{Token as AToken};
 ghost use Rattle.apl_tokens.specs.Tokens.{tokens_of};
-ghost use Rattle.apl_translate.specs.Binding.{bound_of, is_colon, is_name, names_of, without_label};
+ghost use Rattle.apl_translate.specs.Binding.{bound_of, names_of};
 ghost use Rattle.apl_translate.specs.Translation.{Translates};
 ghost use Rattle.apl_saved.specs.Spelled.{letter_of, letters_of};
 ghost use Rattle.apl_loading.specs.Made.{AreClasses, AreOfText, IsStatementLine, is_named};
@@ -16,9 +15,10 @@ use crate::field::{Field, read_all};
 use crate::texts::read_text;
 use apl_charset::{Ch, Text};
 use apl_code::Code;
-use apl_symbols::{Class, Symbol};
+use apl_defn::label_in;
+use apl_symbols::Class;
 use apl_tokens::{Kind, Token, TokenError, tokens};
-use apl_translate::{Cache, bind};
+use apl_translate::{Cache, bind, without_label};
 use apl_workspace_file::TextField;
 use std::alloc::{AllocError, Global};
 use std::rc::Rc;
@@ -64,38 +64,6 @@ fn read_tokens(alloc: Global, text: &[Ch]) -> Result<Vec<Token>, LoadFault>
         Ok(tokens) => Ok(tokens),
         Err(TokenError::Memory) => Err(LoadFault::Memory),
         Err(_) => Err(LoadFault::Context),
-    }
-}
-
-fn is_name(kind: &Kind) -> bool
-    ensures { result ≡ is_name kind.now }
-{
-    matches!(kind, Kind::Name(_))
-}
-
-fn is_colon(kind: &Kind) -> bool
-    ensures { result ≡ is_colon kind.now }
-{
-    matches!(kind, Kind::Symbol(Symbol::Colon))
-}
-
-/// The tokens behind a label, if they begin with one.
-fn without_label(tokens: &[Token]) -> &[Token]
-    ensures { result.now ≡ without_label tokens.now }
-{
-    match tokens {
-        [name, colon, rest @ ..] if is_name(&name.kind) && is_colon(&colon.kind) => rest,
-        _ => tokens,
-    }
-}
-
-/// Whether tokens begin with a label.
-fn has_label(tokens: &[Token]) -> bool
-    ensures { result ≡ is_some (label_in tokens.now) }
-{
-    match tokens {
-        [name, colon, ..] => is_name(&name.kind) && is_colon(&colon.kind),
-        _ => false,
     }
 }
 
@@ -166,7 +134,7 @@ pub(crate) fn read_statement_line(
 {
     let text = read_text(alloc, field, LoadFault::Context)?;
     let tokens = read_tokens(alloc, text.as_slice())?;
-    if has_label(tokens.as_slice()) {
+    if label_in(tokens.as_slice()).is_some() {
         return Err(LoadFault::Context);
     }
     Ok(StatementLine { text, tokens })

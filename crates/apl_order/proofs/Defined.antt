@@ -9,13 +9,14 @@ use Rattle.apl_tokens.specs.declared.token.Kind.{Kind}
 use Rattle.apl_tokens.specs.declared.token.Kind.TheVariants.{Name}
 use Rattle.apl_tokens.specs.declared.token.Token.{Token}
 use Rattle.apl_tokens.specs.Characters.{class_of}
+use Rattle.apl_tokens.specs.Kinds.{is_colon}
 use Rattle.apl_tokens.specs.Spelling.{IsName, class_at}
 use Rattle.apl_tokens.specs.Tokens.{Answer, tokens_of}
 use Rattle.apl_tokens.proofs.Answered.{answer_spells, spelled_answer}
 use Rattle.apl_defn.specs.Definitions.{Text, Definition}
 use Rattle.apl_defn.specs.Headers.{Heads, kinds}
 use Rattle.apl_defn.specs.Reading.{name_in}
-use Rattle.apl_defn.specs.Defining.{IsDefined, is_colon, label_among, label_in, labelled, labels_from}
+use Rattle.apl_defn.specs.Defining.{IsDefined, label_among, label_in, labelled, labels_from}
 use Rattle.apl_defn.proofs.Heads.{IsNamed, AreNamed, quad_class}
 use Rattle.apl_defn.proofs.Named.{tokens_named}
 use Rattle.apl_defn.proofs.Limits.{defined_made}

@@ -16,6 +16,7 @@ use Rattle.apl_tokens.specs.declared.token.Kind.{Kind}
 use Rattle.apl_tokens.specs.declared.token.Kind.TheVariants as kinds
 use Rattle.apl_tokens.specs.declared.token.Token.{Token}
 use Rattle.apl_tokens.specs.Brackets.{unmatched}
+use Rattle.apl_tokens.specs.Kinds.{is_colon, is_name}
 use Rattle.apl_tokens.specs.Tokens.{Answer, pieces_of, tokens_of}
 use Rattle.apl_code.specs.declared.row.Row.{Row}
 use Rattle.apl_translate.specs.declared.form.Word.TheVariants as words
@@ -23,7 +24,7 @@ use Rattle.apl_translate.specs.declared.form.Form.{Form}
 use Rattle.apl_translate.specs.declared.form.Form.TheVariants as forms
 use Rattle.apl_translate.specs.declared.form.Placed.{Placed}
 use Rattle.apl_translate.specs.Phrase.{width}
-use Rattle.apl_translate.specs.Binding.{Left, nothing_left, is_name, is_colon, without_label, class_at, name_word, system_word, primitive_word, closing, symbol_word, form_of, neighbour_of, with_item, placed, items_from, bound_of, names_of}
+use Rattle.apl_translate.specs.Binding.{Left, nothing_left, without_label, class_at, name_word, system_word, primitive_word, closing, symbol_word, form_of, neighbour_of, with_item, placed, items_from, bound_of, names_of}
 use Rattle.apl_translate.specs.Lines.{Line}
 use Rattle.apl_defn.specs.Definitions.{Text, Definition, line_of}
 use Rattle.apl_machine_state.specs.Items.{Content, Awaited, Item, filled, filled_by, replaced, content_of, item_of, fresh}

@@ -19,6 +19,7 @@ use Rattle.apl_defn.proofs.Limits.{few_lines}
 use Rattle.apl_translate.specs.Binding.{bound_of}
 use Rattle.apl_translate.specs.Forms.{forms_after}
 use Rattle.apl_translate.specs.Translation.{Translates}
+use Rattle.apl_translate.proofs.OneCode.{one_code}
 use Rattle.apl_names.specs.declared.binding.Binding.TheVariants.{Value, Function}
 use Rattle.apl_names.specs.Maps.{map_of, said}
 use Rattle.apl_names.proofs.Texts.{same}
@@ -44,7 +45,7 @@ use Rattle.apl_saved.specs.Rules.{AreContexts, AreRuled, Awaits, Calls, Ends, Fo
 use Rattle.apl_savable.specs.Savable.{AreSavable, HasCalled, HasCalledIn, IsCalledBy, IsNamed, IsOriginBy, IsSavableContext, IsUnderWay, IsUnderWayIn}
 use Rattle.apl_savable.specs.Promises.{LoadedIsSavable}
 use Rattle.apl_savable.proofs.Fits.{code-few, line-fits}
-use Rattle.apl_saved.proofs.StackKinds.{one_code, pendent_kinds}
+use Rattle.apl_saved.proofs.StackKinds.{pendent_kinds}
 
 -- ---- lines
 

@@ -13,6 +13,7 @@ use Rattle.apl_tokens.specs.declared.token.Kind.{Kind}
 use Rattle.apl_tokens.specs.declared.token.Kind.TheVariants as tokens
 use Rattle.apl_tokens.specs.declared.token.Token.{Token}
 use Rattle.apl_tokens.specs.declared.line.TokenError.{TokenError}
+use Rattle.apl_tokens.specs.Kinds.{is_colon}
 use Rattle.apl_tokens.specs.Spelling.{IsName}
 use Rattle.apl_tokens.specs.Tokens.{tokens_of}
 use Rattle.apl_code.specs.Instr.{IsAction, IsVariable}
@@ -25,7 +26,7 @@ use Rattle.apl_code.specs.declared.row.Function.TheVariants as functions
 use Rattle.apl_code.specs.declared.row.Variable.{Variable}
 use Rattle.apl_code.specs.declared.row.Variable.TheVariants.{Name, System}
 use Rattle.apl_defn.specs.Definitions.{Text, Definition}
-use Rattle.apl_defn.specs.Defining.{IsDefined, is_colon, label_in}
+use Rattle.apl_defn.specs.Defining.{IsDefined, label_in}
 use Rattle.apl_defn.specs.Reading.{name_in}
 use Rattle.apl_listing.specs.Kinds.{is_empty}
 use Rattle.apl_translate.specs.declared.form.Form.TheVariants as forms

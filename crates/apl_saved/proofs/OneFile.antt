@@ -9,6 +9,7 @@ use Rattle.apl_arrays.specs.Cells as cells
 use Rattle.apl_listing.specs.Listing.{listed}
 use Rattle.apl_translate.specs.Binding.{bound_of}
 use Rattle.apl_translate.specs.Translation.{Translates}
+use Rattle.apl_translate.proofs.OneCode.{one_code}
 use Rattle.apl_defn.specs.Definitions.{Text, line_of}
 use Rattle.apl_machine_state.specs.declared.operand.Operand.{Operand}
 use Rattle.apl_machine_state.specs.declared.operand.Operand.TheVariants as operands
@@ -32,7 +33,6 @@ use Rattle.apl_workspace_file.specs.declared.fields.RestField.{RestField}
 use Rattle.apl_workspace_file.specs.declared.fields.OperandField.{OperandField}
 use Rattle.apl_workspace_file.specs.declared.fields.OperandField.TheVariants as stacked
 use Rattle.apl_saved.specs.Spelled.{AreElements, BothOrNeither, IsArrayOf, IsCallOf, IsContextOf, IsFileOf, IsFunctionOf, IsListingOf, IsLocalOf, IsOperandOf, IsRestOf, IsStatementOf, IsVariableOf, Pairwise}
-use Rattle.apl_saved.proofs.StackKinds.{one_code}
 use Rattle.apl_saved.proofs.Pairs.{both_same, both_turned, pairs_same, pairs_turned, turned}
 
 -- two lists of fields of the same items are one, and two fields that may be missing

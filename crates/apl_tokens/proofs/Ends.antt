@@ -6,7 +6,7 @@ use Rattle.apl_tokens.specs.declared.token.Kind.{Kind}
 use Rattle.apl_tokens.specs.declared.token.Kind.TheVariants as kind
 use Rattle.apl_tokens.specs.Characters.{class_of, is_letter, is_in_name, is_quote, ends_number}
 use Rattle.apl_tokens.specs.Spelling.{class_at, is_quad, Ends}
-use Rattle.apl_tokens.specs.Plain.{is_name}
+use Rattle.apl_tokens.specs.Plain.{is_any_name}
 use Rattle.apl_tokens.proofs.Classes.{no_class}
 use Rattle.apl_tokens.proofs.Words.{BeginsNumber}
 
@@ -62,7 +62,7 @@ no_letter c (inl e) = rw e refl
 no_letter c (inr e) = rw e refl
 
 -- a number for a number, with its minus behind a name
-pub ends_number_too : (k : Kind) (text other : List ℕ) → BeginsNumber (class_at text) → BeginsNumber (class_at other) → (is_name k ≡ true → class_at other ≡ class.Minus) → 0 < length text → Ends k text → Ends k other
+pub ends_number_too : (k : Kind) (text other : List ℕ) → BeginsNumber (class_at text) → BeginsNumber (class_at other) → (is_any_name k ≡ true → class_at other ≡ class.Minus) → 0 < length text → Ends k text → Ends k other
 ends_number_too (kind.Constant ns) text other first new minus some h = absurd (ends_constant text h first)
 ends_number_too (kind.Text quoted) text other first new minus some h = no_quote (class_at other) new
 ends_number_too (kind.Name name) text other first new minus some h = rw (minus refl) refl

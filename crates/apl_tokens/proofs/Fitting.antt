@@ -15,7 +15,7 @@ use Rattle.apl_tokens.specs.Spelling.{class_at, all_blank, IsSpelled, Ends, next
 use Rattle.apl_tokens.specs.Joined.{joined}
 use Rattle.apl_tokens.specs.Brackets.{unmatched}
 use Rattle.apl_tokens.specs.Lines.{Spells}
-use Rattle.apl_tokens.specs.Plain.{plain_word, is_name, plain}
+use Rattle.apl_tokens.specs.Plain.{plain_word, is_any_name, plain}
 use Rattle.apl_tokens.proofs.Classes.{and_left, and_right, minus_class}
 use Rattle.apl_tokens.proofs.Columns.{word_some}
 use Rattle.apl_tokens.proofs.Pairs.{joined_pairs}
@@ -70,7 +70,7 @@ gap_fits : (number : Bool) (written : ℕ) (k : Kind) (at gap : ℕ) → written
 gap_fits true written (kind.Constant ns) at gap lt joins = record { before = omega (arith, joins); at_is = omega arith; none = λ e. omega (arith, e) }
 gap_fits _ written _ at gap lt joins = record { before = omega arith; at_is = omega arith; none = λ e. omega (arith, e) }
 
-behind_name : (k : Kind) (text : List ℕ) → is_name k ≡ true → Ends k text → is_in_name (class_at text) ≡ false
+behind_name : (k : Kind) (text : List ℕ) → is_any_name k ≡ true → Ends k text → is_in_name (class_at text) ≡ false
 behind_name (kind.Name name) text named h = h
 behind_name (kind.System name) text named h = h
 behind_name _ text named h = absurd cc
@@ -92,10 +92,10 @@ same_word : (k : Kind) (word plain rest later : List ℕ) → word ≡ plain →
 same_word k word plain rest later e some h =
     rw (← e) (ends_same k (word ++ rest) (word ++ later) (first_same word rest later some) (omega (arith, length-append word rest)) h)
 
-ends_plain : (k l : Kind) (word rest later : List ℕ) → IsSpelled l word → Ends k (word ++ rest) → IsSpelled l (plain_word (is_name k) l) → Ends k (plain_word (is_name k) l ++ later)
+ends_plain : (k l : Kind) (word rest later : List ℕ) → IsSpelled l word → Ends k (word ++ rest) → IsSpelled l (plain_word (is_any_name k) l) → Ends k (plain_word (is_any_name k) l ++ later)
 ends_plain k (kind.Constant []) word rest later h e plain = absurd h
 ends_plain k (kind.Constant (n ∷ [])) word rest later h e plain =
-    ends_number_too k (word ++ rest) (plain_word (is_name k) (kind.Constant (n ∷ [])) ++ later) (number_first n word rest h) (number_first n (plain_word (is_name k) (kind.Constant (n ∷ []))) later plain) (minus_behind (is_name k) n later)
+    ends_number_too k (word ++ rest) (plain_word (is_any_name k) (kind.Constant (n ∷ [])) ++ later) (number_first n word rest h) (number_first n (plain_word (is_any_name k) (kind.Constant (n ∷ []))) later plain) (minus_behind (is_any_name k) n later)
     (omega (arith, length-append word rest, word_some (kind.Constant (n ∷ [])) word h)) e
 ends_plain k (kind.Constant (n ∷ m ∷ ns)) word rest later h e plain = absurd h
 ends_plain k (kind.Text text) word rest later h e plain = same_word k word _ rest later h (word_some (kind.Text text) word h) e
@@ -108,13 +108,13 @@ and_true : (b : Bool) → (b && true) ≡ b
 and_true true = refl
 and_true false = refl
 
-ends_behind : (k l : Kind) (g : ℕ) (gap word rest later : List ℕ) → IsSpelled l word → Ends k (gap ++ (word ++ rest)) → (g ≡ 0 → length gap ≡ 0) → IsSpelled l (plain_word (is_name k && (g == 0)) l)
-    → Ends k (replicate g 32 ++ (plain_word (is_name k && (g == 0)) l ++ later))
+ends_behind : (k l : Kind) (g : ℕ) (gap word rest later : List ℕ) → IsSpelled l word → Ends k (gap ++ (word ++ rest)) → (g ≡ 0 → length gap ≡ 0) → IsSpelled l (plain_word (is_any_name k && (g == 0)) l)
+    → Ends k (replicate g 32 ++ (plain_word (is_any_name k && (g == 0)) l ++ later))
 ends_behind k l zero gap word rest later h e none plain =
-    let same = and_true (is_name k) in
+    let same = and_true (is_any_name k) in
     rw same (ends_plain k l word rest later h (no_gap k gap (word ++ rest) (none refl) e) (rw same at plain))
 ends_behind k l (suc g) gap word rest later h e none plain =
-    ends_blank k (gap ++ (word ++ rest)) (replicate g 32 ++ (plain_word (is_name k && (suc g == 0)) l ++ later)) (omega (arith, length-append gap (word ++ rest), length-append word rest, word_some l word h)) e
+    ends_blank k (gap ++ (word ++ rest)) (replicate g 32 ++ (plain_word (is_any_name k && (suc g == 0)) l ++ later)) (omega (arith, length-append gap (word ++ rest), length-append word rest, word_some l word h)) e
 
 pub blanks : (n : ℕ) → all_blank (replicate n 32) ≡ true
 blanks zero = refl
@@ -122,28 +122,28 @@ blanks (suc n) = rw (blank_class, blanks n) refl
 
 -- pieces stand in their plain text, behind a token, no further to the right than in a text that they spell
 record Fits (most end n : ℕ) (place : Place) (k : Kind) (ts : List Token) : Type 0 where
-  row : Row end place (placed n (is_name k) (is_number k) ts) (row_text n (is_name k) (is_number k) ts) []
-  ends : Ends k (row_text n (is_name k) (is_number k) ts)
-  short : n + length (row_text n (is_name k) (is_number k) ts) < most
+  row : Row end place (placed n (is_any_name k) (is_number k) ts) (row_text n (is_any_name k) (is_number k) ts) []
+  ends : Ends k (row_text n (is_any_name k) (is_number k) ts)
+  short : n + length (row_text n (is_any_name k) (is_number k) ts) < most
 
 behind_len : (g : ℕ) (word later : List ℕ) → length (replicate g 32 ++ (word ++ later)) ≡ g + (length word + length later)
 behind_len g word later = omega (arith, length-append (replicate g 32) (word ++ later), length-append word later, length-replicate {A = ℕ} g 32)
 
 fits : (ts : List Token) (most end n : ℕ) (place : Place) (k : Kind) (text rest : List ℕ) → Row most place ts text rest → Ends k text → n + length text < most
-    → end ≡ n + length (row_text n (is_name k) (is_number k) ts) + 1 → Fits most end n place k ts
+    → end ≡ n + length (row_text n (is_any_name k) (is_number k) ts) + 1 → Fits most end n place k ts
 fits [] most end n place k text rest row ends lt is = record { row = refl; ends = ends_nil k; short = omega arith }
 fits (t ∷ ts) most end n place k text rest row ends lt is =
     let s : Step most place t text row.0 = row.1 in
     let g = gap_of (is_number k) n t.kind t.at in
-    let word = word_in n (is_name k) (is_number k) t in
+    let word = word_in n (is_any_name k) (is_number k) t in
     let whole : length text ≡ length s.gap + (length s.word + length row.0) = ap length s.parts ∙ length-append s.gap (s.word ++ row.0) ∙ ap (λ (m : ℕ). length s.gap + m) (length-append s.word row.0) in
     let behind : Ends k (s.gap ++ (s.word ++ row.0)) = subst (λ (x : List ℕ). Ends k x) s.parts ends in
     let gap : Gap (is_number k) n t.kind t.at (length s.gap) = gap_fits (is_number k) n t.kind t.at (length s.gap) (omega (arith, s.at, length-append s.word row.0, whole)) (joins_gap k t.kind s.gap s.word row.0 s.spelled behind) in
-    let after : (is_name k && (g == 0)) ≡ true → is_in_name (class_at (s.word ++ row.0)) ≡ false =
-    λ e. behind_name k (s.word ++ row.0) (and_left (is_name k) (g == 0) e) (no_gap k s.gap (s.word ++ row.0) (gap.none (eqb-true g 0 (and_right (is_name k) (g == 0) e))) behind) in
-    let plainly : PlainWord (is_name k && (g == 0)) t.kind s.word = word_plain (is_name k && (g == 0)) t.kind s.word row.0 s.spelled after in
+    let after : (is_any_name k && (g == 0)) ≡ true → is_in_name (class_at (s.word ++ row.0)) ≡ false =
+    λ e. behind_name k (s.word ++ row.0) (and_left (is_any_name k) (g == 0) e) (no_gap k s.gap (s.word ++ row.0) (gap.none (eqb-true g 0 (and_right (is_any_name k) (g == 0) e))) behind) in
+    let plainly : PlainWord (is_any_name k && (g == 0)) t.kind s.word = word_plain (is_any_name k && (g == 0)) t.kind s.word row.0 s.spelled after in
     let m = n + g + length word in
-    let later = row_text m (is_name t.kind) (is_number t.kind) ts in
+    let later = row_text m (is_any_name t.kind) (is_number t.kind) ts in
     let len : length (replicate g 32 ++ (word ++ later)) ≡ g + (length word + length later) = behind_len g word later in
     let more : Fits most end m (next_place place t.kind) t.kind ts =
     fits ts most end m (next_place place t.kind) t.kind row.0 rest row.2 s.ends (omega (arith, s.at, length-append s.word row.0, gap.before, plainly.short)) (omega (arith, is, len)) in

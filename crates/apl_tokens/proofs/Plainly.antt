@@ -7,7 +7,7 @@ use Rattle.apl_tokens.specs.declared.token.Kind.TheVariants.{Constant}
 use Rattle.apl_tokens.specs.declared.token.Token.{Token}
 use Rattle.apl_tokens.specs.Tokens.{token}
 use Rattle.apl_tokens.specs.Joined.{join, joined}
-use Rattle.apl_tokens.specs.Plain.{number_word, more_numbers, plain_word, is_name, behind_gap, plain_behind}
+use Rattle.apl_tokens.specs.Plain.{number_word, more_numbers, plain_word, is_any_name, behind_gap, plain_behind}
 
 abbrev pub is_number : Kind → Bool
 is_number (Constant ns) = true
@@ -30,13 +30,13 @@ word_in written named number t = plain_word (named && (gap_of number written t.k
 -- the text of pieces
 abbrev pub row_text : ℕ → Bool → Bool → List Token → List ℕ
 row_text written named number [] = []
-row_text written named number (t ∷ ts) = behind_gap written (gap_of number written t.kind t.at) (word_in written named number t) (λ n. row_text n (is_name t.kind) (is_number t.kind) ts)
+row_text written named number (t ∷ ts) = behind_gap written (gap_of number written t.kind t.at) (word_in written named number t) (λ n. row_text n (is_any_name t.kind) (is_number t.kind) ts)
 
 -- the pieces as they stand in it
 abbrev pub placed : ℕ → Bool → Bool → List Token → List Token
 placed written named number [] = []
 placed written named number (t ∷ ts) =
-    token t.kind (at_of number written t.kind t.at) ∷ placed (written + gap_of number written t.kind t.at + length (word_in written named number t)) (is_name t.kind) (is_number t.kind) ts
+    token t.kind (at_of number written t.kind t.at) ∷ placed (written + gap_of number written t.kind t.at + length (word_in written named number t)) (is_any_name t.kind) (is_number t.kind) ts
 
 -- each number by itself
 abbrev pub Single : Kind → Type 0
@@ -110,8 +110,8 @@ same_apart : (k : Kind) (at : ℕ) (ts : List Token) → is_number k ≡ false �
 unfolding plain_behind
 same_apart (Constant ns) at ts other s = absurd cc
 same_apart k at ts other s = record {
-  here = λ n named. rw (apart k at (joined ts) other) (ap (λ (x : List ℕ). replicate (at - 1 - n) 32 ++ (plain_word (named && (at - 1 - n == 0)) k ++ x)) (s.here (n + (at - 1 - n) + length (plain_word (named && (at - 1 - n == 0)) k)) (is_name k)));
-  behind = λ n. rw (apart k at (joined ts) other) (ap (λ (x : List ℕ). replicate (at - 1 - n) 32 ++ (plain_word false k ++ x)) (s.here (n + (at - 1 - n) + length (plain_word false k)) (is_name k)));
+  here = λ n named. rw (apart k at (joined ts) other) (ap (λ (x : List ℕ). replicate (at - 1 - n) 32 ++ (plain_word (named && (at - 1 - n == 0)) k ++ x)) (s.here (n + (at - 1 - n) + length (plain_word (named && (at - 1 - n == 0)) k)) (is_any_name k)));
+  behind = λ n. rw (apart k at (joined ts) other) (ap (λ (x : List ℕ). replicate (at - 1 - n) 32 ++ (plain_word false k ++ x)) (s.here (n + (at - 1 - n) + length (plain_word false k)) (is_any_name k)));
 }
 
 same_more : (k : Kind) (at : ℕ) (ts : List Token) → Single k → Same ts → Same (token k at ∷ ts)
@@ -156,8 +156,8 @@ joined_more (Constant ns) at ts j = record {
       ap (λ (js : List Token). join (token (Constant ms) a) js) (j.behind (n + 1 + length (plain_word (named && false) (Constant ns))) false ns (n + 2)) ∙ forgets ms ns a (n + 2) at (joined ts);
 }
 joined_more k at ts j = record {
-  here = λ n named. ap (λ (js : List Token). join (token k at) js) (j.here (n + (at - 1 - n) + length (plain_word (named && (at - 1 - n == 0)) k)) (is_name k));
-  behind = λ n named ms a. ap (λ (js : List Token). join (token (Constant ms) a) (join (token k at) js)) (j.here (n + (at - 1 - n) + length (plain_word (named && (at - 1 - n == 0)) k)) (is_name k));
+  here = λ n named. ap (λ (js : List Token). join (token k at) js) (j.here (n + (at - 1 - n) + length (plain_word (named && (at - 1 - n == 0)) k)) (is_any_name k));
+  behind = λ n named ms a. ap (λ (js : List Token). join (token (Constant ms) a) (join (token k at) js)) (j.here (n + (at - 1 - n) + length (plain_word (named && (at - 1 - n == 0)) k)) (is_any_name k));
 }
 
 joins : (ts : List Token) → Joined ts

@@ -1,4 +1,5 @@
 pub mod Characters
+pub mod Kinds
 pub mod Spelling
 pub mod Reading
 pub mod Brackets

@@ -38,10 +38,10 @@ plain_word after_name (kind.Comment text) = 0x235D ∷ text
 plain_word after_name (kind.Symbol symbol) = glyph_of symbol ∷ []
 
 -- a name or a system name
-abbrev pub is_name : Kind → Bool
-is_name (kind.Name name) = true
-is_name (kind.System name) = true
-is_name _ = false
+abbrev pub is_any_name : Kind → Bool
+is_any_name (kind.Name name) = true
+is_any_name (kind.System name) = true
+is_any_name _ = false
 
 -- a word behind a gap, and what is later
 abbrev pub behind_gap : ℕ → ℕ → List ℕ → (ℕ → List ℕ) → List ℕ
@@ -51,7 +51,7 @@ behind_gap written gap word later = replicate gap 32 ++ (word ++ later (written 
 unfoldable pub plain_behind : ℕ → Bool → List Token → List ℕ
 plain_behind written named [] = []
 plain_behind written named (t ∷ ts) =
-    behind_gap written (t.at - 1 - written) (plain_word (named && (t.at - 1 - written == 0)) t.kind) (λ n. plain_behind n (is_name t.kind) ts)
+    behind_gap written (t.at - 1 - written) (plain_word (named && (t.at - 1 - written == 0)) t.kind) (λ n. plain_behind n (is_any_name t.kind) ts)
 
 -- the whole text
 abbrev pub plain : List Token → List ℕ

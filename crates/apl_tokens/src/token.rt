@@ -5,6 +5,7 @@ ghost use Rattle.std.specs.Cmp.Lexicographic.{pointwise};
 ghost use Rattle.std.specs.Cmp.Rules.{comparing};
 ghost use Rattle.std.specs.Ordering.{int_eq};
 ghost use Rattle.std.proofs.Common.{rules};
+ghost use Rattle.apl_tokens.specs.Kinds.{is_colon, is_name};
 
 use apl_charset::Text;
 use apl_symbols::{Name, Symbol, SystemName};
@@ -80,6 +81,22 @@ pub enum Kind {
     /// What stands after `⍝`, to the line's end.
     Comment(Text),
     Symbol(Symbol),
+}
+
+impl Kind {
+    /// Whether it is a user name.
+    pub fn is_name(&self) -> bool
+        ensures { result ≡ is_name self.now }
+    {
+        matches!(self, Kind::Name(_))
+    }
+
+    /// Whether it is a colon.
+    pub fn is_colon(&self) -> bool
+        ensures { result ≡ is_colon self.now }
+    {
+        matches!(self, Kind::Symbol(Symbol::Colon))
+    }
 }
 
 /// A token, and the column of its first character, from 1.

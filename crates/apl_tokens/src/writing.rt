@@ -4,7 +4,7 @@ ghost use Rattle.std.specs.List.{flat_map};
 ghost use Rattle.apl_tokens.specs.Spelling.{signed, doubled};
 ghost use Rattle.apl_tokens.specs.Lines.{Spells};
 ghost use Rattle.apl_tokens.specs.Tokens.{tokens_of};
-ghost use Rattle.apl_tokens.specs.Plain.{AreSpelled, number_word, more_numbers, numbers_word, plain_word, is_name, plain};
+ghost use Rattle.apl_tokens.specs.Plain.{AreSpelled, number_word, more_numbers, numbers_word, plain_word, is_any_name, plain};
 
 use crate::class::class_of;
 use crate::token::{Kind, Token};
@@ -106,8 +106,8 @@ fn push_word(text: &mut Vec<Ch>, after_name: bool, kind: &Kind) -> Result<(), Al
 }
 
 /// Whether a token is a name or a system name.
-fn is_name(kind: &Kind) -> bool
-    ensures { result ≡ is_name kind.now }
+fn is_any_name(kind: &Kind) -> bool
+    ensures { result ≡ is_any_name kind.now }
 {
     matches!(kind, Kind::Name(_) | Kind::System(_))
 }
@@ -129,7 +129,7 @@ fn written(alloc: Global, tokens: &[Token]) -> Result<Text, AllocError>
         let gap = token.at.saturating_sub(1).saturating_sub(text.len());
         push_blanks(&mut text, gap)?;
         push_word(&mut text, is_after_name(named, gap), &token.kind)?;
-        named = is_name(&token.kind);
+        named = is_any_name(&token.kind);
     }
     Ok(Text::new(text))
 }

@@ -15,7 +15,8 @@ use Rattle.apl_translate.specs.declared.form.Form.TheVariants as forms
 use Rattle.apl_translate.specs.declared.form.Placed.{Placed}
 use Rattle.apl_translate.specs.Forms.{wanted_kinds, IsFresh}
 use Rattle.apl_translate.specs.Lines.{Line, NamesConstants, ArePlaced, AreNamed}
-use Rattle.apl_translate.specs.Binding.{Left, nothing_left, is_name, is_colon, without_label, word_of, symbol_word, form_of, with_item, placed, items_from, constant_in, HasName}
+use Rattle.apl_tokens.specs.Kinds.{is_colon, is_name}
+use Rattle.apl_translate.specs.Binding.{Left, nothing_left, without_label, word_of, symbol_word, form_of, with_item, placed, items_from, constant_in, HasName}
 use Rattle.apl_translate.proofs.Settled.{wanted-append}
 use Rattle.apl_translate.proofs.Spelt.{items_named, constants_few}
 

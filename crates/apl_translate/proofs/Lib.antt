@@ -10,3 +10,4 @@ mod Fronts
 pub mod Made
 pub mod Spelt
 mod Table
+pub mod OneCode

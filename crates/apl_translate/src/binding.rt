@@ -2,7 +2,7 @@
 ghost use Rattle.std.specs.Prelude.{◌≡◌, ◌≤◌, ◌<◌, ◌++◌, All, Some, ◌+◌, length, vec_len, vec_capacity, IfOk, OnOk};
 ghost use Rattle.std.specs.List.{flat_map};
 ghost use Rattle.apl_symbols.specs.Primitives.{operator_of};
-ghost use Rattle.apl_translate.specs.Binding.{without_label, is_name, is_colon, nothing_left, class_at, name_word, system_word, primitive_word, closing, symbol_word, word_of, form_of, neighbour_of, placed, takes_axis, axes_after, with_item, items_from, constant_in, bound_of, elements_in, HasName};
+ghost use Rattle.apl_translate.specs.Binding.{without_label, nothing_left, class_at, name_word, system_word, primitive_word, closing, symbol_word, word_of, form_of, neighbour_of, placed, takes_axis, axes_after, with_item, items_from, constant_in, bound_of, elements_in, HasName};
 
 use crate::form::{Bound, Form, Placed, Word};
 use apl_arrays::Array;
@@ -226,30 +226,18 @@ fn primitive_word(neighbour: Neighbour, f: Primitive) -> Word
     }
 }
 
-/// The tokens behind the label.
-fn without_label(tokens: &[Token]) -> &[Token]
+/// The tokens behind the label; all of them, where there is none.
+pub fn without_label(tokens: &[Token]) -> &[Token]
     ensures { result.now ≡ without_label tokens.now }
 {
     let [first, second, rest @ ..] = tokens else {
         return tokens;
     };
-    if is_name(&first.kind) && is_colon(&second.kind) {
+    if first.kind.is_name() && second.kind.is_colon() {
         rest
     } else {
         tokens
     }
-}
-
-fn is_name(kind: &Kind) -> bool
-    ensures { result ≡ is_name kind.now }
-{
-    matches!(kind, Kind::Name(_))
-}
-
-fn is_colon(kind: &Kind) -> bool
-    ensures { result ≡ is_colon kind.now }
-{
-    matches!(kind, Kind::Symbol(Symbol::Colon))
 }
 
 /// The items of tokens.

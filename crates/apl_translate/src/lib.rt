@@ -11,7 +11,7 @@ mod phrase;
 mod ready;
 mod translation;
 
-pub use binding::bind;
+pub use binding::{bind, without_label};
 pub use cache::{Cache, KEPT, LineCode};
 pub use form::{Bound, Form, Placed, Word};
 pub use laws::phrases_of_the_table;
