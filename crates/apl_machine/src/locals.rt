@@ -1,24 +1,15 @@
 //! The names that a call begins with.
-ghost use Rattle.std.specs.Prelude.{◌≡◌, ◌≤◌, ◌++◌, ℤ, All, IfOk, List, OnOk, map, option_copied};
-ghost use Rattle.apl_machine_state.specs.Calls.{bound_to, label_of, local_of, named, names_of_call};
+ghost use Rattle.std.specs.Prelude.{◌≡◌, ◌≤◌, ◌++◌, ℤ, IfOk, List, OnOk, map, option_copied};
+ghost use Rattle.apl_machine_state.specs.Calls.{local_of, named, names_of_call};
 ghost use Rattle.apl_phrases.specs.Effects.{seen};
 
 use apl_arrays::{Array, Cell};
 use apl_defn::Definition;
 use apl_names::Binding;
+use apl_parts::{bound_to, push_labels};
 use apl_phrases::{Scene, origin_name};
 use apl_symbols::Name;
 use std::alloc::{AllocError, Global};
-
-/// What an argument's name stands for: its value, or none where the call gives none.
-fn bound_to(argument: Option<Array>) -> Binding
-    ensures { result ≡ bound_to argument }
-{
-    match argument {
-        Some(array) => Binding::Value(array),
-        None => Binding::Unset,
-    }
-}
 
 /// Adds a name, where there is one.
 fn push_named(
@@ -59,17 +50,6 @@ fn push_locals(
 {
     for local in locals {
         names.push(local_of(alloc, scene, local)?)?;
-    }
-    Ok(())
-}
-
-/// Adds the labels, each of which is the number of its line.
-fn push_labels(names: &mut Vec<(Name, Binding)>, labels: &[(Name, usize)]) -> Result<(), AllocError>
-    requires { All (λ l. l.1 ≤ 999) labels.now }
-    ensures { OnOk result (names.new.items ≡ names.old.items ++ map label_of labels.now) }
-{
-    for (name, line) in labels {
-        names.push((*name, Binding::Label(*line as u16)))?;
     }
     Ok(())
 }

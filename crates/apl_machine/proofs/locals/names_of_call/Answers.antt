@@ -1,4 +1,4 @@
-use Rattle.apl_machine.proofs.CallNames.{labels_few}
+use Rattle.apl_parts.proofs.Labels.{labels_few}
 use Rattle.apl_machine.proofs.locals.names_of_call.Goals as goal
 
 pub push_labels-requires : goal.push_labels-requires
