@@ -1,40 +1,17 @@
 -- Lines that are cut behind a line feed, and what they write.
-use Rattle.std.proofs.Common.{◌≡◌, ℕ, List, [], ◌∷◌, ◌++◌, Bool, true, false, cond, ◌==◌, ap, ◌∙◌, sym, refl, append_assoc, append-nil, map}
+use Rattle.std.proofs.Common.{◌≡◌, ℕ, List, [], ◌++◌, ap, ◌∙◌, sym, append_assoc, append-nil, map}
 use Rattle.std.proofs.lemmas.List.{map-append}
 use Rattle.apl_session.specs.Defining.{closed}
 use Rattle.apl_runs.specs.Output.{silent}
 use Rattle.apl_runs.specs.Sessions.{plain}
 use Rattle.apl_runs.specs.declared.manner.Manner.TheVariants.{Plain}
 use Rattle.apl_runs.proofs.Behind.{manner-in_order}
+use Rattle.apl_runs.proofs.Reading.{ended-append, unfinished-append}
 use Rattle.apl_runs.proofs.Transcripts.{quiet-append, transcript-append}
 use Rattle.apl_played.specs.Laws.{CutCallsAreOne}
 use Rattle.apl_played.specs.Playing.{state_after}
 use Rattle.apl_played.proofs.Beginning.{closed-same}
 use Rattle.apl_runs.specs.Transcript.{complete_lines, ended, ended_behind, last_line, lines_of, unfinished, unfinished_behind, without_return, after_lines, transcript_of}
-
-ended-more : (t : Bool) (b : ℕ) (xs ys front : List ℕ) →
-    ended_behind [] (xs ++ ys) ≡ ended_behind [] xs ++ ended_behind (unfinished_behind [] xs) ys →
-    ended_behind (front ++ b ∷ []) (xs ++ ys) ≡ ended_behind (front ++ b ∷ []) xs ++ ended_behind (unfinished_behind (front ++ b ∷ []) xs) ys →
-    cond t (front ∷ ended_behind [] (xs ++ ys)) (ended_behind (front ++ b ∷ []) (xs ++ ys))
-    ≡ cond t (front ∷ ended_behind [] xs) (ended_behind (front ++ b ∷ []) xs) ++ ended_behind (cond t (unfinished_behind [] xs) (unfinished_behind (front ++ b ∷ []) xs)) ys
-ended-more true b xs ys front e f = ap (λ (x : List (List ℕ)). front ∷ x) e
-ended-more false b xs ys front e f = f
-
-ended-append : (xs ys front : List ℕ) → ended_behind front (xs ++ ys) ≡ ended_behind front xs ++ ended_behind (unfinished_behind front xs) ys
-ended-append [] ys front = refl
-ended-append (b ∷ xs) ys front = ended-more (b == 10) b xs ys front (ended-append xs ys []) (ended-append xs ys (front ++ b ∷ []))
-
-unfinished-more : (t : Bool) (b : ℕ) (xs ys front : List ℕ) →
-    unfinished_behind [] (xs ++ ys) ≡ unfinished_behind (unfinished_behind [] xs) ys →
-    unfinished_behind (front ++ b ∷ []) (xs ++ ys) ≡ unfinished_behind (unfinished_behind (front ++ b ∷ []) xs) ys →
-    cond t (unfinished_behind [] (xs ++ ys)) (unfinished_behind (front ++ b ∷ []) (xs ++ ys))
-    ≡ unfinished_behind (cond t (unfinished_behind [] xs) (unfinished_behind (front ++ b ∷ []) xs)) ys
-unfinished-more true b xs ys front e f = e
-unfinished-more false b xs ys front e f = f
-
-unfinished-append : (xs ys front : List ℕ) → unfinished_behind front (xs ++ ys) ≡ unfinished_behind (unfinished_behind front xs) ys
-unfinished-append [] ys front = refl
-unfinished-append (b ∷ xs) ys front = unfinished-more (b == 10) b xs ys front (unfinished-append xs ys []) (unfinished-append xs ys (front ++ b ∷ []))
 
 complete-append : (first second : List ℕ) → unfinished first ≡ [] → complete_lines (first ++ second) ≡ complete_lines first ++ complete_lines second
 complete-append first second e =

@@ -37,7 +37,7 @@ ended-more true b xs ys front e f = ap (λ (x : List (List ℕ)). front ∷ x) e
 ended-more false b xs ys front e f = f
 
 -- one input behind another
-ended-append : (xs ys front : List ℕ) → ended_behind front (xs ++ ys) ≡ ended_behind front xs ++ ended_behind (unfinished_behind front xs) ys
+pub ended-append : (xs ys front : List ℕ) → ended_behind front (xs ++ ys) ≡ ended_behind front xs ++ ended_behind (unfinished_behind front xs) ys
 ended-append [] ys front = refl
 ended-append (b ∷ xs) ys front = ended-more (b == 10) b xs ys front (ended-append xs ys []) (ended-append xs ys (front ++ b ∷ []))
 
@@ -49,7 +49,7 @@ unfinished-more : (t : Bool) (b : ℕ) (xs ys front : List ℕ) →
 unfinished-more true b xs ys front e f = e
 unfinished-more false b xs ys front e f = f
 
-unfinished-append : (xs ys front : List ℕ) → unfinished_behind front (xs ++ ys) ≡ unfinished_behind (unfinished_behind front xs) ys
+pub unfinished-append : (xs ys front : List ℕ) → unfinished_behind front (xs ++ ys) ≡ unfinished_behind (unfinished_behind front xs) ys
 unfinished-append [] ys front = refl
 unfinished-append (b ∷ xs) ys front = unfinished-more (b == 10) b xs ys front (unfinished-append xs ys []) (unfinished-append xs ys (front ++ b ∷ []))
 
