@@ -15,7 +15,7 @@ mod watch;
 
 pub use effect::{Deed, Effect};
 pub use execute::colon_of;
-pub use frequent::{assigned, given, grouped};
+pub use frequent::{assigned, given};
 pub use lines::said;
 pub use phrase::perform;
 pub use scene::{Scene, origin_name};
