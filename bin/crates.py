@@ -33,6 +33,8 @@ def load():
 
 def listed(rt):
     """Returns the crates of the repository by name, lowest first."""
+    rt.Crate.allowed = rt.handles_of(TOP)
+    rt.rtlib.Crate = rt.Crate
     return {it.name: it for it in sorted(rt.rtlib.crates_below(TOP), key=lambda it: len(it.below()))}
 
 
@@ -70,16 +72,10 @@ def prove(rt, crates, tell=lambda *_: None):
 
     def work(crate):
         began, is_kept = time.monotonic(), crate.is_built()
-        os.makedirs(f"{crate.folder}/out", exist_ok=True)
-        log = f"{crate.folder}/out/proof"
-        with open(log, "w", encoding="utf-8") as crate.out:
-            status = crate.build_rlib(JOBS, anew=False)
-        if status:
-            with open(log, encoding="utf-8", errors="replace") as said:
-                print(f"{crate.name} is not proved:\n{said.read()}", file=sys.stderr, flush=True)
-        else:
+        well = made(crate, lambda: crate.build_rlib(JOBS, anew=False))
+        if well:
             tell(crate, is_kept, time.monotonic() - began)
-        return not status
+        return well
 
     try:
         well = in_lanes(crates, work)
@@ -87,6 +83,26 @@ def prove(rt, crates, tell=lambda *_: None):
         for it in held:
             os.close(it)
     return [it.name for it in crates if it.name not in well]
+
+
+def build(crate):
+    """Proves and builds a program or a static library, whose libraries stand, in its folder out/. Returns whether all is well."""
+    to = f"out/{crate.name}"
+    if crate.is_static:
+        return made(crate, lambda: crate.build_static(JOBS))
+    return made(crate, lambda: crate.compile(JOBS, f"{to}.o") or crate.link(f"{to}.o", to))
+
+
+def made(crate, call):
+    """Calls what makes something of a crate, and tells what was said on standard error where it gives a status. Returns whether it gives none."""
+    os.makedirs(f"{crate.folder}/out", exist_ok=True)
+    log = f"{crate.folder}/out/proof"
+    with open(log, "w", encoding="utf-8") as crate.out:
+        status = call()
+    if status:
+        with open(log, encoding="utf-8", errors="replace") as said:
+            print(f"{crate.name} is not proved and built:\n{said.read()}", file=sys.stderr, flush=True)
+    return not status
 
 
 def edits(crate, folder):
