@@ -66,13 +66,13 @@ def in_lanes(crates, work):
 
 
 def prove(rt, crates, tell=lambda *_: None):
-    """Proves libraries, of which each one's own are among them or stand. It tells of each that is proved, and returns the names of the
+    """Proves crates, of which each one's libraries are among them or stand. It tells of each that is proved, and returns the names of the
     others, which it tells of on standard error."""
     held = rt.rtlib.lock(crates)
 
     def work(crate):
         began, is_kept = time.monotonic(), crate.is_built()
-        well = made(crate, lambda: crate.build_rlib(JOBS, anew=False))
+        well = made(crate, lambda: crate.build_rlib(JOBS, anew=False) if crate.makes_rlib() else crate.check(JOBS))
         if well:
             tell(crate, is_kept, time.monotonic() - began)
         return well
