@@ -43,9 +43,9 @@ def size(crate):
     return crate.count(rb"\n")
 
 
-def in_lanes(crates, work):
-    """Calls work for each of the crates, as many side by side as there are processors, each once those below it have ended well, and
-    first those with the longest chain above them. Returns the names of those that ended well."""
+def in_lanes(crates, work, in_order=True):
+    """Calls work for each of the crates, as many side by side as there are processors, first those with the longest chain above them, and
+    where they are to be in order each once those below it have ended well. Returns the names of those that ended well."""
     behind = {}
     for crate in sorted(crates, key=lambda it: -len(it.below())):
         behind[crate] = size(crate) + max((behind[it] for it in behind if crate in it.below()), default=0)
@@ -53,7 +53,7 @@ def in_lanes(crates, work):
     lanes = os.cpu_count() or 1
     with ThreadPoolExecutor(lanes) as pool:
         while left or running:
-            ready = [it for it in left if all(low not in behind or low in well for low in it.below())]
+            ready = [it for it in left if not in_order or all(low not in behind or low in well for low in it.below())]
             if not ready and not running:
                 break
             for crate in ready[: lanes - len(running)]:
