@@ -30,6 +30,14 @@ pub record Maps (shape : List ℕ) (numeric : Bool) (element : List ℕ → Cell
   pub type_is : are_numbers a.items ≡ numeric
   pub elements : (index : List ℕ) → LiesWithin shape index → cell_at a index ≡ Some (element index)
 
+-- the numbers at the index lists of a shape fit 64 bits
+abbrev pub AllFit : List ℕ → (List ℕ → ℤ) → Type 0
+AllFit shape number = (index : List ℕ) → LiesWithin shape index → FitsSigned w64 (number index)
+
+-- the characters at the index lists of a shape are of the set
+abbrev pub AllInSet : List ℕ → (List ℕ → ℕ) → Type 0
+AllInSet shape character = (index : List ℕ) → LiesWithin shape index → is_member (character index) ≡ true
+
 -- ---- what is promised
 
 -- an array has elements just at the index lists within its shape
@@ -47,10 +55,10 @@ AreEqual = (a b : Arr) → IsAnArray a → IsAnArray b → a.shape ≡ b.shape �
 
 -- numbers that fit 64 bits, at the index lists of a shape within the limits, are some array
 abbrev pub NumbersAreArrays : Type 0
-NumbersAreArrays = (shape : List ℕ) (number : List ℕ → ℤ) → IsLimited shape → ((index : List ℕ) → LiesWithin shape index → FitsSigned w64 (number index))
+NumbersAreArrays = (shape : List ℕ) (number : List ℕ → ℤ) → IsLimited shape → AllFit shape number
     → (a : Arr) × Maps shape true (λ index. Num (number index)) a
 
 -- characters of the set are too
 abbrev pub TextsAreArrays : Type 0
-TextsAreArrays = (shape : List ℕ) (character : List ℕ → ℕ) → IsLimited shape → ((index : List ℕ) → LiesWithin shape index → is_member (character index) ≡ true)
+TextsAreArrays = (shape : List ℕ) (character : List ℕ → ℕ) → IsLimited shape → AllInSet shape character
     → (a : Arr) × Maps shape false (λ index. Char (character index)) a

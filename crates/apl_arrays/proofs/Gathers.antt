@@ -1,6 +1,7 @@
 -- Elements appended one after another, along an axis and row by row.
-use Rattle.std.proofs.Common.{length, get_or, take, drop, suc, ◌≡◌, ℕ, ◌+◌, ◌-◌, ◌<◌, ◌≤◌, true, List, [], ◌∷◌, ◌++◌, map, refl, ap, sym, ◌∙◌, arith, append_assoc, append-nil}
-use Rattle.std.proofs.lemmas.List.{map-append}
+use Rattle.std.proofs.Common.{length, get_or, take, drop, suc, ◌≡◌, ℕ, ◌+◌, ◌*◌, ◌-◌, ◌<◌, ◌≤◌, true, List, [], ◌∷◌, ◌++◌, map, refl, ap, sym, ◌∙◌, arith, append_assoc, append-nil}
+use Rattle.std.proofs.lemmas.List.{get_or-drop, get_or-take, length-drop, length-take-le, map-append}
+use Rattle.std.proofs.lemmas.List.FromFn.{fill_by_all}
 use Rattle.std.proofs.lemmas.Grind.{common_steps}
 use Rattle.std.specs.List.{flat_map, range_with_len}
 use Rattle.apl_arrays.specs.declared.axis.Axis.{Axis}
@@ -77,3 +78,20 @@ near_row a ys p i q n l r e = rw e (smaller (reach_of (p + step_at a i) ys) (rea
   where
     smaller : (a b n : ℕ) → a ≤ b → b < n → a < n
     smaller a b n h k = omega arith
+
+-- the elements along an axis that lie side by side
+pub side_by_side : {A : Type 0} (raw : List A) (d : A) (at : ℕ) (a : Axis) → a.up ≡ 1 → a.down ≡ 0 → at + a.length ≤ length raw →
+    take a.length (drop at raw) ≡ map (λ k. get_or raw (at + step_at a k) d) (range_with_len 0 a.length)
+side_by_side raw d at a u v h =
+    fill_by_all (λ k. get_or raw (at + step_at a k) d) (take a.length (drop at raw)) a.length d (length-take-le a.length (drop at raw) (omega (arith, length-drop at raw)))
+    (λ k l. get_or-take a.length (drop at raw) k d l ∙ get_or-drop at raw k d ∙ ap (λ (p : ℕ). get_or raw (at + p) d) (step a.up a.down k (a.length - 1 - k) u v))
+  where
+    step : (m n k j : ℕ) → m ≡ 1 → n ≡ 0 → k ≡ m * k + n * j
+    step m n k j u v = rw (u, v) (omega arith)
+
+-- they lie within the ravel
+pub side_within : (at n : ℕ) (a : Axis) → a.up ≡ 1 → a.down ≡ 0 → 0 < a.length → at + step_at a (a.length - 1) < n → at + a.length ≤ n
+side_within at n a u v h l = omega (arith, last a.up a.down (a.length - 1) (a.length - 1 - (a.length - 1)) u v)
+  where
+    last : (m n k j : ℕ) → m ≡ 1 → n ≡ 0 → m * k + n * j ≡ k
+    last m n k j u v = rw (u, v) (omega arith)

@@ -8,7 +8,7 @@ use Rattle.apl_arrays.specs.Index.{bound_of}
 use Rattle.apl_arrays.specs.Cells.{Arr, Items}
 use Rattle.apl_arrays.specs.Strides.{lengths, step_at, reach_of, IsView}
 use Rattle.apl_arrays.specs.Views.{rank_of, joined, least, selected, turned, turned_shape}
-use Rattle.apl_arrays.specs.Joins.{ups, downs, skips, sum_of, joined_length, joined_axis, joined_skip, turned_axes, turned_skip}
+use Rattle.apl_arrays.specs.inside.Joins.{ups, downs, skips, sum_of, joined_length, joined_axis, joined_skip, turned_axes, turned_skip}
 use Rattle.apl_arrays.proofs.Places.{rest_of}
 use Rattle.apl_arrays.proofs.Steps.{reach_low, length-lengths, no_axis, rest_at}
 use Rattle.apl_arrays.proofs.Moves.{Leads, shown, shown_by, view_by}

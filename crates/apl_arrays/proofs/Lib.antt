@@ -13,4 +13,4 @@ pub mod Turns
 pub mod Joining
 pub mod ByIndex
 pub mod Nth
-pub mod Equal
+pub mod Single

@@ -8,7 +8,7 @@ use Rattle.apl_arrays.specs.declared.axis.Axis.{Axis}
 use Rattle.apl_arrays.specs.Index.{bound_of, is_within}
 use Rattle.apl_arrays.specs.Strides.{lengths, step_at, place_at, reach_of}
 use Rattle.apl_arrays.specs.Views.{joined, least}
-use Rattle.apl_arrays.specs.Joins.{ups, downs, skips, sum_of}
+use Rattle.apl_arrays.specs.inside.Joins.{ups, downs, skips, sum_of}
 use Rattle.apl_arrays.proofs.Places.{both, within_head}
 use Rattle.apl_arrays.proofs.Order.{within_cons}
 use Rattle.apl_arrays.proofs.Steps.{reach_low}

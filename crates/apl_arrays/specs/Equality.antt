@@ -56,6 +56,7 @@ items_same (Characters xs) (Characters ys) h = ap Characters ((pointwise_decides
 -- equal arrays are the same
 pub array_same : (a b : Arr) → array_eq a b ≡ true → a ≡ b
 array_same a b h =
-    let s : a.shape ≡ b.shape = (pointwise_decides unsigned_Decides a.shape b.shape).0 (first_so (pointwise nat_eq a.shape b.shape) (items_eq a.items b.items) h) in
-    let e : a.items ≡ b.items = items_same a.items b.items (second_so (pointwise nat_eq a.shape b.shape) (items_eq a.items b.items) h) in
+    let shapes = pointwise nat_eq a.shape b.shape in
+    let s : a.shape ≡ b.shape = (pointwise_decides unsigned_Decides a.shape b.shape).0 (first_so shapes (items_eq a.items b.items) h) in
+    let e : a.items ≡ b.items = items_same a.items b.items (second_so shapes (items_eq a.items b.items) h) in
     λ i. record { shape = s i; items = e i }

@@ -2,6 +2,9 @@ pub mod Index
 pub mod Cells
 pub mod Ravels
 pub mod Simple
+pub mod Dense
+pub mod Kept
+pub mod Written
 pub mod Results
 pub mod Answers
 pub mod Views
@@ -9,8 +12,9 @@ pub mod Strides
 pub mod Left
 pub mod Nth
 pub mod Axes
-pub mod Joins
+pub mod inside
 pub mod Kinds
 pub mod Checks
+pub mod Origins
 pub mod Along
 pub mod Equality

@@ -4,7 +4,7 @@ use Rattle.apl_arrays.specs.declared.cell.Cell.{Cell}
 use Rattle.apl_arrays.specs.declared.strided.Strided.{Strided}
 use Rattle.apl_arrays.specs.Index.{size_of}
 use Rattle.apl_arrays.specs.Cells.{cells_of}
-use Rattle.apl_arrays.specs.Ravels.{items_of}
+use Rattle.apl_arrays.specs.Left.{listed}
 use Rattle.apl_arrays.specs.Strides.{seen}
 
 -- the index list within a shape that comes after so many others
@@ -14,4 +14,4 @@ index_at (n ∷ ns) nth = (nth / size_of ns) ∷ index_at ns (nth % size_of ns)
 
 -- the elements that steps show, without the first so many
 abbrev pub left_after : Strided → ℕ → List Cell
-left_after s nth = drop nth (cells_of (seen (items_of s.ravel.now) s.offset s.axes.now))
+left_after s nth = drop nth (cells_of (seen (listed s.items) s.offset s.axes.now))

@@ -4,7 +4,7 @@ use Rattle.apl_arrays.specs.declared.axis.Axis.{Axis}
 use Rattle.apl_arrays.specs.declared.strided.Strided.{Strided}
 use Rattle.apl_arrays.specs.Index.{indices, is_within, bound_of, size_of}
 use Rattle.apl_arrays.specs.Cells.{Arr, Items, AreStorable, cells_of}
-use Rattle.apl_arrays.specs.Ravels.{items_of}
+use Rattle.apl_arrays.specs.Left.{listed}
 use Rattle.apl_arrays.specs.Views.{picked}
 
 -- the shape
@@ -50,6 +50,6 @@ pub record IsView (items : Items) (p : ℕ) (axes : List Axis) : Type 0 where
 -- the steps show this array
 pub record Shows (a : Arr) (s : Strided) : Type 0 where
   pub shape : a.shape ≡ lengths s.axes.now
-  pub items : a.items ≡ seen (items_of s.ravel.now) s.offset s.axes.now
-  pub steps : IsView (items_of s.ravel.now) s.offset s.axes.now
+  pub items : a.items ≡ seen (listed s.items) s.offset s.axes.now
+  pub steps : IsView (listed s.items) s.offset s.axes.now
   pub few_axes : length s.axes.now ≤ 8

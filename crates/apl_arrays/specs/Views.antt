@@ -1,8 +1,12 @@
 -- Arrays that show elements of another: at each index list, the other's element at an index list that is made of it.
-use Rattle.std.specs.Prelude.{ℕ, pos, zero, suc, ◌+◌, ◌-◌, ◌==◌, cond, List, [], ◌∷◌, map, min, max, slice_index_or}
+use Rattle.std.specs.Prelude.{◌≡◌, ℕ, true, pos, zero, suc, ◌+◌, ◌-◌, ◌==◌, cond, List, [], ◌∷◌, map, min, max, slice_index_or}
 use Rattle.std.specs.List.{range_with_len}
-use Rattle.apl_arrays.specs.Index.{indices, position_in}
-use Rattle.apl_arrays.specs.Cells.{Arr, Items, Numbers, Characters}
+use Rattle.apl_arrays.specs.Index.{indices, is_within, position_in}
+use Rattle.apl_arrays.specs.Cells.{Arr, Items, Numbers, Characters, cell_at}
+
+-- the items at the places of these indices, where d stands for one beyond the list
+abbrev pub all_at : {A I : Type 0} → List A → (I → ℕ) → List I → A → List A
+all_at xs place is d = map (λ i. slice_index_or xs (place i) d) is
 
 -- the elements at these places, one for each index list
 abbrev pub picked : Items → (List ℕ → ℕ) → List (List ℕ) → Items
@@ -12,6 +16,10 @@ picked (Characters cs) place is = Characters (map (λ i. slice_index_or cs (plac
 -- the array of this shape whose element at i is a's at g(i)
 abbrev pub selected : Arr → List ℕ → (List ℕ → List ℕ) → Arr
 selected a shape g = record { shape = shape; items = picked a.items (λ i. position_in a.shape (g i)) (indices shape) }
+
+-- at each index list within the view it has the array's element at the index list that g makes of it
+abbrev pub ShowsBy : Arr → Arr → (List ℕ → List ℕ) → Type 0
+ShowsBy view array g = (i : List ℕ) → is_within view.shape i ≡ true → cell_at view i ≡ cell_at array (g i)
 
 -- a list with f of its item for this axis
 abbrev pub on_axis : ℕ → (ℕ → ℕ) → List ℕ → List ℕ

@@ -1,44 +1,78 @@
 // An array, and what is read of it.
-ghost use Rattle.std.specs.Prelude.{◌≡◌, ◌≤◌, ◌<◌, length, [], ◌∷◌, IfOk, IfErr, map};
+ghost use Rattle.std.specs.Prelude.{◌≡◌, ◌≤◌, ◌<◌, length, [], ◌∷◌, IfOk, IfErr, IsOk, IsTrue, map, cond, true};
 ghost use Rattle.std.specs.Result.{OkIff};
 ghost use Rattle.apl_arrays.specs.Index.{size_of, bound_of, indices};
 
 use crate::cell::{Cell, Ravel};
+use crate::dense::Dense;
 use crate::elements::Elements;
-use crate::shape::{MAX_ELEMENTS, MAX_RANK, is_in_bounds, place_of};
+use crate::shape::{MAX_ELEMENTS, MAX_RANK, is_in_bounds, lengths, place_of};
 use apl_charset::Ch;
 use apl_faults::Fault;
 use arrayvec::ArrayVec;
 use std::alloc::{AllocError, Global};
 use std::marker::Model;
+use std::rc::Rc;
 
-/// A shape, and an element for each index list within it.
+/// How an array is kept: a scalar by itself, any other array by itself or shared with its copies.
+#[derive(Drop)]
+enum Kept {
+    Num(i64),
+    Char(Ch),
+    Own(Dense),
+    Dense(Rc<Dense>),
+}
+
+/// A shape, and an element for each index list within it. A scalar takes no memory.
 #[derive(Drop)]
 pub struct Array {
-    shape: ArrayVec<usize, MAX_RANK>,
-    ravel: Ravel,
+    kept: Kept,
 }
 
 impl Model for Array {
-    ghost use Rattle.apl_arrays.specs.Cells.{Arr, IsArray};
+    ghost use Rattle.apl_arrays.specs.Cells.{Arr};
 
     ghost Value = { Arr };
 
-    ghost use Rattle.apl_arrays.specs.Ravels.{items_of};
+    ghost use Rattle.apl_arrays.specs.Kept.{arr_of};
 
-    ghost view = { λ a. record { shape = a.shape.items; items = items_of a.ravel } };
-
-    ghost invariant = { λ a. IsArray a.shape.items (items_of a.ravel) };
+    ghost view = { λ a. arr_of a.kept };
 }
 
 impl Array {
     ghost use Rattle.apl_arrays.specs.Cells.{cells_of, cell_at, IsArray, Numbers, Characters};
-    ghost use Rattle.apl_arrays.specs.Simple.{simple, single};
+    ghost use Rattle.apl_arrays.specs.Kinds.{are_numbers};
+    ghost use Rattle.apl_arrays.specs.Simple.{simple, single, vector, number_of_scalar};
+    ghost use Rattle.apl_arrays.specs.Checks.{limited};
+    ghost use Rattle.apl_arrays.specs.Results.{ok_map};
     ghost use Rattle.apl_arrays.specs.Ravels.{items_of};
-    ghost use Rattle.apl_arrays.specs.Left.{cells_left};
+    ghost use Rattle.apl_arrays.specs.Left.{listed, cells_left};
+    ghost use Rattle.apl_arrays.specs.Written.{number_written};
+
+    /// A number, as a scalar.
+    #[inline]
+    pub fn number(number: i64) -> Array
+        ensures { result ≡ record { shape = []; items = Numbers (number ∷ []) } }
+    {
+        Array {
+            kept: Kept::Num(number),
+        }
+    }
+
+    /// A scalar.
+    #[inline]
+    pub fn scalar(cell: Cell) -> Array
+        ensures { result ≡ single cell }
+    {
+        let kept = match cell {
+            Cell::Num(number) => Kept::Num(number),
+            Cell::Char(character) => Kept::Char(character),
+        };
+        Array { kept }
+    }
 
     /// The array of this shape with these elements in ravel order. It is a limit fault exactly where the product of the lengths, an axis of
-    /// length 0 counted as 1, is more than [`MAX_ELEMENTS`].
+    /// length 0 counted as 1, is more than [`MAX_ELEMENTS`]. It takes no memory.
     pub fn new(shape: ArrayVec<usize, MAX_RANK>, ravel: Ravel) -> Result<Array, Fault>
         requires { length (cells_of (items_of ravel)) ≡ size_of shape.items }
         ensures ok { OkIff result (bound_of shape.items ≤ MAX_ELEMENTS) (record { shape = shape.items; items = items_of ravel }) }
@@ -46,7 +80,7 @@ impl Array {
     {
         if is_in_bounds(shape.as_slice()) {
             ravel.inspect();
-            Ok(Array { shape, ravel })
+            Ok(Array::formed(shape, ravel))
         } else {
             Err(Fault::Limit)
         }
@@ -55,8 +89,11 @@ impl Array {
     /// The same by a slice of lengths. It is a limit fault too where there are more than [`MAX_RANK`].
     pub fn from_shape(shape: &[usize], ravel: Ravel) -> Result<Array, Fault>
         requires { length (cells_of (items_of ravel)) ≡ size_of shape.now }
-        ensures ok { OkIff result ((length shape.now ≤ MAX_RANK) × (bound_of shape.now ≤ MAX_ELEMENTS)) (record { shape = shape.now; items = items_of ravel }) }
+        ensures ok { OkIff result ((length shape.now ≤ MAX_RANK) × (bound_of shape.now ≤ MAX_ELEMENTS))
+            (record { shape = shape.now; items = items_of ravel }) }
         ensures err { IfErr result (λ fault. fault ≡ Fault.Limit) }
+        // The same as one equation, for models in which a fault passes through.
+        ensures checked { result ≡ ok_map (λ s. record { shape = s; items = items_of ravel }) (limited shape.now) }
     {
         match ArrayVec::try_from(shape) {
             Ok(lengths) => Array::new(lengths, ravel),
@@ -64,12 +101,40 @@ impl Array {
         }
     }
 
-    /// The array of this shape with these elements.
-    pub(crate) fn from_parts(shape: ArrayVec<usize, MAX_RANK>, ravel: Ravel) -> Array
+    /// The array of this shape, which is within the limits, with these elements in ravel order.
+    pub fn in_shape(shape: &[usize], ravel: Ravel) -> Array
+        requires full { length (cells_of (items_of ravel)) ≡ size_of shape.now }
+        requires few { length shape.now ≤ MAX_RANK }
+        requires small { bound_of shape.now ≤ MAX_ELEMENTS }
+        ensures { result ≡ record { shape = shape.now; items = items_of ravel } }
+    {
+        ravel.inspect();
+        Array::formed(lengths(shape), ravel)
+    }
+
+    /// The array of one axis with these elements.
+    pub fn vector(ravel: Ravel) -> Array
+        requires { length (cells_of (items_of ravel)) ≤ MAX_ELEMENTS }
+        ensures { result ≡ vector (items_of ravel) }
+    {
+        let count = ravel.len();
+        Array::in_shape(&[count], ravel)
+    }
+
+    /// The array of this shape with these elements. A scalar is kept by itself.
+    pub(crate) fn formed(shape: ArrayVec<usize, MAX_RANK>, ravel: Ravel) -> Array
         requires { IsArray shape.items (items_of ravel) }
         ensures { result ≡ record { shape = shape.items; items = items_of ravel } }
     {
-        Array { shape, ravel }
+        if shape.is_empty() {
+            return match ravel.cell(0) {
+                Some(cell) => Array::scalar(cell),
+                None => unreachable!(),
+            };
+        }
+        Array {
+            kept: Kept::Own(Dense::new(shape, ravel)),
+        }
     }
 
     /// One element as a scalar, any other number of elements as a vector.
@@ -83,7 +148,7 @@ impl Array {
             shape.push(count);
         }
         ravel.inspect();
-        Array { shape, ravel }
+        Array::formed(shape, ravel)
     }
 
     /// One number as a scalar, any other number of numbers as a vector.
@@ -102,22 +167,102 @@ impl Array {
         Array::from_ravel(Ravel::Chars(characters))
     }
 
-    /// A scalar.
-    pub fn scalar(alloc: Global, cell: Cell) -> Result<Array, AllocError>
-        ensures { IfOk result (λ array. array ≡ single cell) }
+    /// The array of this one's shape with other elements.
+    pub fn with_ravel(&self, ravel: Ravel) -> Result<Array, AllocError>
+        requires { length (cells_of (items_of ravel)) ≡ size_of self.now.shape }
+        ensures { IfOk result (λ array. array ≡ record { shape = self.now.shape; items = items_of ravel }) }
     {
-        match cell {
-            Cell::Num(number) => {
-                let mut numbers = Vec::with_capacity(alloc, 1)?;
-                numbers.push(number)?;
-                Ok(Array::from_nums(numbers))
+        Ok(Array::in_shape(self.shape(), ravel))
+    }
+
+    /// The number that a scalar is; none where it is a character or an array of another rank.
+    #[inline]
+    pub fn as_number(&self) -> Option<i64>
+        ensures { result ≡ number_of_scalar self.now }
+    {
+        match &self.kept {
+            Kept::Num(number) => Some(*number),
+            Kept::Char(_) => None,
+            // What is kept so has axes, and is no scalar.
+            Kept::Own(dense) => {
+                let _axes = dense.shape();
+                None
             }
-            Cell::Char(character) => {
-                let mut characters = Vec::with_capacity(alloc, 1)?;
-                characters.push(character)?;
-                Ok(Array::from_chars(characters))
+            Kept::Dense(dense) => {
+                let _axes = dense.shape();
+                None
             }
         }
+    }
+
+    /// The lengths of the axes.
+    #[inline]
+    pub fn shape(&self) -> &[usize]
+        ensures value { result.now ≡ self.now.shape }
+        ensures array { IsArray self.now.shape self.now.items }
+    {
+        match &self.kept {
+            Kept::Num(number) => {
+                let _number = *number;
+                &[]
+            }
+            Kept::Char(character) => {
+                let _code = character.code();
+                &[]
+            }
+            Kept::Own(dense) => dense.shape(),
+            Kept::Dense(dense) => dense.shape(),
+        }
+    }
+
+    /// How many axes there are.
+    #[inline]
+    pub fn rank(&self) -> usize
+        ensures value { result ≡ length self.now.shape }
+        ensures few { result ≤ MAX_RANK }
+    {
+        self.shape().len()
+    }
+
+    /// The elements where they lie, whatever they are kept as.
+    #[inline]
+    fn lent(&self) -> Elements<'_>
+        ensures value { listed result ≡ self.now.items }
+        ensures array { IsArray self.now.shape self.now.items }
+    {
+        match &self.kept {
+            Kept::Num(number) => {
+                let _number = *number;
+                Elements::Nums(std::slice::from_ref(number))
+            }
+            Kept::Char(character) => {
+                let _code = character.code();
+                Elements::Chars(std::slice::from_ref(character))
+            }
+            Kept::Own(dense) => Elements::new(dense.ravel()),
+            Kept::Dense(dense) => Elements::new(dense.ravel()),
+        }
+    }
+
+    /// The elements where they lie, in row-major order.
+    #[inline]
+    pub fn items(&self) -> Elements<'_>
+        ensures value { listed result ≡ self.now.items }
+        ensures array { IsArray self.now.shape self.now.items }
+        ensures full { length (cells_of self.now.items) ≡ size_of self.now.shape }
+        ensures small { length (cells_of self.now.items) ≤ MAX_ELEMENTS }
+        // Row-major order is the lexicographic order of the index lists.
+        ensures in_order { map (cell_at self.now) (indices self.now.shape) ≡ map Some (cells_of self.now.items) }
+    {
+        self.lent()
+    }
+
+    /// The elements in row-major order, one after another.
+    #[inline]
+    pub fn iter(&self) -> Elements<'_>
+        ensures { cells_left result ≡ cells_of self.now.items }
+    {
+        self.lent()
     }
 
     /// The element at an index list, which is one just within the shape.
@@ -125,62 +270,61 @@ impl Array {
         ensures { result ≡ cell_at self.now index.now }
     {
         match place_of(self.shape(), index) {
-            Some(place) => self.ravel.cell(place),
+            Some(place) => self.items().cell(place),
             None => None,
         }
     }
 
-    /// The lengths of the axes.
-    pub fn shape(&self) -> &[usize]
-        ensures value { result.now ≡ self.now.shape }
-        ensures array { IsArray self.now.shape self.now.items }
-    {
-        self.shape.as_slice()
-    }
-
-    /// How many axes there are.
-    pub fn rank(&self) -> usize
-        ensures value { result ≡ length self.now.shape }
-        ensures few { result ≤ MAX_RANK }
-    {
-        self.shape.len()
-    }
-
-    /// The elements in row-major order.
-    pub fn ravel(&self) -> &Ravel
-        ensures value { items_of result.now ≡ self.now.items }
-        ensures array { IsArray self.now.shape self.now.items }
-        ensures full { length (cells_of self.now.items) ≡ size_of self.now.shape }
-        ensures small { length (cells_of self.now.items) ≤ MAX_ELEMENTS }
-        // Row-major order is the lexicographic order of the index lists.
-        ensures in_order { map (cell_at self.now) (indices self.now.shape) ≡ map Some (cells_of self.now.items) }
-    {
-        &self.ravel
-    }
-
-    /// The elements in row-major order, one after another.
-    pub fn iter(&self) -> Elements<'_>
-        ensures { cells_left result ≡ cells_of self.now.items }
-    {
-        Elements::new(&self.ravel)
-    }
-
-    /// The array of this one's shape with other elements.
-    pub fn with_ravel(&self, ravel: Ravel) -> Result<Array, AllocError>
-        requires { length (cells_of (items_of ravel)) ≡ size_of self.now.shape }
-        ensures { IfOk result (λ array. array ≡ record { shape = self.now.shape; items = items_of ravel }) }
-    {
-        ravel.inspect();
-        Ok(Array {
-            shape: self.shape.clone()?,
-            ravel,
-        })
-    }
-
-    /// An equal array.
+    /// An equal array. It takes no memory of a scalar or of an array that is [`shared`](Array::shared).
+    #[inline]
     pub fn copy(&self) -> Result<Array, AllocError>
-        ensures { IfOk result (λ copied. copied ≡ self.now) }
+        ensures value { IfOk result (λ copied. copied ≡ self.now) }
+        ensures scalar { self.now.shape ≡ [] → IsOk result }
     {
-        self.with_ravel(self.ravel.copy()?)
+        let kept = match &self.kept {
+            Kept::Num(number) => Kept::Num(*number),
+            Kept::Char(character) => Kept::Char(*character),
+            Kept::Own(dense) => {
+                let _axes = dense.shape();
+                Kept::Own(dense.copy()?)
+            }
+            Kept::Dense(dense) => {
+                let _axes = dense.shape();
+                Kept::Dense(dense.clone()?)
+            }
+        };
+        Ok(Array { kept })
+    }
+
+    /// The same array, whose copies share the elements with it from then on.
+    pub fn shared(self, alloc: Global) -> Result<Array, AllocError>
+        ensures { IfOk result (λ array. array ≡ self) }
+    {
+        let Array { kept } = self;
+        let kept = match kept {
+            Kept::Own(dense) => Kept::Dense(Rc::new(alloc, dense)?),
+            kept => kept,
+        };
+        Ok(Array { kept })
+    }
+
+    /// Writes a number in the place of another, and says whether it did. It did not where there is no number at the place, or where a copy
+    /// shares the elements.
+    pub fn set_number(&mut self, place: usize, number: i64) -> bool
+        ensures value { self.new ≡ cond result (number_written self.old place number) self.old }
+        ensures there { IsTrue result → (are_numbers self.old.items ≡ true) × (place < length (cells_of self.old.items)) }
+    {
+        match &mut self.kept {
+            Kept::Num(kept) if place == 0 => {
+                *kept = number;
+                true
+            }
+            Kept::Own(dense) => dense.set_number(place, number),
+            Kept::Dense(dense) => match Rc::get_mut(dense) {
+                Some(dense) => dense.set_number(place, number),
+                None => false,
+            },
+            _ => false,
+        }
     }
 }

@@ -1,10 +1,12 @@
 // The axis along which a function goes.
 ghost use Rattle.std.specs.Prelude.{◌≡◌};
 ghost use Rattle.apl_arrays.specs.Along.{axis_along, axis_of, axis_named, axis_numbered, first_of, last_of};
-ghost use Rattle.apl_arrays.specs.Ravels.{items_of};
+ghost use Rattle.apl_arrays.specs.Left.{listed};
+ghost use Rattle.apl_arrays.specs.Origins.{origin_number};
 
 use crate::array::Array;
-use crate::cell::Ravel;
+use crate::elements::Elements;
+use crate::origin::Origin;
 use apl_faults::Fault;
 
 /// Along which axis of an array a function goes.
@@ -22,13 +24,13 @@ impl<'a> Along<'a> {
     /// The axis of an array of so many, counted from 0. A scalar has no first and no last axis.
     ///
     /// A named axis is one number from the index origin on, in a single slot. Anything else is an axis fault.
-    pub fn axis(self, rank: usize, origin: usize) -> Result<Option<usize>, Fault>
-        ensures { result ≡ axis_along self.entry rank origin }
+    pub fn axis(self, rank: usize, origin: Origin) -> Result<Option<usize>, Fault>
+        ensures { result ≡ axis_along self.entry rank (origin_number origin) }
     {
         match self {
             Along::First => Ok(first(rank)),
             Along::Last => Ok(rank.checked_sub(1)),
-            Along::Named(slots) => match named(slots, rank, origin) {
+            Along::Named(slots) => match named(slots, rank, origin.number()) {
                 Ok(axis) => Ok(Some(axis)),
                 Err(fault) => Err(fault),
             },
@@ -48,21 +50,21 @@ fn named(slots: &[Option<Array>], rank: usize, origin: usize) -> Result<usize, F
     ensures { result ≡ axis_named rank origin slots.now }
 {
     match slots {
-        [Some(array)] => counted(array.ravel(), rank, origin),
+        [Some(array)] => counted(array.items(), rank, origin),
         _ => Err(Fault::Axis),
     }
 }
 
 /// The axis that the elements of an array count.
-fn counted(ravel: &Ravel, rank: usize, origin: usize) -> Result<usize, Fault>
-    ensures { result ≡ axis_of rank origin (items_of ravel.now) }
+fn counted(items: Elements<'_>, rank: usize, origin: usize) -> Result<usize, Fault>
+    ensures { result ≡ axis_of rank origin (listed items.entry) }
 {
-    match ravel {
-        Ravel::Nums(numbers) => match numbers.as_slice() {
+    match items {
+        Elements::Nums(numbers) => match numbers {
             [number] => numbered(*number, rank, origin),
             _ => Err(Fault::Axis),
         },
-        Ravel::Chars(_) => Err(Fault::Axis),
+        Elements::Chars(_) => Err(Fault::Axis),
     }
 }
 

@@ -1,10 +1,10 @@
 // Checks of operands.
 ghost use Rattle.std.specs.Prelude.{◌≡◌};
 ghost use Rattle.apl_arrays.specs.Checks.{limited, numbers_of};
-ghost use Rattle.apl_arrays.specs.Ravels.{items_of};
+ghost use Rattle.apl_arrays.specs.Left.{listed};
 ghost use Rattle.apl_arrays.specs.Results.{ok_map};
 
-use crate::cell::Ravel;
+use crate::elements::Elements;
 use crate::shape::{MAX_RANK, is_in_bounds};
 use apl_faults::Fault;
 
@@ -20,13 +20,13 @@ pub fn within_limits(shape: &[usize]) -> Result<(), Fault>
     }
 }
 
-/// The numbers of a ravel. Characters are a domain fault, but where there are none they serve as numbers.
-pub fn numbers_in(ravel: &Ravel) -> Result<&[i64], Fault>
-    ensures { numbers_of (items_of ravel.now) ≡ ok_map (λ numbers. numbers.now) result }
+/// The numbers among elements. Characters are a domain fault, but where there are none they serve as numbers.
+pub fn numbers_in(items: Elements<'_>) -> Result<&[i64], Fault>
+    ensures { numbers_of (listed items.entry) ≡ ok_map (λ numbers. numbers.now) result }
 {
-    match ravel {
-        Ravel::Nums(numbers) => Ok(numbers.as_slice()),
-        Ravel::Chars(characters) => {
+    match items {
+        Elements::Nums(numbers) => Ok(numbers),
+        Elements::Chars(characters) => {
             if characters.is_empty() {
                 Ok(&[])
             } else {

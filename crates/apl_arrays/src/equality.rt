@@ -4,7 +4,7 @@ ghost use Rattle.std.specs.Cmp.{partial_equiv_from_equiv};
 ghost use Rattle.apl_arrays.specs.Equality.{array_eq, array_equiv, array_same, items_input};
 
 use crate::array::Array;
-use crate::cell::Ravel;
+use crate::elements::Elements;
 use std::hash::{Hash, Hasher};
 
 /// Arrays are equal that have one shape, one type and the same elements.
@@ -14,7 +14,7 @@ impl PartialEq for Array {
     ghost laws = { partial_equiv_from_equiv array_equiv };
 
     fn eq(&self, other: &Array) -> bool {
-        self.shape() == other.shape() && self.ravel() == other.ravel()
+        self.shape() == other.shape() && self.items() == other.items()
     }
 }
 
@@ -28,9 +28,9 @@ impl Hash for Array {
     ghost respects_eq = { λ a b h. ap (λ c. items_input c.items) (array_same a b h) };
 
     fn hash<H: Hasher>(&self, state: &mut H) {
-        match self.ravel() {
-            Ravel::Nums(numbers) => numbers.hash(state),
-            Ravel::Chars(characters) => characters.hash(state),
+        match self.items() {
+            Elements::Nums(numbers) => numbers.hash(state),
+            Elements::Chars(characters) => characters.hash(state),
         }
     }
 }

@@ -1,30 +1,33 @@
 // Elements read by steps, in the order of their index lists.
-ghost use Rattle.std.specs.Prelude.{◌≡◌, ℕ, ◌+◌, ◌*◌, ◌<◌, ◌≤◌, ◌^◌, ◌++◌, length, map, slice_index_or, IfOk, OnOk};
+ghost use Rattle.std.specs.Prelude.{◌≡◌, ℕ, ◌+◌, ◌*◌, ◌<◌, ◌≤◌, ◌^◌, ◌++◌, length, IfOk, OnOk};
 ghost use Rattle.std.specs.List.{range_with_len};
 ghost use Rattle.apl_arrays.specs.Index.{indices};
 ghost use Rattle.apl_arrays.specs.Cells.{cells_of};
+ghost use Rattle.apl_arrays.specs.Left.{listed};
 ghost use Rattle.apl_arrays.specs.Ravels.{items_of};
 ghost use Rattle.apl_arrays.specs.Strides.{lengths, place_at, reach_of, seen, step_at, AllPlaced};
+ghost use Rattle.apl_arrays.specs.Views.{all_at};
 
 use crate::axis::{Axis, along};
 use crate::cell::Ravel;
+use crate::elements::Elements;
 use std::alloc::{AllocError, Global};
 
-/// The elements of a ravel at all index lists, with room for so many.
+/// The elements at all index lists, with room for so many.
 pub(crate) fn gathered(
     alloc: Global,
     room: usize,
-    ravel: &Ravel,
+    items: Elements<'_>,
     at: usize,
     axes: &[Axis],
 ) -> Result<Ravel, AllocError>
-    requires placed { AllPlaced (length (cells_of (items_of ravel.now))) at axes.now }
+    requires placed { AllPlaced (length (cells_of (listed items))) at axes.now }
     requires near { reach_of at axes.now < 2 ^ 63 }
-    ensures { IfOk result (λ r. items_of r ≡ seen (items_of ravel.now) at axes.now) }
+    ensures { IfOk result (λ r. items_of r ≡ seen (listed items.entry) at axes.now) }
 {
-    match ravel {
-        Ravel::Nums(raw) => Ok(Ravel::Nums(gather_all(alloc, room, raw.as_slice(), at, axes)?)),
-        Ravel::Chars(raw) => Ok(Ravel::Chars(gather_all(alloc, room, raw.as_slice(), at, axes)?)),
+    match items {
+        Elements::Nums(raw) => Ok(Ravel::Nums(gather_all(alloc, room, raw, at, axes)?)),
+        Elements::Chars(raw) => Ok(Ravel::Chars(gather_all(alloc, room, raw, at, axes)?)),
     }
 }
 
@@ -38,7 +41,7 @@ fn gather_all<T: Copy>(
 ) -> Result<Vec<T>, AllocError>
     requires placed { AllPlaced (length raw.now) at axes.now }
     requires near { reach_of at axes.now < 2 ^ 63 }
-    ensures { IfOk result (λ v. (d : T) → v.items ≡ map (λ i. slice_index_or raw.now (place_at at axes.now i) d) (indices (lengths axes.now))) }
+    ensures { IfOk result (λ v. (d : T) → v.items ≡ all_at raw.now (place_at at axes.now) (indices (lengths axes.now)) d) }
 {
     let mut out = Vec::with_capacity(alloc, room)?;
     gather(raw, at, axes, &mut out)?;
@@ -49,7 +52,7 @@ fn gather_all<T: Copy>(
 fn gather<T: Copy>(raw: &[T], at: usize, axes: &[Axis], out: &mut Vec<T>) -> Result<(), AllocError>
     requires placed { AllPlaced (length raw.now) at axes.now }
     requires near { reach_of at axes.now < 2 ^ 63 }
-    ensures { OnOk result ((d : T) → out.new.items ≡ out.old.items ++ map (λ i. slice_index_or raw.now (place_at at axes.now i) d) (indices (lengths axes.now))) }
+    ensures { OnOk result ((d : T) → out.new.items ≡ out.old.items ++ all_at raw.now (place_at at axes.now) (indices (lengths axes.now)) d) }
 {
     match axes {
         [] => {
@@ -69,7 +72,7 @@ fn gather<T: Copy>(raw: &[T], at: usize, axes: &[Axis], out: &mut Vec<T>) -> Res
     }
 }
 
-/// Appends the elements along an axis.
+/// Appends the elements along an axis, those that lie side by side in one copy.
 fn gather_line<T: Copy>(
     raw: &[T],
     at: usize,
@@ -78,8 +81,12 @@ fn gather_line<T: Copy>(
 ) -> Result<(), AllocError>
     requires placed { (k : ℕ) → k < axis.now.length → at + step_at axis.now k < length raw.now }
     requires near { at + (axis.now.up + axis.now.down) * axis.now.length < 2 ^ 63 }
-    ensures { OnOk result ((d : T) → out.new.items ≡ out.old.items ++ map (λ k. slice_index_or raw.now (at + step_at axis.now k) d) (range_with_len 0 axis.now.length)) }
+    ensures { OnOk result ((d : T) → out.new.items ≡ out.old.items ++ all_at raw.now (λ k. at + step_at axis.now k) (range_with_len 0 axis.now.length) d) }
 {
+    if axis.length > 0 && axis.up == 1 && axis.down == 0 {
+        out.extend_from_slice(raw.split_at(at).1.split_at(axis.length).0)?;
+        return Ok(());
+    }
     for i in 0..axis.length {
         out.push(raw[along(at, axis, i)])?;
     }

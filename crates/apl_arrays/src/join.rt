@@ -1,7 +1,7 @@
 // Axes that become one.
 ghost use Rattle.std.specs.Prelude.{◌≡◌, ◌<◌, ◌≤◌, ◌^◌, length};
 ghost use Rattle.std.specs.List.{All};
-ghost use Rattle.apl_arrays.specs.Joins.{joined_axis, joined_length, joined_skip, turned_axes, turned_skip};
+ghost use Rattle.apl_arrays.specs.inside.Joins.{joined_axis, joined_length, joined_skip, turned_axes, turned_skip};
 ghost use Rattle.apl_arrays.specs.Strides.{reach_of};
 ghost use Rattle.apl_arrays.specs.Views.{rank_of};
 

@@ -1,11 +1,11 @@
 // What a view reads.
 use crate::axis::Axis;
-use crate::cell::Ravel;
+use crate::elements::Elements;
 
-/// A ravel, and where in it each index list stands: the offset, and for each axis its steps more.
+/// Elements, and where among them each index list stands: the offset, and for each axis its steps more.
 #[derive(Clone, Copy)]
 pub struct Strided<'v> {
-    pub ravel: &'v Ravel,
+    pub items: Elements<'v>,
     pub offset: usize,
     pub axes: &'v [Axis],
 }

@@ -4,8 +4,9 @@ ghost use Rattle.std.specs.List.{All};
 
 use crate::array::Array;
 use crate::axis::{Axis, axes_of, copy_axes, lengths_of, place_in, replaced, skip};
-use crate::cell::{Cell, Ravel};
+use crate::cell::Cell;
 use crate::cells::Cells;
+use crate::elements::Elements;
 use crate::gather::gathered;
 use crate::join::turn;
 use crate::shape::{MAX_RANK, size};
@@ -15,12 +16,12 @@ use arrayvec::ArrayVec;
 use std::alloc::{AllocError, Global};
 use std::marker::Model;
 
-/// An array that is shown by steps over the ravel of another. None of its calls but [`View::copied`] takes memory.
+/// An array that is shown by steps over the elements of another. None of its calls but [`View::copied`] takes memory.
 #[derive(Drop)]
 pub struct View<'a> {
     axes: ArrayVec<Axis, MAX_RANK>,
     offset: usize,
-    ravel: &'a Ravel,
+    items: Elements<'a>,
 }
 
 impl<'a> Model for View<'a> {
@@ -28,12 +29,12 @@ impl<'a> Model for View<'a> {
 
     ghost Value = { Arr };
 
-    ghost use Rattle.apl_arrays.specs.Ravels.{items_of};
+    ghost use Rattle.apl_arrays.specs.Left.{listed};
     ghost use Rattle.apl_arrays.specs.Strides.{lengths, seen, IsView};
 
-    ghost view = { λ v. record { shape = lengths v.axes.items; items = seen (items_of v.ravel.now) v.offset v.axes.items } };
+    ghost view = { λ v. record { shape = lengths v.axes.items; items = seen (listed v.items) v.offset v.axes.items } };
 
-    ghost invariant = { λ v. IsView (items_of v.ravel.now) v.offset v.axes.items };
+    ghost invariant = { λ v. IsView (listed v.items) v.offset v.axes.items };
 }
 
 impl<'a> View<'a> {
@@ -50,7 +51,7 @@ impl<'a> View<'a> {
         View {
             axes: axes_of(array.shape()),
             offset: 0,
-            ravel: array.ravel(),
+            items: array.items(),
         }
     }
 
@@ -68,7 +69,7 @@ impl<'a> View<'a> {
         View {
             axes: replaced(self.axes.as_slice(), axis, turned_back),
             offset: self.offset,
-            ravel: self.ravel,
+            items: self.items,
         }
     }
 
@@ -83,7 +84,7 @@ impl<'a> View<'a> {
         View {
             axes: replaced(self.axes.as_slice(), axis, part),
             offset: self.offset + skip(&old, from, len),
-            ravel: self.ravel,
+            items: self.items,
         }
     }
 
@@ -98,7 +99,7 @@ impl<'a> View<'a> {
         View {
             axes: turned,
             offset: self.offset + skipped,
-            ravel: self.ravel,
+            items: self.items,
         }
     }
 
@@ -122,7 +123,7 @@ impl<'a> View<'a> {
     pub fn is_numeric(&self) -> bool
         ensures { result ≡ are_numbers self.now.items }
     {
-        self.ravel.is_numeric()
+        self.items.is_numeric()
     }
 
     /// The element at an index list, which is one just within the shape.
@@ -130,7 +131,7 @@ impl<'a> View<'a> {
         ensures { result ≡ cell_at self.now index.now }
     {
         match place_in(self.offset, self.axes.as_slice(), index) {
-            Some(place) => self.ravel.cell(place),
+            Some(place) => self.items.cell(place),
             None => None,
         }
     }
@@ -141,8 +142,8 @@ impl<'a> View<'a> {
     {
         let shape = self.shape();
         let room = size(shape.as_slice());
-        let ravel = gathered(alloc, room, self.ravel, self.offset, self.axes.as_slice())?;
-        Ok(Array::from_parts(shape, ravel))
+        let ravel = gathered(alloc, room, self.items, self.offset, self.axes.as_slice())?;
+        Ok(Array::formed(shape, ravel))
     }
 
     /// The elements in row-major order, one after another.
@@ -158,7 +159,7 @@ impl<'a> View<'a> {
         ensures { Shows self.now result }
     {
         Strided {
-            ravel: self.ravel,
+            items: self.items,
             offset: self.offset,
             axes: self.axes.as_slice(),
         }
@@ -172,7 +173,7 @@ impl<'a> Cells for View<'a> {
         View {
             axes: copy_axes(self.axes.as_slice()),
             offset: self.offset,
-            ravel: self.ravel,
+            items: self.items,
         }
     }
 }

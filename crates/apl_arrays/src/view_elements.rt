@@ -2,7 +2,7 @@
 ghost use Rattle.std.specs.Prelude.{◌≡◌, slice_get};
 ghost use Rattle.apl_arrays.specs.Cells.{cells_of};
 ghost use Rattle.apl_arrays.specs.Index.{size_of};
-ghost use Rattle.apl_arrays.specs.Ravels.{items_of};
+ghost use Rattle.apl_arrays.specs.Left.{listed};
 ghost use Rattle.apl_arrays.specs.Strides.{lengths, seen, IsView};
 
 use crate::axis::nth_place;
@@ -26,34 +26,34 @@ impl<'v> Model for ViewElements<'v> {
 
     ghost use Rattle.apl_arrays.specs.Nth.{left_after};
     ghost use Rattle.apl_arrays.specs.Index.{size_of};
-    ghost use Rattle.apl_arrays.specs.Ravels.{items_of};
+    ghost use Rattle.apl_arrays.specs.Left.{listed};
     ghost use Rattle.apl_arrays.specs.Strides.{lengths, IsView};
 
     ghost view = { λ e. left_after e.strided e.given };
 
-    ghost invariant = { λ e. IsView (items_of e.strided.ravel.now) e.strided.offset e.strided.axes.now × (e.count ≡ size_of (lengths e.strided.axes.now)) };
+    ghost invariant = { λ e. IsView (listed e.strided.items) e.strided.offset e.strided.axes.now × (e.count ≡ size_of (lengths e.strided.axes.now)) };
 }
 
 /// The element that comes after so many others. They are `count` in all.
 fn nth_cell(strided: &Strided<'_>, count: usize, nth: usize) -> Option<Cell>
-    requires steps { IsView (items_of strided.now.ravel.now) strided.now.offset strided.now.axes.now }
+    requires steps { IsView (listed strided.now.items) strided.now.offset strided.now.axes.now }
     requires whole { count ≡ size_of (lengths strided.now.axes.now) }
-    ensures { result ≡ slice_get (cells_of (seen (items_of strided.now.ravel.now) strided.now.offset strided.now.axes.now)) nth }
+    ensures { result ≡ slice_get (cells_of (seen (listed strided.now.items) strided.now.offset strided.now.axes.now)) nth }
 {
     if nth >= count {
         return None;
     }
     strided
-        .ravel
+        .items
         .cell(nth_place(strided.offset, strided.axes, count, nth))
 }
 
 impl<'v> ViewElements<'v> {
     /// All elements at the places of these steps, of which there are so many.
     pub(crate) fn new(strided: Strided<'v>, count: usize) -> ViewElements<'v>
-        requires steps { IsView (items_of strided.ravel.now) strided.offset strided.axes.now }
+        requires steps { IsView (listed strided.items) strided.offset strided.axes.now }
         requires whole { count ≡ size_of (lengths strided.axes.now) }
-        ensures { result ≡ cells_of (seen (items_of strided.entry.ravel.now) strided.entry.offset strided.entry.axes.now) }
+        ensures { result ≡ cells_of (seen (listed strided.entry.items) strided.entry.offset strided.entry.axes.now) }
     {
         ViewElements {
             strided,

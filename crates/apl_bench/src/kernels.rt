@@ -6,7 +6,7 @@ use crate::operands::Operand::{Cube, Edge, Seven, Square, Vector};
 use crate::operands::{APART, Operand};
 use Phrase::{Derived, Dyadic, Inner, Monadic, Outer, Select};
 use Phrases::{After, Once};
-use apl_arrays::{Array, Stop};
+use apl_arrays::{Array, Origin, Stop};
 use apl_code::{Function, Row};
 use apl_primitives::{Arguments, phrase_value};
 use apl_symbols::Operator::{Slash, SlashBar, Slope};
@@ -18,7 +18,7 @@ use apl_symbols::{Operator, Primitive};
 use std::alloc::Global;
 
 /// The index origin.
-const ORIGIN: usize = 1;
+const ORIGIN: Origin = Origin::One;
 
 /// A phrase without its operands. It is a [`Row`] that names no variable.
 #[derive(Clone, Copy)]

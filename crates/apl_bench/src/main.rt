@@ -10,7 +10,7 @@ mod words;
 
 use crate::kernels::{KERNELS, Kernel};
 use crate::words::{planned, words};
-use apl_arrays::{Array, Ravel, Stop};
+use apl_arrays::{Array, Elements, Stop};
 use std::alloc::AllocError;
 use std::io;
 use std::process::ExitCode;
@@ -51,7 +51,7 @@ impl From<io::Error> for Ended {
 /// A number that tells results apart: each element weighs in by its place.
 fn checksum(array: &Array) -> i64 {
     let mut sum = 0i64;
-    if let Ravel::Nums(numbers) = array.ravel() {
+    if let Elements::Nums(numbers) = array.items() {
         for number in numbers {
             sum = sum.wrapping_mul(31).wrapping_add(*number);
         }

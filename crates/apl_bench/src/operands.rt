@@ -1,7 +1,7 @@
 // The operands of kernels, the same in each run.
 ghost use Rattle.std.specs.Prelude.{◌<◌, ◌≤◌, ◌^◌};
 
-use apl_arrays::{Array, Cell, Ravel, Stop};
+use apl_arrays::{Array, Origin, Ravel, Stop};
 use apl_code::{Function, Row};
 use apl_primitives::{Arguments, phrase_value};
 use apl_symbols::Primitive;
@@ -107,7 +107,12 @@ impl Numbers {
         let lengths = Vec::from_slice(alloc, &[i64::from(side), i64::from(side)])?;
         let shape = Array::from_shape(&[2], Ravel::Nums(lengths))?;
         let reshape = Row::Dyadic(Function::Primitive(Primitive::Rho));
-        phrase_value(alloc, &reshape, Arguments::Two(&shape, &numbers), 1)
+        phrase_value(
+            alloc,
+            &reshape,
+            Arguments::Two(&shape, &numbers),
+            Origin::One,
+        )
     }
 }
 
@@ -137,7 +142,7 @@ impl Operand {
         requires { 0 < size }
     {
         match self {
-            Operand::Seven => Ok(Array::scalar(alloc, Cell::Num(7))?),
+            Operand::Seven => Ok(Array::number(7)),
             Operand::Vector(numbers) => numbers.vector(alloc, from, size, size),
             Operand::Edge(numbers) => {
                 numbers.vector(alloc, from, size, u64::from(square_side(size)))

@@ -29,12 +29,14 @@ impl Model for Text {
 }
 
 impl Text {
+    /// The text of these characters.
     pub fn new(chars: Vec<Ch>) -> Text
         ensures { result ≡ chars.items }
     {
         Text { chars }
     }
 
+    /// The characters, first to last.
     pub fn as_slice(&self) -> &[Ch]
         ensures { result.now ≡ self.now }
     {

@@ -48,6 +48,7 @@ impl Arguments {
         Arguments { sources }
     }
 
+    /// The operands: `None` is an empty slot.
     pub fn as_slice(&self) -> &[Option<Source>]
         ensures { result.now ≡ self.now }
     {

@@ -20,12 +20,14 @@ impl Model for Names {
 }
 
 impl Names {
+    /// The list of these names.
     pub fn new(items: Vec<Name>) -> Names
         ensures { result ≡ items.items }
     {
         Names { items }
     }
 
+    /// The names, first to last.
     pub fn as_slice(&self) -> &[Name]
         ensures { result.now ≡ self.now }
     {

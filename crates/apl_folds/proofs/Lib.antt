@@ -8,3 +8,7 @@ pub mod Along
 pub mod Comparisons
 pub mod Totals
 pub mod Associative
+pub mod Faults
+pub mod ByPlaces
+pub mod Whole
+pub mod Vectors

@@ -6,7 +6,7 @@ use Rattle.apl_arrays.specs.Index.{size_of, bound_of}
 use Rattle.apl_faults.specs.declared.fault.Fault.{Fault}
 use Rattle.apl_arrays.specs.declared.strided.Strided.{Strided}
 use Rattle.apl_arrays.specs.Cells.{Arr, Items}
-use Rattle.apl_arrays.specs.Ravels.{items_of}
+use Rattle.apl_arrays.specs.Left.{listed}
 use Rattle.apl_arrays.specs.Strides.{seen, Shows}
 use Rattle.apl_folds.specs.Lines.{shown_by}
 
@@ -43,5 +43,5 @@ same_array s t i j e f = ap (λ (u : List ℕ). ok_array (record { shape = u; it
 -- steps show one array
 pub shows_one : (a : Arr) (s : Strided) → Shows a s → shown_by s ≡ a
 shows_one a s h =
-    ap (λ (t : List ℕ). record { shape = t; items = seen (items_of s.ravel.now) s.offset s.axes.now }) (sym h.shape)
+    ap (λ (t : List ℕ). record { shape = t; items = seen (listed s.items) s.offset s.axes.now }) (sym h.shape)
     ∙ ap (λ (i : Items). record { shape = a.shape; items = i }) (sym h.items)

@@ -13,17 +13,17 @@ use Rattle.apl_scalar.specs.Functions.{dyadic_of}
 use Rattle.apl_scalar.proofs.Signs.{in_range-fits}
 use Rattle.apl_folds.specs.declared.running.Running.{Running}
 use Rattle.apl_folds.specs.Lines.{fold_by, line_of}
-use Rattle.apl_folds.specs.Sums.{total, magnitudes, IsRunning}
+use Rattle.apl_folds.specs.inside.Sums.{total, magnitudes, IsRunning}
 use Rattle.apl_folds.proofs.Rows.{line_more}
 
 abs-add : (x y : ℤ) → unsigned_abs (x +ℤ y) ≤ unsigned_abs x + unsigned_abs y
 abs-add x y = omega (arith, ints)
 
-total_small : (xs : List ℤ) → unsigned_abs (total xs) ≤ magnitudes xs
+pub total_small : (xs : List ℤ) → unsigned_abs (total xs) ≤ magnitudes xs
 total_small [] = omega arith
 total_small (x ∷ xs) = omega (arith, abs-add x (total xs), total_small xs)
 
-fits_below : (z : ℤ) → unsigned_abs z < 2 ^ 63 → FitsSigned w64 z
+pub fits_below : (z : ℤ) → unsigned_abs z < 2 ^ 63 → FitsSigned w64 z
 fits_below z h = omega (arith, ints)
 
 -- what is equal to a number that fits
@@ -67,7 +67,7 @@ fold_total (x ∷ y ∷ ys) h m =
     ∙ in_range-fits (x +ℤ total (y ∷ ys)) (fits_below (x +ℤ total (y ∷ ys)) small)
 
 -- one number more
-total_more : (xs : List ℤ) (x : ℤ) → total (xs ++ x ∷ []) ≡ total xs +ℤ x
+pub total_more : (xs : List ℤ) (x : ℤ) → total (xs ++ x ∷ []) ≡ total xs +ℤ x
 total_more [] x = turned x (pos 0)
 total_more (y ∷ ys) x = ap (λ t. y +ℤ t) (total_more ys x) ∙ grouped y (total ys) x
 

@@ -1,5 +1,6 @@
 pub mod Folds
 pub mod Scans
 pub mod Lines
-pub mod Sums
 pub mod Chains
+pub mod inside
+pub mod Order

@@ -1,5 +1,6 @@
 -- Lines of items in a ravel, and the folds of their first items.
-use Rattle.std.specs.Prelude.{ℕ, ℤ, pos, ◌+◌, ◌*◌, ◌^◌, ◌<◌, ◌≤◌, ◌≡◌, List, [], ◌∷◌, map, length, slice_index_or, Bool, true, false, nat_eq, Option, None, Some, IfSome, Result, Ok, Err}
+use Rattle.std.specs.Prelude.{ℕ, ℤ, pos, ◌+◌, ◌-◌, ◌*◌, ◌^◌, ◌<◌, ◌≤◌, ◌≡◌, Bool, true, false, nat_eq}
+use Rattle.std.specs.Prelude.{List, [], ◌∷◌, map, length, slice_index_or, Option, None, Some, IfSome, Result, Ok, Err}
 use Rattle.std.specs.List.{range_with_len}
 use Rattle.apl_faults.specs.declared.fault.Fault.{Fault}
 use Rattle.apl_faults.specs.declared.fault.Fault.TheVariants.{Domain}
@@ -10,10 +11,11 @@ use Rattle.apl_arrays.specs.Results.{and_then, all_ok}
 use Rattle.apl_arrays.specs.Strides.{lengths, seen, step_at, place_at, reach_of}
 use Rattle.apl_arrays.specs.declared.strided.Strided.{Strided}
 use Rattle.apl_arrays.specs.Cells.{Arr}
-use Rattle.apl_arrays.specs.Ravels.{items_of}
+use Rattle.apl_arrays.specs.Left.{listed}
 use Rattle.apl_scalar.specs.declared.function.Dyadic.{Dyadic}
 use Rattle.apl_scalar.specs.Extension.{compared}
 use Rattle.apl_folds.specs.declared.lines.Lines.{Lines}
+use Rattle.apl_folds.specs.declared.walk.Start.{Start}
 
 -- of one number the number, of more the function of the first and the fold of the others; it is asked of no empty list
 abbrev pub fold_by : (ℤ → ℤ → Result ℤ Fault) → List ℤ → Result ℤ Fault
@@ -24,6 +26,22 @@ fold_by f (x ∷ y ∷ ys) = and_then (fold_by f (y ∷ ys)) (λ z. f x z)
 -- the first so many items along an axis from a place on
 abbrev pub line_of : {A : Type 0} → A → List A → Axis → ℕ → ℕ → List A
 line_of none raw axis p count = map (λ k. slice_index_or raw (p + step_at axis k) none) (range_with_len 0 count)
+
+-- the fold of the first so many numbers along an axis from a place on
+abbrev pub line_fold : (ℤ → ℤ → Result ℤ Fault) → List ℤ → Axis → ℕ → ℕ → Result ℤ Fault
+line_fold f raw axis p count = fold_by f (line_of (pos 0) raw axis p count)
+
+-- the folds of the lines of so many numbers that begin from one place to another, side by side
+abbrev pub folds_beside : (ℤ → ℤ → Result ℤ Fault) → List ℤ → Axis → ℕ → ℕ → ℕ → Result (List ℤ) Fault
+folds_beside f raw axis count from till = all_ok (λ p. line_fold f raw axis p count) (range_with_len from (till - from))
+
+-- each number of a row is taken into the fold beside it
+abbrev pub AreTaken : (ℤ → ℤ → Result ℤ Fault) → List ℤ → List ℤ → List ℤ → Type 0
+AreTaken f row old new = (j : ℕ) → j < length old → f (slice_index_or row j (pos 0)) (slice_index_or old j (pos 0)) ≡ Ok (slice_index_or new j (pos 0))
+
+-- each of these numbers is the fold of one of the lines that begin from a place on, side by side
+abbrev pub AreFolds : (ℤ → ℤ → Result ℤ Fault) → List ℤ → Axis → ℕ → ℕ → List ℤ → Type 0
+AreFolds f raw axis at count folds = (j : ℕ) → j < length folds → line_fold f raw axis (at + j) count ≡ Ok (slice_index_or folds j (pos 0))
 
 -- a line from a place on lies within so many items, and its first items are asked for
 pub record IsLine (size : ℕ) (axis : Axis) (p count : ℕ) : Type 0 where
@@ -42,6 +60,11 @@ abbrev pub count_at : ℕ → Option ℕ → List ℕ → ℕ
 count_at count None is = count
 count_at count (Some depth) is = slice_index_or is depth 0 + 1
 
+-- this holds of the line of each index list
+abbrev pub OfEach : (ℕ → ℕ → Type 0) → Start → List Axis → Type 0
+OfEach P start axes =
+    (is : List ℕ) → is_within (lengths axes) is ≡ true → P (start_at start.at start.depth axes is) (count_at start.count start.depth is)
+
 -- of two characters whether they are the same; what more of them is compared with is a number
 abbrev pub agree : List ℕ → Bool
 agree [] = false
@@ -57,16 +80,20 @@ made make p count depth axes = all_ok (λ is. make (start_at p depth axes is) (c
 pub record AreLines (size : ℕ) (lines : Lines) : Type 0 where
   pub depth : IfSome lines.start.depth (λ depth. depth < length lines.axes.now)
   pub near : reach_of lines.start.at lines.axes.now < 2 ^ 63
-  pub each : (is : List ℕ) → is_within (lengths lines.axes.now) is ≡ true → IsLine size lines.inner (start_at lines.start.at lines.start.depth lines.axes.now is) (count_at lines.start.count lines.start.depth is)
+  pub each : OfEach (IsLine size lines.inner) lines.start lines.axes.now
+
+-- the same for lines
+abbrev pub made_of : (ℕ → ℕ → Result ℤ Fault) → Lines → Result (List ℤ) Fault
+made_of make lines = made make lines.start.at lines.start.count lines.start.depth lines.axes.now
 
 -- the folds of the numbers of each line
 abbrev pub line_folds : (ℤ → ℤ → Result ℤ Fault) → List ℤ → Lines → Result (List ℤ) Fault
-line_folds f raw lines = made (λ p count. fold_by f (line_of (pos 0) raw lines.inner p count)) lines.start.at lines.start.count lines.start.depth lines.axes.now
+line_folds f raw lines = made_of (line_fold f raw lines.inner) lines
 
 -- the folds of the characters of each line, which are two or more
 abbrev pub line_comparisons : Dyadic → List ℕ → Lines → Result (List ℤ) Fault
-line_comparisons f raw lines = made (λ p count. compared f (agree (line_of 0 raw lines.inner p count))) lines.start.at lines.start.count lines.start.depth lines.axes.now
+line_comparisons f raw lines = made_of (λ p count. compared f (agree (line_of 0 raw lines.inner p count))) lines
 
 -- the array that steps show
 abbrev pub shown_by : Strided → Arr
-shown_by s = record { shape = lengths s.axes.now; items = seen (items_of s.ravel.now) s.offset s.axes.now }
+shown_by s = record { shape = lengths s.axes.now; items = seen (listed s.items) s.offset s.axes.now }

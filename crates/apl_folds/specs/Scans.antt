@@ -37,6 +37,10 @@ abbrev pub scannable : Arr → Option ℕ → Result (Unit {0}) Fault
 scannable a None = Ok tt
 scannable a (Some axis) = demand (stays axis a || are_numbers a.items) Domain
 
+-- what is looked at before memory is asked for: the axis, and then whether the elements can be scanned along it
+abbrev pub scan_checked : Along → Arr → ℕ → Result (Unit {0}) Fault
+scan_checked along a origin = and_then (axis_along along (length a.shape) origin) (scannable a)
+
 -- the fronts, unless the array stays
 abbrev pub scanned_along : Dyadic → ℕ → Arr → Result Arr Fault
 scanned_along f axis a = and_then (scannable a (Some axis)) (λ u. cond (stays axis a) (Ok a) (fronts_shaped f axis a))

@@ -1,7 +1,7 @@
 // Folds of lines of numbers by associative functions, each front from the one before it.
-ghost use Rattle.std.specs.Prelude.{◌≡◌, ◌<◌, ◌+◌, length, pos, Ok};
+ghost use Rattle.std.specs.Prelude.{◌≡◌, ◌<◌, ◌+◌, length, Ok};
 ghost use Rattle.apl_folds.specs.Chains.{IsAssociative};
-ghost use Rattle.apl_folds.specs.Lines.{fold_by, line_of, IsLine};
+ghost use Rattle.apl_folds.specs.Lines.{line_fold, IsLine};
 
 use crate::columns::push_columns;
 use crate::line::{fold_line, nth};
@@ -30,8 +30,8 @@ fn longer<F: Scalar>(
 ) -> Result<i64, Fault>
     requires line { IsLine (length numbers.now) axis.now at (index + 1) }
     requires associative { IsAssociative F.meaning }
-    requires known { 0 < index → fold_by F.meaning (line_of (pos 0) numbers.now axis.now at index) ≡ Ok before }
-    ensures { result ≡ fold_by F.meaning (line_of (pos 0) numbers.now axis.now at (index + 1)) }
+    requires known { 0 < index → line_fold F.meaning numbers.now axis.now at index ≡ Ok before }
+    ensures { result ≡ line_fold F.meaning numbers.now axis.now at (index + 1) }
 {
     let number = nth(numbers, axis, at, index);
     if index == 0 {
@@ -43,7 +43,7 @@ fn longer<F: Scalar>(
 impl<'a, F: Scalar> Leaf for Chain<'a, F> {
     ghost has = { λ s p count. IsLine (length s.numbers.now) s.axis p count × IsAssociative F.meaning };
 
-    ghost gives = { λ s p count. fold_by F.meaning (line_of (pos 0) s.numbers.now s.axis p count) };
+    ghost gives = { λ s p count. line_fold F.meaning s.numbers.now s.axis p count };
 
     fn value(&self, at: usize, count: usize) -> Result<i64, Fault> {
         fold_line::<F>(self.numbers, &self.axis, at, count)

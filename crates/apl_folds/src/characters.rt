@@ -1,25 +1,12 @@
 // Folds of lines of characters.
 ghost use Rattle.std.specs.Prelude.{◌≡◌, ◌^◌, ◌<◌, ◌≤◌, ◌+◌, ◌*◌, ℕ, Bool, cond, length, slice_index_or, Ok, Err};
 ghost use Rattle.apl_arrays.specs.Strides.{step_at};
-ghost use Rattle.apl_scalar.specs.Extension.{compared};
 ghost use Rattle.apl_folds.specs.Lines.{agree, line_of, IsLine};
 
 use crate::walk::Leaf;
 use apl_arrays::{Axis, along};
 use apl_charset::Ch;
 use apl_faults::Fault;
-use apl_scalar::Dyadic;
-
-/// The value of a function for two items that are not both numbers.
-pub(crate) fn compare(function: Dyadic, same: bool) -> Result<i64, Fault>
-    ensures { result ≡ compared function same }
-{
-    match function {
-        Dyadic::Equal => Ok(if same { 1 } else { 0 }),
-        Dyadic::NotEqual => Ok(if same { 0 } else { 1 }),
-        _ => Err(Fault::Domain),
-    }
-}
 
 /// The characters along an axis, two or more, to be folded by a function of which the values for equal and for other items are known.
 #[derive(Drop)]

@@ -1,31 +1,21 @@
 // Folds of lines of numbers that begin side by side, a row of them at a time.
-ghost use Rattle.std.specs.Prelude.{◌≡◌, ◌^◌, ◌<◌, ◌≤◌, ◌+◌, ◌-◌, ◌*◌, ◌≤ℤ◌, ℕ, length, slice_index_or, slice_range, pos, IsTrue, Ok};
-ghost use Rattle.std.specs.List.{range_with_len};
+ghost use Rattle.std.specs.Prelude.{◌≡◌, ◌^◌, ◌<◌, ◌≤◌, ◌+◌, ◌*◌, ◌≤ℤ◌, ℕ, length, slice_index_or, pos, IsTrue};
 ghost use Rattle.apl_arrays.specs.Answers.{Appends};
-ghost use Rattle.apl_arrays.specs.Results.{all_ok};
 ghost use Rattle.apl_arrays.specs.Strides.{step_at};
-ghost use Rattle.apl_folds.specs.Lines.{fold_by, line_of, IsLine};
+ghost use Rattle.apl_folds.specs.Lines.{folds_beside, AreFolds, AreTaken, IsLine};
 
 use crate::line::{fold_strided, row};
 use apl_arrays::{Axis, Stop, along};
-use apl_scalar::Scalar;
+use apl_scalar::{Scalar, either};
 
 /// How many lines are folded together.
 const BLOCK: usize = 512;
-
-/// Both flags in one, negative where either is.
-#[inline(always)]
-fn either(x: i64, y: i64) -> i64
-    ensures { pos 0 ≤ℤ result → (pos 0 ≤ℤ x) × (pos 0 ≤ℤ y) }
-{
-    x | y
-}
 
 /// Takes a number more into each fold, before the numbers that are in it. It answers a flag, which is not negative only if all are values.
 #[inline(never)]
 fn take_row<F: Scalar>(numbers: &[i64], folds: &mut [i64]) -> i64
     requires { length numbers.now ≡ length folds.old }
-    ensures { pos 0 ≤ℤ result → (j : ℕ) → j < length folds.old → F.meaning (slice_index_or numbers.now j (pos 0)) (slice_index_or folds.old j (pos 0)) ≡ Ok (slice_index_or folds.new j (pos 0)) }
+    ensures { pos 0 ≤ℤ result → AreTaken F.meaning numbers.now folds.old folds.new }
 {
     let mut flags = 0i64;
     for j in 0..folds.len() {
@@ -59,7 +49,7 @@ fn fold_block<F: Scalar>(
 ) -> bool
     requires some { 0 < length folds.old }
     requires lines { (j : ℕ) → j < length folds.old → IsLine (length numbers.now) axis.now (at + j) count }
-    ensures { IsTrue result → (j : ℕ) → j < length folds.old → fold_by F.meaning (line_of (pos 0) numbers.now axis.now (at + j) count) ≡ Ok (slice_index_or folds.new j (pos 0)) }
+    ensures { IsTrue result → AreFolds F.meaning numbers.now axis.now at count folds.new }
 {
     let last = count - 1;
     folds.copy_from_slice(beside(numbers, axis, at, last, folds.len()));
@@ -81,7 +71,7 @@ fn push_each<F: Scalar>(
     out: &mut Vec<i64>,
 ) -> Result<(), Stop>
     requires { (p : ℕ) → from ≤ p → p < till → IsLine (length numbers.now) axis.now p count }
-    ensures { Appends out.old.items out.new.items (all_ok (λ p. fold_by F.meaning (line_of (pos 0) numbers.now axis.now p count)) (range_with_len from (till - from))) result }
+    ensures { Appends out.old.items out.new.items (folds_beside F.meaning numbers.now axis.now count from till) result }
 {
     for at in from..till {
         match fold_strided::<F>(numbers, axis, at, count) {
@@ -105,7 +95,7 @@ fn push_block<F: Scalar>(
     requires order { from < till }
     requires few { till ≤ from + BLOCK }
     requires lines { (p : ℕ) → from ≤ p → p < till → IsLine (length numbers.now) axis.now p count }
-    ensures { Appends out.old.items out.new.items (all_ok (λ p. fold_by F.meaning (line_of (pos 0) numbers.now axis.now p count)) (range_with_len from (till - from))) result }
+    ensures { Appends out.old.items out.new.items (folds_beside F.meaning numbers.now axis.now count from till) result }
 {
     let folds = &mut room[..till - from];
     if fold_block::<F>(numbers, axis, from, count, folds) {
@@ -126,7 +116,7 @@ pub(crate) fn push_columns<F: Scalar>(
 ) -> Result<(), Stop>
     requires order { first ≤ till }
     requires lines { (p : ℕ) → first ≤ p → p < till → IsLine (length numbers.now) axis.now p count }
-    ensures { Appends out.old.items out.new.items (all_ok (λ p. fold_by F.meaning (line_of (pos 0) numbers.now axis.now p count)) (range_with_len first (till - first))) result }
+    ensures { Appends out.old.items out.new.items (folds_beside F.meaning numbers.now axis.now count first till) result }
 {
     let mut room = [0i64; BLOCK];
     let mut from = first;

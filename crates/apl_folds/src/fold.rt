@@ -6,12 +6,8 @@ ghost use Rattle.apl_folds.specs.Folds.{folded, identity};
 ghost use Rattle.apl_folds.specs.Lines.{fold_by};
 
 use crate::sums::sum_row;
-use crate::swapped::Swapped;
 use apl_faults::Fault;
-use apl_scalar::{
-    And, Difference, Dyadic, Equal, Less, Logical, Maximum, Minimum, Nand, Nor, NotEqual,
-    NotGreater, Or, Power, Product, Quotient, Residue, Scalar,
-};
+use apl_scalar::{ByFunction, Dyadic, Scalar};
 
 /// The fold of no number, which [`Dyadic::Nand`] and [`Dyadic::Nor`] have not.
 pub(crate) fn identity_of(function: Dyadic) -> Result<i64, Fault>
@@ -64,30 +60,32 @@ pub(crate) fn fold_right<F: Scalar>(numbers: &[i64]) -> Result<i64, Fault>
     fold_from::<F>(numbers, last, numbers[last])
 }
 
+/// One or more numbers, to be folded by a scalar function.
+#[derive(Clone, Copy)]
+struct Row<'a> {
+    numbers: &'a [i64],
+}
+
+impl<'a> ByFunction for Row<'a> {
+    type Output = Result<i64, Fault>;
+
+    ghost can = { λ s f. 0 < length s.numbers.now };
+
+    ghost gives = { λ s f result. result ≡ fold_by f s.numbers.now };
+
+    fn with<F: Scalar>(self) -> Result<i64, Fault> {
+        fold_right::<F>(self.numbers)
+    }
+}
+
 /// The fold of one or more numbers.
-fn fold_some(function: Dyadic, numbers: &[i64]) -> Result<i64, Fault>
+pub(crate) fn fold_some(function: Dyadic, numbers: &[i64]) -> Result<i64, Fault>
     requires { 0 < length numbers.now }
     ensures { result ≡ fold_by (dyadic_of function) numbers.now }
 {
     match function {
         Dyadic::Plus => sum_row(numbers),
-        Dyadic::Minus => fold_right::<Difference>(numbers),
-        Dyadic::Times => fold_right::<Product>(numbers),
-        Dyadic::Divide => fold_right::<Quotient>(numbers),
-        Dyadic::Power => fold_right::<Power>(numbers),
-        Dyadic::Maximum => fold_right::<Maximum>(numbers),
-        Dyadic::Minimum => fold_right::<Minimum>(numbers),
-        Dyadic::Residue => fold_right::<Residue>(numbers),
-        Dyadic::Less => fold_right::<Less>(numbers),
-        Dyadic::NotGreater => fold_right::<NotGreater>(numbers),
-        Dyadic::Equal => fold_right::<Equal>(numbers),
-        Dyadic::NotLess => fold_right::<Swapped<NotGreater>>(numbers),
-        Dyadic::Greater => fold_right::<Swapped<Less>>(numbers),
-        Dyadic::NotEqual => fold_right::<NotEqual>(numbers),
-        Dyadic::And => fold_right::<Logical<And>>(numbers),
-        Dyadic::Or => fold_right::<Logical<Or>>(numbers),
-        Dyadic::Nand => fold_right::<Logical<Nand>>(numbers),
-        Dyadic::Nor => fold_right::<Logical<Nor>>(numbers),
+        _ => function.apply(Row { numbers }),
     }
 }
 

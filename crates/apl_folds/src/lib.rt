@@ -5,15 +5,17 @@ mod chains;
 mod characters;
 mod columns;
 mod fold;
+mod fronts;
 mod line;
 mod lines;
+mod order;
 mod reduction;
 mod running;
 mod scanning;
 mod sums;
-mod swapped;
 mod walk;
 
 pub use fold::fold_numbers;
+pub use order::{Ordered, in_order};
 pub use reduction::reduce;
 pub use scanning::scan;

@@ -1,7 +1,7 @@
 // Folds of the first items of lines of numbers.
-ghost use Rattle.std.specs.Prelude.{◌≡◌, ◌^◌, ◌<◌, ◌≤◌, ◌+◌, ◌*◌, ℕ, length, slice_index_or, slice_range, pos};
+ghost use Rattle.std.specs.Prelude.{◌≡◌, ◌^◌, ◌<◌, ◌≤◌, ◌+◌, ◌*◌, length, slice_index_or, slice_range, pos};
 ghost use Rattle.apl_arrays.specs.Strides.{step_at};
-ghost use Rattle.apl_folds.specs.Lines.{fold_by, line_of, IsLine};
+ghost use Rattle.apl_folds.specs.Lines.{line_fold, IsLine};
 
 use crate::columns::push_columns;
 use crate::fold::fold_right;
@@ -38,7 +38,7 @@ pub(crate) fn fold_strided<F: Scalar>(
     count: usize,
 ) -> Result<i64, Fault>
     requires { IsLine (length numbers.now) axis.now at count }
-    ensures { result ≡ fold_by F.meaning (line_of (pos 0) numbers.now axis.now at count) }
+    ensures { result ≡ line_fold F.meaning numbers.now axis.now at count }
 {
     let last = count - 1;
     let mut all = nth(numbers, axis, at, last);
@@ -68,7 +68,7 @@ pub(crate) fn fold_line<F: Scalar>(
     count: usize,
 ) -> Result<i64, Fault>
     requires { IsLine (length numbers.now) axis.now at count }
-    ensures { result ≡ fold_by F.meaning (line_of (pos 0) numbers.now axis.now at count) }
+    ensures { result ≡ line_fold F.meaning numbers.now axis.now at count }
 {
     if axis.up != 1 {
         return fold_strided::<F>(numbers, axis, at, count);
@@ -82,7 +82,7 @@ pub(crate) fn fold_line<F: Scalar>(
 impl<'a, F: Scalar> Leaf for Fold<'a, F> {
     ghost has = { λ s p count. IsLine (length s.numbers.now) s.axis p count };
 
-    ghost gives = { λ s p count. fold_by F.meaning (line_of (pos 0) s.numbers.now s.axis p count) };
+    ghost gives = { λ s p count. line_fold F.meaning s.numbers.now s.axis p count };
 
     fn value(&self, at: usize, count: usize) -> Result<i64, Fault> {
         fold_line::<F>(self.numbers, &self.axis, at, count)

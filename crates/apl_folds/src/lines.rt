@@ -1,28 +1,23 @@
 // Folds of all lines along an axis.
-ghost use Rattle.std.specs.Prelude.{◌≡◌, ◌^◌, ◌<◌, ◌≤◌, ℕ, List, length, pos, true, IfSome};
+ghost use Rattle.std.specs.Prelude.{◌^◌, ◌<◌, length, IfSome};
 ghost use Rattle.apl_arrays.specs.Answers.{Answers};
-ghost use Rattle.apl_arrays.specs.Index.{is_within};
-ghost use Rattle.apl_arrays.specs.Strides.{lengths, reach_of};
+ghost use Rattle.apl_arrays.specs.Strides.{reach_of};
 ghost use Rattle.apl_scalar.specs.declared.function.Dyadic.TheVariants as two;
 ghost use Rattle.apl_scalar.specs.Functions.{dyadic_of};
 ghost use Rattle.apl_folds.specs.Chains.{IsAssociative};
 ghost use Rattle.apl_folds.specs.Folds.{identity};
-ghost use Rattle.apl_folds.specs.Lines.{start_at, count_at, made, line_folds, line_comparisons, AreLines};
+ghost use Rattle.apl_folds.specs.Lines.{made_of, line_folds, line_comparisons, AreLines, OfEach};
 
 use crate::chains::Chain;
-use crate::characters::{Comparison, compare};
+use crate::characters::Comparison;
 use crate::fold::identity_of;
 use crate::line::Fold;
 use crate::running::Total;
-use crate::swapped::Swapped;
 use crate::walk::{Leaf, Start, walk};
 use apl_arrays::{Axis, Stop};
 use apl_charset::Ch;
 use apl_faults::Fault;
-use apl_scalar::{
-    And, Difference, Dyadic, Equal, Less, Logical, Maximum, Minimum, Nand, Nor, NotEqual,
-    NotGreater, Or, Power, Product, Quotient, Residue, Scalar,
-};
+use apl_scalar::{And, ByFunction, Dyadic, Logical, Maximum, Minimum, Or, Scalar};
 use std::alloc::Global;
 use std::marker::PhantomData;
 
@@ -38,9 +33,9 @@ pub(crate) struct Lines<'a> {
 /// What a leaf makes of each line, or the first fault.
 fn walked<L: Leaf>(alloc: Global, leaf: &L, lines: &Lines<'_>) -> Result<Vec<i64>, Stop>
     requires depth { IfSome lines.now.start.depth (λ depth. depth < length lines.now.axes.now) }
-    requires lines { (is : List ℕ) → is_within (lengths lines.now.axes.now) is ≡ true → L.has leaf.now (start_at lines.now.start.at lines.now.start.depth lines.now.axes.now is) (count_at lines.now.start.count lines.now.start.depth is) }
+    requires lines { OfEach (L.has leaf.now) lines.now.start lines.now.axes.now }
     requires near { reach_of lines.now.start.at lines.now.axes.now < 2 ^ 63 }
-    ensures { Answers (λ v. v.items) (made (L.gives leaf.now) lines.now.start.at lines.now.start.count lines.now.start.depth lines.now.axes.now) result }
+    ensures { Answers (λ v. v.items) (made_of (L.gives leaf.now) lines.now) result }
 {
     let mut out = Vec::with_capacity(alloc, lines.room)?;
     walk(leaf, lines.start, lines.axes, &mut out)?;
@@ -58,6 +53,26 @@ fn fold_each<F: Scalar>(alloc: Global, numbers: &[i64], lines: &Lines<'_>) -> Re
         by: PhantomData,
     };
     walked(alloc, &leaf, lines)
+}
+
+/// The numbers of each line, to be folded by a scalar function.
+#[derive(Clone, Copy)]
+struct Folds<'a> {
+    alloc: Global,
+    numbers: &'a [i64],
+    lines: &'a Lines<'a>,
+}
+
+impl<'a> ByFunction for Folds<'a> {
+    type Output = Result<Vec<i64>, Stop>;
+
+    ghost can = { λ s f. AreLines (length s.numbers.now) s.lines.now };
+
+    ghost gives = { λ s f result. Answers (λ v. v.items) (line_folds f s.numbers.now s.lines.now) result };
+
+    fn with<F: Scalar>(self) -> Result<Vec<i64>, Stop> {
+        fold_each::<F>(self.alloc, self.numbers, self.lines)
+    }
 }
 
 /// The folds of the numbers of each line by an associative function, or the first fault.
@@ -102,23 +117,15 @@ pub(crate) fn folds_of_numbers(
 {
     match function {
         Dyadic::Plus => sum_each(alloc, numbers, lines),
-        Dyadic::Minus => fold_each::<Difference>(alloc, numbers, lines),
-        Dyadic::Times => fold_each::<Product>(alloc, numbers, lines),
-        Dyadic::Divide => fold_each::<Quotient>(alloc, numbers, lines),
-        Dyadic::Power => fold_each::<Power>(alloc, numbers, lines),
         Dyadic::Maximum => chain_each::<Maximum>(alloc, numbers, lines),
         Dyadic::Minimum => chain_each::<Minimum>(alloc, numbers, lines),
-        Dyadic::Residue => fold_each::<Residue>(alloc, numbers, lines),
-        Dyadic::Less => fold_each::<Less>(alloc, numbers, lines),
-        Dyadic::NotGreater => fold_each::<NotGreater>(alloc, numbers, lines),
-        Dyadic::Equal => fold_each::<Equal>(alloc, numbers, lines),
-        Dyadic::NotLess => fold_each::<Swapped<NotGreater>>(alloc, numbers, lines),
-        Dyadic::Greater => fold_each::<Swapped<Less>>(alloc, numbers, lines),
-        Dyadic::NotEqual => fold_each::<NotEqual>(alloc, numbers, lines),
         Dyadic::And => chain_each::<Logical<And>>(alloc, numbers, lines),
         Dyadic::Or => chain_each::<Logical<Or>>(alloc, numbers, lines),
-        Dyadic::Nand => fold_each::<Logical<Nand>>(alloc, numbers, lines),
-        Dyadic::Nor => fold_each::<Logical<Nor>>(alloc, numbers, lines),
+        _ => function.apply(Folds {
+            alloc,
+            numbers,
+            lines,
+        }),
     }
 }
 
@@ -135,8 +142,8 @@ pub(crate) fn folds_of_characters(
     let leaf = Comparison {
         characters,
         axis: lines.inner,
-        same: compare(function, true),
-        other: compare(function, false),
+        same: function.compared(true),
+        other: function.compared(false),
     };
     walked(alloc, &leaf, lines)
 }
@@ -165,7 +172,7 @@ pub(crate) fn folds_of_none(
 ) -> Result<Vec<i64>, Stop>
     requires depth { IfSome lines.now.start.depth (λ depth. depth < length lines.now.axes.now) }
     requires near { reach_of lines.now.start.at lines.now.axes.now < 2 ^ 63 }
-    ensures { Answers (λ v. v.items) (made (λ p count. identity function) lines.now.start.at lines.now.start.count lines.now.start.depth lines.now.axes.now) result }
+    ensures { Answers (λ v. v.items) (made_of (λ p count. identity function) lines.now) result }
 {
     let leaf = Constant {
         value: identity_of(function),

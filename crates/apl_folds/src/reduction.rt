@@ -1,20 +1,29 @@
 // Reduction along an axis.
-ghost use Rattle.std.specs.Prelude.{◌≡◌, ◌≢◌, ◌<◌, ◌≤◌, length, Ok};
+ghost use Rattle.std.specs.Prelude.{◌≡◌, ◌≢◌, ◌<◌, ◌≤◌, [], ◌∷◌, length, IfSome, Ok};
 ghost use Rattle.apl_arrays.specs.Answers.{Answers, FaultsFirst};
 ghost use Rattle.apl_arrays.specs.Along.{axis_along};
 ghost use Rattle.apl_arrays.specs.Cells.{cells_of};
 ghost use Rattle.apl_arrays.specs.Index.{bound_of, size_of};
+ghost use Rattle.apl_arrays.specs.Left.{listed};
+ghost use Rattle.apl_arrays.specs.Origins.{origin_number};
 ghost use Rattle.apl_arrays.specs.Ravels.{items_of};
+ghost use Rattle.apl_arrays.specs.Results.{ok_map};
 ghost use Rattle.apl_arrays.specs.Strides.{IsView};
 ghost use Rattle.apl_arrays.specs.Views.{length_of};
+ghost use Rattle.apl_scalar.specs.Extension.{numbers_in};
 ghost use Rattle.apl_folds.specs.Folds.{folds_along, folds_shaped, squeezed, reduced_along, reduction};
 ghost use Rattle.apl_folds.specs.Lines.{shown_by};
 
+use crate::fold::fold_numbers;
+use crate::line::row;
 use crate::lines::{Lines, folds_of_characters, folds_of_none, folds_of_numbers};
+use crate::order::in_order;
 use crate::walk::Start;
 use apl_arrays::{
-    Along, Array, Cells, MAX_ELEMENTS, MAX_RANK, Ravel, Stop, Strided, View, copy_axes, size,
+    Along, Array, Cells, Elements, MAX_ELEMENTS, MAX_RANK, Origin, Ravel, Stop, Strided, View,
+    copy_axes, size,
 };
+use apl_faults::Fault;
 use apl_scalar::Dyadic;
 use arrayvec::ArrayVec;
 use std::alloc::Global;
@@ -27,7 +36,7 @@ pub(crate) fn folds(
     strided: &Strided<'_>,
     room: usize,
 ) -> Result<Vec<i64>, Stop>
-    requires steps { IsView (items_of strided.now.ravel.now) strided.now.offset strided.now.axes.now }
+    requires steps { IsView (listed strided.now.items) strided.now.offset strided.now.axes.now }
     requires few { length strided.now.axes.now ≤ MAX_RANK }
     requires axis { axis < length strided.now.axes.now }
     requires not_one { length_of (shown_by strided.now) axis ≢ 1 }
@@ -49,11 +58,9 @@ pub(crate) fn folds(
     if inner.length == 0 {
         return folds_of_none(alloc, function, &lines);
     }
-    match strided.ravel {
-        Ravel::Nums(numbers) => folds_of_numbers(alloc, function, numbers.as_slice(), &lines),
-        Ravel::Chars(characters) => {
-            folds_of_characters(alloc, function, characters.as_slice(), &lines)
-        }
+    match strided.items {
+        Elements::Nums(numbers) => folds_of_numbers(alloc, function, numbers, &lines),
+        Elements::Chars(characters) => folds_of_characters(alloc, function, characters, &lines),
     }
 }
 
@@ -77,12 +84,42 @@ fn squeeze(alloc: Global, axis: usize, view: &View<'_>) -> Result<Array, Stop>
 {
     let mut shape = view.shape();
     let _length = shape.remove(axis);
-    let copied = view.copied(alloc)?;
-    formed(shape, copied.ravel().copy()?)
+    formed(shape, in_order(alloc, view)?.items().to_ravel(alloc)?)
 }
 
-/// The folds along an axis, not of length 1, in the shape of the other axes.
-fn fold_axis(alloc: Global, function: Dyadic, axis: usize, view: &View<'_>) -> Result<Array, Stop>
+/// The fold of a vector of numbers that lie side by side, which is the whole of a reduction and takes no memory.
+fn vector_fold(function: Dyadic, strided: &Strided<'_>) -> Option<Result<i64, Fault>>
+    requires { IsView (listed strided.now.items) strided.now.offset strided.now.axes.now }
+    ensures vector { IfSome result (λ fold. length strided.now.axes.now ≡ 1) }
+    ensures value { IfSome result (λ fold. folds_along function 0 (shown_by strided.now) ≡ ok_map (λ z. z ∷ []) fold) }
+{
+    match strided.axes {
+        [axis] => match strided.items {
+            Elements::Nums(numbers) => {
+                if axis.length == 0 || axis.up != 1 || axis.down != 0 {
+                    return None;
+                }
+                let piece = row(numbers, strided.offset, axis.length);
+                Some(fold_numbers(function, piece))
+            }
+            Elements::Chars(_) => None,
+        },
+        _ => None,
+    }
+}
+
+/// A number as a scalar, or its fault.
+fn single(number: Result<i64, Fault>) -> Result<Array, Stop>
+    ensures { Answers (λ r. r) (ok_map (λ z. numbers_in [] (z ∷ [])) number) result }
+{
+    match number {
+        Ok(number) => Ok(Array::number(number)),
+        Err(fault) => Err(Stop::Fault(fault)),
+    }
+}
+
+/// The folds along an axis, not of length 1, in the shape of the other axes, line by line.
+fn fold_lines(alloc: Global, function: Dyadic, axis: usize, view: &View<'_>) -> Result<Array, Stop>
     requires axis { axis < length view.now.shape }
     requires not_one { length_of view.now axis ≢ 1 }
     ensures { Answers (λ r. r) (folds_shaped function axis view.now) result }
@@ -92,6 +129,19 @@ fn fold_axis(alloc: Global, function: Dyadic, axis: usize, view: &View<'_>) -> R
     let room = size(shape.as_slice());
     let numbers = folds(alloc, function, axis, &view.strided(), room)?;
     formed(shape, Ravel::Nums(numbers))
+}
+
+/// The same, at once for a vector in one piece.
+fn fold_axis(alloc: Global, function: Dyadic, axis: usize, view: &View<'_>) -> Result<Array, Stop>
+    requires axis { axis < length view.now.shape }
+    requires not_one { length_of view.now axis ≢ 1 }
+    ensures { Answers (λ r. r) (folds_shaped function axis view.now) result }
+{
+    let strided = view.strided();
+    match vector_fold(function, &strided) {
+        Some(fold) => single(fold),
+        None => fold_lines(alloc, function, axis, view),
+    }
 }
 
 /// The reduction along an axis.
@@ -117,10 +167,10 @@ pub fn reduce<C: Cells>(
     function: Dyadic,
     along: Along,
     array: &C,
-    origin: usize,
+    origin: Origin,
 ) -> Result<Array, Stop>
-    ensures value { Answers (λ r. r) (reduction function along.entry (C.array array.now) origin) result }
-    ensures at_once { FaultsFirst (axis_along along.entry (length (C.array array.now).shape) origin) result }
+    ensures value { Answers (λ r. r) (reduction function along.entry (C.array array.now) (origin_number origin)) result }
+    ensures at_once { FaultsFirst (axis_along along.entry (length (C.array array.now).shape) (origin_number origin)) result }
 {
     let view = array.view();
     match along.axis(view.rank(), origin) {

@@ -2,8 +2,8 @@
 ghost use Rattle.std.specs.Prelude.{◌≡◌, ◌^◌, ◌<◌, ◌+◌, ◌∷◌, ◌++◌, [], ℤ, List, length, pos, unsigned_abs};
 ghost use Rattle.apl_scalar.specs.declared.function.Dyadic.TheVariants as two;
 ghost use Rattle.apl_scalar.specs.Functions.{dyadic_of};
-ghost use Rattle.apl_folds.specs.Lines.{fold_by, line_of, IsLine};
-ghost use Rattle.apl_folds.specs.Sums.{IsRunning};
+ghost use Rattle.apl_folds.specs.Lines.{line_fold, line_of, IsLine};
+ghost use Rattle.apl_folds.specs.inside.Sums.{IsRunning};
 
 use crate::columns::push_columns;
 use crate::line::nth;
@@ -14,7 +14,7 @@ use apl_faults::Fault;
 use apl_scalar::Sum;
 
 /// The sums of magnitudes below which sums are exact, 2^63.
-const EXACT: u64 = 0x8000_0000_0000_0000;
+pub(crate) const EXACT: u64 = 0x8000_0000_0000_0000;
 
 /// The sum of some numbers and the sum of their magnitudes. While the latter is below 2^63 both are exact: then each sum on the way fits 64
 /// bits, in whatever order they are added.
@@ -55,7 +55,7 @@ impl<'a> Total<'a> {
     fn front(&self, running: Running, at: usize, count: usize) -> Result<i64, Fault>
         requires line { IsLine (length self.now.numbers.now) self.now.axis at count }
         requires running { IsRunning running (line_of (pos 0) self.now.numbers.now self.now.axis at count) }
-        ensures { result ≡ fold_by (dyadic_of two.Plus) (line_of (pos 0) self.now.numbers.now self.now.axis at count) }
+        ensures { result ≡ line_fold (dyadic_of two.Plus) self.now.numbers.now self.now.axis at count }
     {
         if running.magnitude < EXACT {
             return Ok(running.sum);
@@ -67,7 +67,7 @@ impl<'a> Total<'a> {
 impl<'a> Leaf for Total<'a> {
     ghost has = { λ s p count. IsLine (length s.numbers.now) s.axis p count };
 
-    ghost gives = { λ s p count. fold_by (dyadic_of two.Plus) (line_of (pos 0) s.numbers.now s.axis p count) };
+    ghost gives = { λ s p count. line_fold (dyadic_of two.Plus) s.numbers.now s.axis p count };
 
     fn value(&self, at: usize, count: usize) -> Result<i64, Fault> {
         sum_line(self.numbers, &self.axis, at, count)

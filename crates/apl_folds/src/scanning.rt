@@ -2,26 +2,29 @@
 ghost use Rattle.std.specs.Prelude.{◌≡◌, ◌<◌, length, cond, Err, Some};
 ghost use Rattle.apl_faults.specs.declared.fault.Fault.TheVariants.{Domain};
 ghost use Rattle.apl_arrays.specs.Answers.{Answers, FaultsFirst};
-ghost use Rattle.apl_arrays.specs.Along.{axis_along};
 ghost use Rattle.apl_arrays.specs.Cells.{Numbers};
 ghost use Rattle.apl_arrays.specs.Checks.{demand};
 ghost use Rattle.apl_arrays.specs.Kinds.{are_numbers};
-ghost use Rattle.apl_arrays.specs.Results.{and_then};
-ghost use Rattle.apl_arrays.specs.Ravels.{items_of};
-ghost use Rattle.apl_arrays.specs.Strides.{IsView};
-ghost use Rattle.apl_folds.specs.Scans.{fronts_along, fronts_shaped, scannable, scanned_along, scanning};
+ghost use Rattle.apl_arrays.specs.Left.{listed};
+ghost use Rattle.apl_arrays.specs.Origins.{origin_number};
+ghost use Rattle.apl_arrays.specs.Index.{size_of};
+ghost use Rattle.apl_arrays.specs.Strides.{IsView, Shows};
+ghost use Rattle.apl_folds.specs.Scans.{fronts_along, fronts_shaped, scannable, scan_checked, scanned_along, scanning};
+ghost use Rattle.apl_folds.specs.inside.Fronts.{AnswersIfSome};
 ghost use Rattle.apl_folds.specs.Lines.{shown_by};
 
+use crate::fronts::chained;
 use crate::lines::{Lines, folds_of_numbers};
+use crate::order::in_order;
 use crate::reduction::formed;
 use crate::walk::Start;
-use apl_arrays::{Along, Array, Cells, Ravel, Stop, Strided, View, size};
+use apl_arrays::{Along, Array, Axis, Cells, Elements, Origin, Ravel, Stop, Strided, View, size};
 use apl_faults::Fault;
 use apl_scalar::Dyadic;
 use std::alloc::Global;
 
-/// The folds of the first numbers along an axis, for each index list, with room for so many.
-fn fronts(
+/// The folds of the first numbers along an axis, for each index list, line by line, with room for so many.
+fn fronts_by_line(
     alloc: Global,
     function: Dyadic,
     axis: usize,
@@ -29,8 +32,8 @@ fn fronts(
     numbers: &[i64],
     room: usize,
 ) -> Result<Vec<i64>, Stop>
-    requires numbers { items_of strided.now.ravel.now ≡ Numbers numbers.now }
-    requires steps { IsView (items_of strided.now.ravel.now) strided.now.offset strided.now.axes.now }
+    requires numbers { listed strided.now.items ≡ Numbers numbers.now }
+    requires steps { IsView (listed strided.now.items) strided.now.offset strided.now.axes.now }
     requires axis { axis < length strided.now.axes.now }
     ensures { Answers (λ v. v.items) (fronts_along function axis (shown_by strided.now)) result }
 {
@@ -48,6 +51,59 @@ fn fronts(
     folds_of_numbers(alloc, function, numbers, &lines)
 }
 
+/// The same row by row, by functions of which that can be.
+fn fronts_by_row(
+    alloc: Global,
+    function: Dyadic,
+    axis: usize,
+    view: &View<'_>,
+) -> Result<Option<Vec<i64>>, Stop>
+    requires axis { axis < length view.now.shape }
+    requires some { 0 < size_of view.now.shape }
+    ensures { AnswersIfSome (λ v. v.items) (fronts_along function axis view.now) result }
+{
+    let shape = view.shape();
+    let (to_axis, after) = shape.as_slice().split_at(axis + 1);
+    let inner = Axis {
+        length: to_axis[axis],
+        up: size(after),
+        down: 0,
+    };
+    let elements = in_order(alloc, view)?;
+    match elements.items() {
+        Elements::Nums(numbers) => {
+            let rows = numbers.len() / inner.up;
+            chained(alloc, function, numbers, inner, rows)
+        }
+        Elements::Chars(_) => Ok(None),
+    }
+}
+
+/// The folds of the first numbers along an axis, for each index list: row by row where that can be, and along the last axis line by line.
+fn fronts(
+    alloc: Global,
+    function: Dyadic,
+    axis: usize,
+    view: &View<'_>,
+    strided: &Strided<'_>,
+    numbers: &[i64],
+) -> Result<Vec<i64>, Stop>
+    requires numbers { listed strided.now.items ≡ Numbers numbers.now }
+    requires shows { Shows view.now strided.now }
+    requires axis { axis < length view.now.shape }
+    requires some { 0 < size_of view.now.shape }
+    ensures { Answers (λ v. v.items) (fronts_along function axis view.now) result }
+{
+    let shape = view.shape();
+    if axis + 1 < shape.len() {
+        if let Some(folds) = fronts_by_row(alloc, function, axis, view)? {
+            return Ok(folds);
+        }
+    }
+    let room = size(shape.as_slice());
+    fronts_by_line(alloc, function, axis, strided, numbers, room)
+}
+
 /// The scan along an axis of a view that has elements, more than one along the axis.
 fn scan_elements(
     alloc: Global,
@@ -55,19 +111,18 @@ fn scan_elements(
     axis: usize,
     view: &View<'_>,
 ) -> Result<Array, Stop>
-    requires { axis < length view.now.shape }
+    requires axis { axis < length view.now.shape }
+    requires some { 0 < size_of view.now.shape }
     ensures value { Answers (λ r. r) (cond (are_numbers view.now.items) (fronts_shaped function axis view.now) (Err Domain)) result }
     ensures at_once { FaultsFirst (demand (are_numbers view.now.items) Domain) result }
 {
-    let shape = view.shape();
-    let room = size(shape.as_slice());
     let strided = view.strided();
-    match strided.ravel {
-        Ravel::Nums(numbers) => {
-            let folds = fronts(alloc, function, axis, &strided, numbers.as_slice(), room)?;
-            formed(shape, Ravel::Nums(folds))
+    match strided.items {
+        Elements::Nums(numbers) => {
+            let folds = fronts(alloc, function, axis, view, &strided, numbers)?;
+            formed(view.shape(), Ravel::Nums(folds))
         }
-        Ravel::Chars(_) => Err(Stop::Fault(Fault::Domain)),
+        Elements::Chars(_) => Err(Stop::Fault(Fault::Domain)),
     }
 }
 
@@ -98,10 +153,10 @@ pub fn scan<C: Cells>(
     function: Dyadic,
     along: Along,
     array: &C,
-    origin: usize,
+    origin: Origin,
 ) -> Result<Array, Stop>
-    ensures value { Answers (λ r. r) (scanning function along.entry (C.array array.now) origin) result }
-    ensures at_once { FaultsFirst (and_then (axis_along along.entry (length (C.array array.now).shape) origin) (scannable (C.array array.now))) result }
+    ensures value { Answers (λ r. r) (scanning function along.entry (C.array array.now) (origin_number origin)) result }
+    ensures at_once { FaultsFirst (scan_checked along.entry (C.array array.now) (origin_number origin)) result }
 {
     let view = array.view();
     match along.axis(view.rank(), origin) {

@@ -1,16 +1,17 @@
 // Sums of rows of numbers, block by block.
-ghost use Rattle.std.specs.Prelude.{◌≡◌, ◌^◌, ◌<◌, ◌≤◌, ◌*◌, ◌++◌, ◌+ℤ◌, ℤ, List, FitsSigned, IfSome, Ok, length, pos, unsigned_abs};
+ghost use Rattle.std.specs.Prelude.{◌≡◌, ◌^◌, ◌<◌, ◌≤◌, ◌*◌, ◌+ℤ◌, ℤ, FitsSigned, unsigned_abs};
+ghost use Rattle.std.specs.Prelude.{List, ◌++◌, length, IfSome, Ok};
 ghost use Rattle.std.specs.Int.{w64};
 ghost use Rattle.apl_scalar.specs.declared.function.Dyadic.TheVariants as two;
 ghost use Rattle.apl_scalar.specs.Functions.{dyadic_of};
-ghost use Rattle.apl_folds.specs.Lines.{fold_by, line_of, IsLine};
-ghost use Rattle.apl_folds.specs.Sums.{total, magnitudes};
+ghost use Rattle.apl_folds.specs.Lines.{line_fold, IsLine};
+ghost use Rattle.apl_folds.specs.inside.Sums.{sum_of, total, magnitudes};
 
 use crate::fold::{fold_from, fold_right};
 use crate::line::{fold_strided, row};
 use apl_arrays::Axis;
 use apl_faults::Fault;
-use apl_scalar::Sum;
+use apl_scalar::{Sum, wider};
 
 /// So many numbers of a magnitude of at most 2^48 have a sum of at most 2^62.
 const BLOCK: usize = 16384;
@@ -34,15 +35,6 @@ fn spread(number: i64) -> u64
     number.wrapping_add(0x1_0000_0000_0000).cast_unsigned()
 }
 
-/// A number that is no less than either.
-#[inline(always)]
-fn wider(x: u64, y: u64) -> u64
-    ensures x { x ≤ result }
-    ensures y { y ≤ result }
-{
-    x | y
-}
-
 /// The sum of the numbers, if the second result, by being below 2^49, says that they are small.
 fn sum_small(numbers: &[i64]) -> (i64, u64)
     requires { length numbers.now ≤ BLOCK }
@@ -60,7 +52,7 @@ fn sum_small(numbers: &[i64]) -> (i64, u64)
 /// The fold of a block and of the numbers after it, of which the fold is known, if all of it is so small that the order is all one.
 fn sum_block(numbers: &[i64], known: i64) -> Option<i64>
     requires { length numbers.now ≤ BLOCK }
-    ensures { IfSome result (λ all. (rest : List ℤ) → fold_by (dyadic_of two.Plus) rest ≡ Ok known → fold_by (dyadic_of two.Plus) (numbers.now ++ rest) ≡ Ok all) }
+    ensures { IfSome result (λ all. (rest : List ℤ) → sum_of rest ≡ Ok known → sum_of (numbers.now ++ rest) ≡ Ok all) }
 {
     let (sum, bound) = sum_small(numbers);
     if bound < 0x2_0000_0000_0000 {
@@ -76,7 +68,7 @@ fn sum_block(numbers: &[i64], known: i64) -> Option<i64>
 /// The sum of one or more numbers from the right: block by block while they are small, and from then on with each step tested.
 pub(crate) fn sum_row(numbers: &[i64]) -> Result<i64, Fault>
     requires { 0 < length numbers.now }
-    ensures { result ≡ fold_by (dyadic_of two.Plus) numbers.now }
+    ensures { result ≡ sum_of numbers.now }
 {
     if numbers.len() < FEW {
         return fold_right::<Sum>(numbers);
@@ -99,7 +91,7 @@ pub(crate) fn sum_row(numbers: &[i64]) -> Result<i64, Fault>
 /// The sum of the first numbers along an axis from a place on. Where they lie side by side it is that of a row.
 pub(crate) fn sum_line(numbers: &[i64], axis: &Axis, at: usize, count: usize) -> Result<i64, Fault>
     requires { IsLine (length numbers.now) axis.now at count }
-    ensures { result ≡ fold_by (dyadic_of two.Plus) (line_of (pos 0) numbers.now axis.now at count) }
+    ensures { result ≡ line_fold (dyadic_of two.Plus) numbers.now axis.now at count }
 {
     if axis.up != 1 {
         return fold_strided::<Sum>(numbers, axis, at, count);

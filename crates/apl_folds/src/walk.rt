@@ -1,13 +1,13 @@
 // Walks over the index lists of axes, each of which leads to the beginning of a line.
-ghost use Rattle.std.specs.Prelude.{◌≡◌, ◌^◌, ◌∷◌, ℕ, ℤ, List, Result, ◌<◌, ◌≤◌, ◌+◌, ◌-◌, ◌*◌, length, true, IfSome, IsTrue, Some, None, []};
+ghost use Rattle.std.specs.Prelude.{◌≡◌, ◌^◌, ◌<◌, ◌≤◌, ◌+◌, ◌-◌, ◌*◌, ℕ, ℤ, IsTrue};
+ghost use Rattle.std.specs.Prelude.{List, [], ◌∷◌, length, Result, IfSome, Some, None};
 ghost use Rattle.std.specs.List.{range_with_len};
 ghost use Rattle.apl_faults.specs.declared.fault.Fault.{Fault};
 ghost use Rattle.apl_arrays.specs.Answers.{Appends};
-ghost use Rattle.apl_arrays.specs.Index.{is_within};
 ghost use Rattle.apl_arrays.specs.Results.{all_ok};
-ghost use Rattle.apl_arrays.specs.Strides.{lengths, reach_of};
+ghost use Rattle.apl_arrays.specs.Strides.{reach_of};
 ghost use Rattle.apl_arrays.specs.declared.axis.Axis.{Axis};
-ghost use Rattle.apl_folds.specs.Lines.{start_at, count_at, made};
+ghost use Rattle.apl_folds.specs.Lines.{start_at, count_at, made, OfEach};
 
 use apl_arrays::{Axis, Stop, along};
 use apl_faults::Fault;
@@ -128,7 +128,7 @@ pub(crate) fn walk<L: Leaf>(
     out: &mut Vec<i64>,
 ) -> Result<(), Stop>
     requires depth { IfSome start.depth (λ depth. depth < length axes.now) }
-    requires lines { (is : List ℕ) → is_within (lengths axes.now) is ≡ true → L.has leaf.now (start_at start.at start.depth axes.now is) (count_at start.count start.depth is) }
+    requires lines { OfEach (L.has leaf.now) start axes.now }
     requires near { reach_of start.at axes.now < 2 ^ 63 }
     ensures { Appends out.old.items out.new.items (made (L.gives leaf.now) start.at start.count start.depth axes.now) result }
 {

@@ -5,7 +5,7 @@ use Rattle.std.proofs.Math.Dec.{eqb-suc-zero}
 use Rattle.std.proofs.lemmas.List.{append-nil, append_assoc, take_more, length-take-le, take_all}
 use Rattle.std.proofs.lemmas.List.Concat.{flat_map-append}
 use Rattle.apl_format.specs.Display.{joined}
-use Rattle.apl_format.specs.Parts.{before}
+use Rattle.apl_format.specs.inside.Parts.{before}
 
 before_suc : {A : Type 0} (s : A) (n : ℕ) → before s (suc n) ≡ s ∷ []
 before_suc s n = rw (eqb-suc-zero n) refl

@@ -10,7 +10,7 @@ use Rattle.apl_arrays.specs.Cells.{Arr, Numbers, Characters}
 use Rattle.apl_arrays.proofs.Places.{bound_of-pos, size_le_bound, mul_low}
 use Rattle.apl_format.specs.Display.{number_text, vector_line, row_line, rows, widths}
 use Rattle.apl_format.specs.Formatted.{formatted, in_limits, line_width, text_of}
-use Rattle.apl_format.specs.Parts.{line_text, rows_text}
+use Rattle.apl_format.specs.inside.Parts.{line_text, rows_text}
 use Rattle.apl_format.proofs.Lengths.{length_joined, length_rows}
 use Rattle.apl_format.proofs.Sizes.{bound_append, size_append, times}
 

@@ -5,7 +5,7 @@ use Rattle.std.proofs.lemmas.List.{drop-drop, append_assoc, map_push, length-map
 use Rattle.std.proofs.lemmas.Bool.{ne_eqb}
 use Rattle.apl_arrays.specs.Cells.{Items, Numbers, Characters}
 use Rattle.apl_format.specs.Display.{taken, dropped, rows, planes, row_line, widths, joined, matrix_lines}
-use Rattle.apl_format.specs.Parts.{before, AreWidths}
+use Rattle.apl_format.specs.inside.Parts.{before, AreWidths}
 use Rattle.apl_format.proofs.Joined.{joined_push}
 
 pub dropped_dropped : (m n : ℕ) (items : Items) → dropped m (dropped n items) ≡ dropped (n + m) items

@@ -1,11 +1,7 @@
 -- Sizes of a shape, and of its planes.
-use Rattle.std.proofs.Common.{◌≡◌, ℕ, ◌+◌, ◌*◌, ◌<◌, ◌≤◌, List, [], ◌∷◌, ◌++◌, length, get_or, max, drop, ap, ◌∙◌, mul-one, arith, mul-le-mul_right, mul-le-mul_left}
+use Rattle.std.proofs.Common.{◌≡◌, ℕ, ◌*◌, ◌≤◌, List, [], ◌∷◌, ◌++◌, max, ap, ◌∙◌, mul-one, arith, mul-le-mul_right, mul-le-mul_left}
 use Rattle.apl_arrays.specs.Index.{size_of, bound_of}
-use Rattle.apl_arrays.proofs.Places.{bound_of-pos, mul_low, size_le_bound, size_step, size_room, size_small}
-
--- the end of a place that lies below n
-pub place_end : (i n m : ℕ) → i < n → i * m + m ≤ n * m
-place_end i n m h = let g : (i + 1) * m ≤ n * m = mul-le-mul_right m (omega arith) in omega arith
+use Rattle.apl_arrays.proofs.Places.{bound_of-pos, mul_low, size_le_bound}
 
 pub size_append : (s t : List ℕ) → size_of (s ++ t) ≡ size_of s * size_of t
 size_append [] t = omega arith
@@ -14,20 +10,6 @@ size_append (n ∷ s) t = rw (size_append s t) (omega arith)
 pub bound_append : (s t : List ℕ) → bound_of (s ++ t) ≡ bound_of s * bound_of t
 bound_append [] t = omega arith
 bound_append (n ∷ s) t = rw (bound_append s t) (omega arith)
-
--- a loop's product so far
-pub record SoFar (s : List ℕ) (i count : ℕ) : Type 0 where
-  pub product : count * size_of (drop i s) ≡ size_of s
-  pub room : count * bound_of (drop i s) ≤ 1000000
-
-pub step : (s : List ℕ) (i count : ℕ) → i < length s → SoFar s i count → SoFar s (i + 1) (count * get_or s i 0)
-step s i count h so = record {
-  product = size_step s i count h ∙ so.product;
-  room = size_room s i count 1000000 h so.room;
-}
-
-pub fits : (s : List ℕ) (i count : ℕ) → i < length s → SoFar s i count → count * get_or s i 0 ≤ 1000000
-fits s i count h so = size_small s i count 1000000 h so.room
 
 -- the sizes of planes of h rows of c columns within the limit
 pub record Fit (count h c : ℕ) : Type 0 where

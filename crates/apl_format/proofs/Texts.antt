@@ -8,7 +8,7 @@ use Rattle.apl_arrays.specs.Index.{size_of}
 use Rattle.apl_arrays.specs.Cells.{Items, Numbers, Characters}
 use Rattle.apl_format.specs.Display.{display, lines_of, matrix_lines, vector_line, joined, rows, planes, row_line, widths, dropped}
 use Rattle.apl_format.specs.Formatted.{outer_of, columns_of, line_width, row_width, text_of}
-use Rattle.apl_format.specs.Parts.{line_text, rows_text}
+use Rattle.apl_format.specs.inside.Parts.{line_text, rows_text}
 use Rattle.apl_format.proofs.Rows.{rows_append, rows_none, matrix_none, matrix_by_widths}
 use Rattle.apl_format.proofs.Shapes.{lines_step}
 

@@ -1,5 +1,6 @@
 -- The lines that show an array.
-use Rattle.std.specs.Prelude.{ℕ, ℤ, pos, negsuc, suc, zero, ◌*◌, ◌-◌, ◌==◌, max, List, [], ◌∷◌, ◌++◌, map, take, drop, length, replicate, fold, decimal, if◌then◌else◌}
+use Rattle.std.specs.Prelude.{ℕ, ℤ, pos, negsuc, suc, zero, ◌*◌, ◌-◌, ◌==◌, max, decimal, if◌then◌else◌}
+use Rattle.std.specs.Prelude.{List, [], ◌∷◌, ◌++◌, map, take, drop, length, replicate, fold}
 use Rattle.std.specs.List.{flat_map}
 use Rattle.std.specs.Simd.Lanes.{zip2}
 use Rattle.apl_arrays.specs.Cells.{Arr, Items, Numbers, Characters}

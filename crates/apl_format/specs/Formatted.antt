@@ -19,11 +19,15 @@ columns_of s = slice_index_or s (length s - 1) 0
 abbrev pub line_width : List ℕ → ℕ
 line_width ws = sum ws + (length ws - 1)
 
+-- how wide a row of two and more axes is
+abbrev pub columns_width : List ℕ → Items → ℕ
+columns_width s items = line_width (widths (columns_of s) (rows (size_of (outer_of s)) (columns_of s) items))
+
 -- how wide a row of the display is: a scalar or a vector is one row
 unfoldable pub row_width : List ℕ → Items → ℕ
 row_width [] items = length (vector_line items)
 row_width (n ∷ []) items = length (vector_line items)
-row_width (m ∷ n ∷ s) items = line_width (widths (columns_of (m ∷ n ∷ s)) (rows (size_of (outer_of (m ∷ n ∷ s))) (columns_of (m ∷ n ∷ s)) items))
+row_width (m ∷ n ∷ s) items = columns_width (m ∷ n ∷ s) items
 
 -- characters as they are; of numbers the lines of their display end to end, where the last axis is as long as a row is wide
 unfoldable pub text_of : List ℕ → Items → Arr

@@ -1,3 +1,4 @@
 pub mod Display
 pub mod Formatted
-pub mod Parts
+pub mod inside
+pub mod Examples

@@ -2,12 +2,12 @@
 ghost use Rattle.std.specs.Prelude.{◌≡◌, ◌*◌, ◌≤◌, length, map, max, IfOk};
 ghost use Rattle.std.specs.Simd.Lanes.{zip2};
 ghost use Rattle.apl_arrays.specs.Cells.{Numbers, cells_of};
-ghost use Rattle.apl_arrays.specs.Ravels.{items_of};
+ghost use Rattle.apl_arrays.specs.Left.{listed};
 ghost use Rattle.apl_format.specs.Display.{number_text, rows, widths};
-ghost use Rattle.apl_format.specs.Parts.{AreWidths, HaveWidths};
+ghost use Rattle.apl_format.specs.inside.Parts.{AreWidths, HaveWidths};
 
 use crate::number::number_width;
-use apl_arrays::Ravel;
+use apl_arrays::Elements;
 use std::alloc::{AllocError, Global};
 
 /// Makes each column as wide as its number.
@@ -44,16 +44,16 @@ pub(crate) fn number_widths(
 /// The widths of the columns of so many rows of numbers. Characters have no need of any.
 pub(crate) fn widths_of(
     alloc: Global,
-    ravel: &Ravel,
+    items: Elements<'_>,
     count: usize,
     columns: usize,
 ) -> Result<Vec<usize>, AllocError>
-    requires { count * columns ≤ length (cells_of (items_of ravel.now)) }
-    ensures value { IfOk result (λ made. AreWidths count columns (items_of ravel.now) made.items) }
-    ensures wide { IfOk result (λ made. HaveWidths columns (items_of ravel.now) made.items) }
+    requires { count * columns ≤ length (cells_of (listed items)) }
+    ensures value { IfOk result (λ made. AreWidths count columns (listed items.entry) made.items) }
+    ensures wide { IfOk result (λ made. HaveWidths columns (listed items.entry) made.items) }
 {
-    match ravel {
-        Ravel::Nums(numbers) => number_widths(alloc, numbers.as_slice(), count, columns),
-        Ravel::Chars(_) => Ok(Vec::new(alloc)),
+    match items {
+        Elements::Nums(numbers) => number_widths(alloc, numbers, count, columns),
+        Elements::Chars(_) => Ok(Vec::new(alloc)),
     }
 }

@@ -1,18 +1,15 @@
 // Arrays as characters.
 ghost use Rattle.std.specs.Prelude.{◌≡◌, ◌≢◌, ◌*◌, ◌≤◌, ◌<◌, ◌++◌, [], ◌∷◌, length, OnOk};
-ghost use Rattle.std.specs.List.{flat_map};
 ghost use Rattle.apl_arrays.specs.Answers.{Answers};
 ghost use Rattle.apl_arrays.specs.Cells.{IsArray, Numbers, Characters};
 ghost use Rattle.apl_arrays.specs.Index.{size_of, bound_of};
-ghost use Rattle.apl_format.specs.Display.{row_line, rows};
 ghost use Rattle.apl_format.specs.Formatted.{formatted, in_limits, text_of};
-ghost use Rattle.apl_format.specs.Parts.{line_text, rows_text};
+ghost use Rattle.apl_format.specs.inside.Parts.{line_text, row_texts, rows_text};
 
 use crate::columns::number_widths;
-use crate::lines::count_of;
 use crate::row::{push_aligned, push_numbers};
 use crate::width::line_width;
-use apl_arrays::{Array, MAX_ELEMENTS, MAX_RANK, Ravel, Stop};
+use apl_arrays::{Array, Elements, MAX_ELEMENTS, MAX_RANK, Ravel, Stop, size};
 use apl_charset::Ch;
 use apl_faults::Fault;
 use arrayvec::ArrayVec;
@@ -53,7 +50,7 @@ fn push_rows(
     count: usize,
 ) -> Result<(), AllocError>
     requires { count * length widths.now ≤ length numbers.now }
-    ensures { OnOk result (characters.new.items ≡ characters.old.items ++ flat_map (row_line widths.now) (rows count (length widths.now) (Numbers numbers.now))) }
+    ensures { OnOk result (characters.new.items ≡ characters.old.items ++ row_texts widths.now count (Numbers numbers.now)) }
 {
     let mut rest = numbers;
     for _ in 0..count {
@@ -76,7 +73,7 @@ fn format_rows(
     requires few_axes { length outer.now < MAX_RANK }
     ensures { Answers (λ a. a) (in_limits (rows_text outer.now columns (Numbers numbers.now))) result }
 {
-    let count = count_of(outer);
+    let count = size(outer);
     let widths = number_widths(alloc, numbers, count, columns)?;
     let width = line_width(widths.as_slice())?;
     // Without rows there is nothing to make, and the limit is asked of the shape alone.
@@ -109,8 +106,8 @@ fn format_numbers(alloc: Global, shape: &[usize], numbers: &[i64]) -> Result<Arr
 pub fn format1(alloc: Global, array: &Array) -> Result<Array, Stop>
     ensures { Answers (λ a. a) (formatted array.now) result }
 {
-    match array.ravel() {
-        Ravel::Nums(numbers) => format_numbers(alloc, array.shape(), numbers.as_slice()),
-        Ravel::Chars(_) => Ok(array.copy()?),
+    match array.items() {
+        Elements::Nums(numbers) => format_numbers(alloc, array.shape(), numbers),
+        Elements::Chars(_) => Ok(array.copy()?),
     }
 }

@@ -2,27 +2,15 @@
 ghost use Rattle.std.specs.Prelude.{◌≡◌, ◌+◌, ◌*◌, ◌≤◌, ◌<◌, ◌++◌, [], ◌∷◌, length, map, IfOk, OnOk};
 ghost use Rattle.apl_arrays.specs.Cells.{cells_of};
 ghost use Rattle.apl_arrays.specs.Index.{size_of, bound_of};
-ghost use Rattle.apl_arrays.specs.Ravels.{items_of};
+ghost use Rattle.apl_arrays.specs.Left.{listed};
 ghost use Rattle.apl_format.specs.Display.{display, matrix_lines, vector_line, row_line, rows, planes, joined, dropped};
-ghost use Rattle.apl_format.specs.Parts.{before, HaveWidths};
+ghost use Rattle.apl_format.specs.inside.Parts.{before, HaveWidths};
 
 use crate::columns::widths_of;
 use crate::row::{row_line, vector_line};
-use apl_arrays::{Array, MAX_ELEMENTS, Ravel};
+use apl_arrays::{Array, Elements, MAX_ELEMENTS, size};
 use apl_charset::Text;
 use std::alloc::{AllocError, Global};
-
-/// How many index lists a shape within the limit has.
-pub(crate) fn count_of(shape: &[usize]) -> usize
-    requires { bound_of shape.now ≤ MAX_ELEMENTS }
-    ensures { result ≡ size_of shape.now }
-{
-    let mut count = 1usize;
-    for n in shape {
-        count *= *n;
-    }
-    count
-}
 
 /// Adds the empty line before the plane at a place, unless it is the first.
 fn push_gap(alloc: Global, lines: &mut Vec<Text>, place: usize) -> Result<(), AllocError>
@@ -35,23 +23,23 @@ fn push_gap(alloc: Global, lines: &mut Vec<Text>, place: usize) -> Result<(), Al
     Ok(())
 }
 
-/// Adds the rows of the plane that begins at a place of the ravel.
+/// Adds the rows of the plane that begins at a place of the elements.
 fn push_plane(
     alloc: Global,
     lines: &mut Vec<Text>,
-    ravel: &Ravel,
+    items: Elements<'_>,
     widths: &[usize],
     height: usize,
     columns: usize,
     place: usize,
 ) -> Result<(), AllocError>
-    requires within { place + height * columns ≤ length (cells_of (items_of ravel.now)) }
-    requires wide { HaveWidths columns (items_of ravel.now) widths.now }
-    ensures { OnOk result (lines.new.items ≡ lines.old.items ++ map (row_line widths.now) (rows height columns (dropped place (items_of ravel.now)))) }
+    requires within { place + height * columns ≤ length (cells_of (listed items)) }
+    requires wide { HaveWidths columns (listed items) widths.now }
+    ensures { OnOk result (lines.new.items ≡ lines.old.items ++ map (row_line widths.now) (rows height columns (dropped place (listed items.entry)))) }
 {
     let mut from = place;
     for _ in 0..height {
-        lines.push(row_line(alloc, ravel, widths, columns, from)?)?;
+        lines.push(row_line(alloc, items, widths, columns, from)?)?;
         from += columns;
     }
     Ok(())
@@ -60,54 +48,55 @@ fn push_plane(
 /// The lines of planes of rows.
 fn plane_lines(
     alloc: Global,
-    ravel: &Ravel,
+    items: Elements<'_>,
     widths: &[usize],
     count: usize,
     height: usize,
     columns: usize,
 ) -> Result<Vec<Text>, AllocError>
-    requires within { count * (height * columns) ≤ length (cells_of (items_of ravel.now)) }
+    requires within { count * (height * columns) ≤ length (cells_of (listed items)) }
     requires few { (count * height ≤ MAX_ELEMENTS) × (height * columns ≤ MAX_ELEMENTS) × (count ≤ MAX_ELEMENTS) }
-    requires small { length (cells_of (items_of ravel.now)) ≤ MAX_ELEMENTS }
-    requires wide { HaveWidths columns (items_of ravel.now) widths.now }
-    ensures { IfOk result (λ lines. lines.items ≡ joined [] (map (map (row_line widths.now)) (planes count height columns (items_of ravel.now)))) }
+    requires small { length (cells_of (listed items)) ≤ MAX_ELEMENTS }
+    requires wide { HaveWidths columns (listed items) widths.now }
+    ensures { IfOk result (λ lines. lines.items ≡ joined [] (map (map (row_line widths.now)) (planes count height columns (listed items.entry)))) }
 {
     let mut lines = Vec::with_capacity(alloc, count * height + count)?;
     let mut place = 0usize;
     for plane in 0..count {
         push_gap(alloc, &mut lines, plane)?;
-        push_plane(alloc, &mut lines, ravel, widths, height, columns, place)?;
+        push_plane(alloc, &mut lines, items, widths, height, columns, place)?;
         place += height * columns;
     }
     Ok(lines)
 }
 
-fn one_line(alloc: Global, ravel: &Ravel) -> Result<Vec<Text>, AllocError>
-    ensures { IfOk result (λ lines. lines.items ≡ vector_line (items_of ravel.now) ∷ []) }
+/// The line of a scalar or a vector.
+fn one_line(alloc: Global, items: Elements<'_>) -> Result<Vec<Text>, AllocError>
+    ensures { IfOk result (λ lines. lines.items ≡ vector_line (listed items.entry) ∷ []) }
 {
     let mut lines = Vec::with_capacity(alloc, 1)?;
-    lines.push(vector_line(alloc, ravel)?)?;
+    lines.push(vector_line(alloc, items)?)?;
     Ok(lines)
 }
 
 /// The lines of an array of two and more axes.
 fn matrix_lines(
     alloc: Global,
-    ravel: &Ravel,
+    items: Elements<'_>,
     outer: &[usize],
     height: usize,
     columns: usize,
 ) -> Result<Vec<Text>, AllocError>
-    requires full { length (cells_of (items_of ravel.now)) ≡ size_of (outer.now ++ height ∷ columns ∷ []) }
+    requires full { length (cells_of (listed items)) ≡ size_of (outer.now ++ height ∷ columns ∷ []) }
     requires small { bound_of (outer.now ++ height ∷ columns ∷ []) ≤ MAX_ELEMENTS }
-    ensures { IfOk result (λ lines. lines.items ≡ matrix_lines (size_of outer.now) height columns (items_of ravel.now)) }
+    ensures { IfOk result (λ lines. lines.items ≡ matrix_lines (size_of outer.now) height columns (listed items.entry)) }
 {
     if height == 0 {
         return Ok(Vec::new(alloc));
     }
-    let count = count_of(outer);
-    let widths = widths_of(alloc, ravel, count * height, columns)?;
-    let lines = plane_lines(alloc, ravel, widths.as_slice(), count, height, columns)?;
+    let count = size(outer);
+    let widths = widths_of(alloc, items, count * height, columns)?;
+    let lines = plane_lines(alloc, items, widths.as_slice(), count, height, columns)?;
     Ok(lines)
 }
 
@@ -119,12 +108,12 @@ fn matrix_lines(
 pub fn display(alloc: Global, array: &Array) -> Result<Vec<Text>, AllocError>
     ensures { IfOk result (λ lines. lines.items ≡ display array.now) }
 {
-    let ravel = array.ravel();
+    let items = array.items();
     let Some((columns, axes)) = array.shape().split_last() else {
-        return one_line(alloc, ravel);
+        return one_line(alloc, items);
     };
     let Some((height, outer)) = axes.split_last() else {
-        return one_line(alloc, ravel);
+        return one_line(alloc, items);
     };
-    matrix_lines(alloc, ravel, outer, *height, *columns)
+    matrix_lines(alloc, items, outer, *height, *columns)
 }

@@ -1,7 +1,7 @@
 // The text of a number, and what stands before it in a line.
 ghost use Rattle.std.specs.Prelude.{◌≡◌, ◌++◌, length, replicate, OnOk};
 ghost use Rattle.apl_format.specs.Display.{number_text, padded};
-ghost use Rattle.apl_format.specs.Parts.{before};
+ghost use Rattle.apl_format.specs.inside.Parts.{before};
 
 use apl_charset::{Ch, push_number as push_digits};
 use itoa::Buffer;

@@ -2,12 +2,12 @@
 ghost use Rattle.std.specs.Prelude.{◌≡◌, ◌+◌, ◌≤◌, ◌++◌, length, map, IfOk, OnOk};
 ghost use Rattle.std.specs.Simd.Lanes.{zip2};
 ghost use Rattle.apl_arrays.specs.Cells.{cells_of};
-ghost use Rattle.apl_arrays.specs.Ravels.{items_of};
+ghost use Rattle.apl_arrays.specs.Left.{listed};
 ghost use Rattle.apl_format.specs.Display.{number_text, padded, joined, vector_line, row_line, taken, dropped};
-ghost use Rattle.apl_format.specs.Parts.{HaveWidths};
+ghost use Rattle.apl_format.specs.inside.Parts.{HaveWidths};
 
 use crate::number::{push_between, push_number, push_padded};
-use apl_arrays::Ravel;
+use apl_arrays::Elements;
 use apl_charset::{Ch, Text};
 use std::alloc::{AllocError, Global};
 
@@ -40,47 +40,45 @@ pub(crate) fn push_aligned(
 
 /// The line of a scalar or a vector.
 #[tactic(auto, unfolding(crate::specs::Display::vector_line))]
-pub(crate) fn vector_line(alloc: Global, ravel: &Ravel) -> Result<Text, AllocError>
-    ensures { IfOk result (λ line. line ≡ vector_line (items_of ravel.now)) }
+pub(crate) fn vector_line(alloc: Global, items: Elements<'_>) -> Result<Text, AllocError>
+    ensures { IfOk result (λ line. line ≡ vector_line (listed items.entry)) }
 {
-    match ravel {
-        Ravel::Nums(numbers) => {
+    match items {
+        Elements::Nums(numbers) => {
             let mut line = Vec::with_capacity(alloc, numbers.len())?;
-            push_numbers(&mut line, numbers.as_slice())?;
+            push_numbers(&mut line, numbers)?;
             Ok(Text::new(line))
         }
-        Ravel::Chars(characters) => {
-            Ok(Text::new(Vec::from_slice(alloc, characters.as_slice())?))
-        }
+        Elements::Chars(characters) => Ok(Text::new(Vec::from_slice(alloc, characters)?)),
     }
 }
 
-/// The line of the row that begins at a place of the ravel.
+/// The line of the row that begins at a place of the elements.
 #[tactic(auto, unfolding(crate::specs::Display::row_line))]
 pub(crate) fn row_line(
     alloc: Global,
-    ravel: &Ravel,
+    items: Elements<'_>,
     widths: &[usize],
     columns: usize,
     place: usize,
 ) -> Result<Text, AllocError>
-    requires within { place + columns ≤ length (cells_of (items_of ravel.now)) }
-    requires wide { HaveWidths columns (items_of ravel.now) widths.now }
-    ensures { IfOk result (λ line. line ≡ row_line widths.now (taken columns (dropped place (items_of ravel.now)))) }
+    requires within { place + columns ≤ length (cells_of (listed items)) }
+    requires wide { HaveWidths columns (listed items) widths.now }
+    ensures { IfOk result (λ line. line ≡ row_line widths.now (taken columns (dropped place (listed items.entry)))) }
 {
-    match ravel {
-        Ravel::Nums(numbers) => {
+    match items {
+        Elements::Nums(numbers) => {
             let room = widths
                 .iter()
                 .fold(columns, |room, width| room.saturating_add(*width));
-            let (_, after) = numbers.as_slice().split_at(place);
+            let (_, after) = numbers.split_at(place);
             let (row, _) = after.split_at(columns);
             let mut line = Vec::with_capacity(alloc, room)?;
             push_aligned(&mut line, widths, row)?;
             Ok(Text::new(line))
         }
-        Ravel::Chars(characters) => {
-            let (_, after) = characters.as_slice().split_at(place);
+        Elements::Chars(characters) => {
+            let (_, after) = characters.split_at(place);
             let (row, _) = after.split_at(columns);
             Ok(Text::new(Vec::from_slice(alloc, row)?))
         }

@@ -27,5 +27,6 @@ index_lists =
     ∷ shows "A[+]" (V ∷ []) ("0 FAIL @4" ∷ [])
     ∷ shows "[1]" [] ("0 BOX #0 @1" ∷ "1 FAIL @1" ∷ [])
     ∷ shows "1 2 3[2]" [] ("0 BOX #1 @6" ∷ "1 IDX #0 @6" ∷ "2 END SHOW S @0" ∷ [])
-    ∷ shows "A[B[1]]" (V ∷ V ∷ []) ("0 BOX #0 @4" ∷ "1 VAR B @3" ∷ "2 IDX S @4" ∷ "3 BOX S @2" ∷ "4 VAR A @1" ∷ "5 IDX S @2" ∷ "6 END SHOW S @0" ∷ [])
+    ∷ shows "A[B[1]]" (V ∷ V ∷ [])
+    ("0 BOX #0 @4" ∷ "1 VAR B @3" ∷ "2 IDX S @4" ∷ "3 BOX S @2" ∷ "4 VAR A @1" ∷ "5 IDX S @2" ∷ "6 END SHOW S @0" ∷ [])
     ∷ []

@@ -34,7 +34,8 @@ statements =
     ∷ "7 END HIDE S @0" ∷ [])
     ∷ shows "M[1 1;⍳0;1 2]←G V" (V ∷ F ∷ V ∷ [])
     ("0 VAR V @17" ∷ "1 MON G S @15" ∷ "2 MON ⍳ #1 @7" ∷ "3 BOX #0 S #2 @2" ∷ "4 SETX M S @14" ∷ "5 END HIDE S @0" ∷ [])
-    ∷ shows "M[3]⌊-⌿¯1 ¯3 ¯1 1" (V ∷ []) ("0 RED - ⌿ #1 @6" ∷ "1 BOX #0 @2" ∷ "2 VAR M @1" ∷ "3 IDX S @2" ∷ "4 DYA ⌊ S S @5" ∷ "5 END SHOW S @0" ∷ [])
+    ∷ shows "M[3]⌊-⌿¯1 ¯3 ¯1 1" (V ∷ [])
+    ("0 RED - ⌿ #1 @6" ∷ "1 BOX #0 @2" ∷ "2 VAR M @1" ∷ "3 IDX S @2" ∷ "4 DYA ⌊ S S @5" ∷ "5 END SHOW S @0" ∷ [])
     ∷ shows "⎕←(⎕IO×2)-(⎕IO)∊[0]R (⍳6)" (F ∷ [])
     ("0 MON ⍳ #2 @23" ∷ "1 GRP S @22" ∷ "2 MON R S @20" ∷ "3 BOX #1 @17" ∷ "4 VAR ⎕IO @12" ∷ "5 GRP S @11" ∷ "6 DYA ∊ K S S @16"
     ∷ "7 VAR ⎕IO @4" ∷ "8 DYA × S #0 @7" ∷ "9 GRP S @3" ∷ "10 DYA - S S @10" ∷ "11 SHOW S @2" ∷ "12 END HIDE S @0" ∷ [])

@@ -6,5 +6,6 @@ ghost use Rattle.apl_listed.specs.Listings.{AreListings};
 
 /// The law that a function has one list of listings in a state.
 pub fn one_list()
-    ensures { (s : State) (function : Option Definition) (some others : Option (List (List ℕ))) → AreListings s function some → AreListings s function others → some ≡ others }
+    ensures { (s : State) (function : Option Definition) (some others : Option (List (List ℕ))) →
+        AreListings s function some → AreListings s function others → some ≡ others }
 {}

@@ -62,7 +62,8 @@ pub fn code_of(
     machine: &Machine,
     name: &[Ch],
 ) -> Result<Option<Vec<Vec<u8>>>, AllocError>
-    ensures { IfOk result (λ found. AreListings machine.now (function_named machine.now name.now) (option_map (λ listings. map (λ bytes. bytes.items) listings.items) found)) }
+    ensures { IfOk result (λ found. AreListings machine.now (function_named machine.now name.now)
+        (option_map (λ listings. map (λ bytes. bytes.items) listings.items) found)) }
 {
     let Some(name) = Name::new(name) else {
         return Ok(None);

@@ -1,6 +1,6 @@
 -- What a line says is read from it.
-use Rattle.std.proofs.Common.{◌≡◌, ℕ, zero, suc, ◌+◌, ◌-◌, ◌*◌, ◌/◌, ◌%◌, ◌<◌, ◌≤◌, Bool, true, false, cond, List, [], ◌∷◌, ◌++◌, length, map, Option, Some, None, refl, sym, ap, ◌∙◌, subst, arith, ⊎_elim}
-use Rattle.std.specs.Prelude.{◌==◌, ◌&&◌, not, decimal, slice_index}
+use Rattle.std.proofs.Common.{◌≡◌, ℕ, zero, suc, ◌+◌, ◌-◌, ◌*◌, ◌/◌, ◌%◌, ◌<◌, ◌≤◌, Bool, true, false, cond, List, [], ◌∷◌, ◌++◌, length, map, Option, Some, None, option_map, refl, sym, ap, ◌∙◌, subst, arith, ⊎_elim}
+use Rattle.std.specs.Prelude.{◌==◌, ◌&&◌, not, decimal}
 use Rattle.std.specs.List.{list_all, remove, insert}
 use Rattle.std.proofs.lemmas.Bool.{cases_lt, le-leb}
 use Rattle.std.proofs.lemmas.Fmt.{decimal_digit, decimal_step}
@@ -28,7 +28,7 @@ use Rattle.apl_code.specs.declared.row.Variable.TheVariants as variable
 use Rattle.apl_code.specs.declared.row.Row.{Row}
 use Rattle.apl_code.specs.declared.row.Row.TheVariants.{Group, Index, Read, Call, Select, Monadic, MonadicAxis, Reduce, ReduceAxis, Dyadic, DyadicAxis, Inner, Outer, Assign, AssignIndexed, Show}
 use Rattle.apl_listing.specs.Listing.{fields, function_word, variable_word, operator_glyph, operator_name, row_words, action_words, list_place, action_list, without, operand, operand_words}
-use Rattle.apl_listing.specs.Reading.{until, past, words, ◌>>=◌, number_of, source_of, name_of, primitive_in, function_of, variable_of, operator_at, function_at, variable_at, has_axis, Done, under_at, reduce_at, action_named, refilled}
+use Rattle.apl_listing.specs.inside.Reading.{until, past, words, ◌>>=◌, number_of, source_of, name_of, primitive_in, function_of, variable_of, operator_at, function_at, has_axis, Done, along, function_row, reduction, reduce_at, done, row_at, action_named, refilled}
 use Rattle.apl_listing.proofs.Fields.{fields_then}
 use Rattle.apl_listing.proofs.Words.{words_step}
 use Rattle.apl_listing.proofs.Signs.{is_sign, AreSigns, sign_blank, sign_at, glyph_sign, glyph_letter, glyph_quad, name_signs, decimal_signs, system_signs}
@@ -146,13 +146,6 @@ function_next f rest h =
     ap (λ w. function_of w >>= λ g. Some (g, past 32 (function_word f ++ 32 ∷ rest))) e.0
     ∙ ap (λ o. o >>= λ g. Some (g, past 32 (function_word f ++ 32 ∷ rest))) (function_again f h)
     ∙ ap (λ t. Some (f, t)) e.1
-
-variable_next : (v : Variable) (rest : List ℕ) → IsVariable v → variable_at (variable_word v ++ 32 ∷ rest) ≡ Some (v, rest)
-variable_next v rest h =
-    let e = word_field (variable_word v) rest (variable_signs v h) in
-    ap (λ w. variable_of w >>= λ g. Some (g, past 32 (variable_word v ++ 32 ∷ rest))) e.0
-    ∙ ap (λ o. o >>= λ g. Some (g, past 32 (variable_word v ++ 32 ∷ rest))) (variable_again v h)
-    ∙ ap (λ t. Some (v, t)) e.1
 
 -- operands
 source_again : (s : Option Source) → IsSlot s → source_of (operand s) ≡ s
@@ -314,11 +307,29 @@ glyph_next operator.SlashBar rest = refl
 glyph_next operator.Slope rest = refl
 glyph_next operator.SlopeBar rest = refl
 
-reduce_next : (f : Function) (m : Operator) (rest : List ℕ) → IsFunction f → reduce_at (function_word f ++ 32 ∷ operator_glyph m ∷ 32 ∷ rest) ≡ under_at f m rest
+reduce_next : (f : Function) (m : Operator) (rest : List ℕ) → IsFunction f → reduce_at (function_word f ++ 32 ∷ operator_glyph m ∷ 32 ∷ rest) ≡ Some (along (Reduce f m) (ReduceAxis f m) rest)
 reduce_next f m rest h =
-    ap (λ o. o >>= λ p. under_at p.0 (operator_at (slice_index p.1 0)) (past 32 p.1)) (function_next f (operator_glyph m ∷ 32 ∷ rest) h)
-    ∙ ap (λ n. under_at f n (past 32 (operator_glyph m ∷ 32 ∷ rest))) (operator_again m)
-    ∙ ap (under_at f m) (glyph_next m rest)
+    ap reduction (function_next f (operator_glyph m ∷ 32 ∷ rest) h)
+    ∙ ap (λ n. Some (along (Reduce f n) (ReduceAxis f n) (past 32 (operator_glyph m ∷ 32 ∷ rest)))) (operator_again m)
+    ∙ ap (λ t. Some (along (Reduce f m) (ReduceAxis f m) t)) (glyph_next m rest)
+
+function_back : (plain axis : Function → Row) (f : Function) (rest : List ℕ) → IsFunction f → function_row plain axis (function_word f ++ 32 ∷ rest) ≡ Some (along (plain f) (axis f) rest)
+function_back plain axis f rest h = ap (λ o. o >>= λ p. Some (along (plain p.0) (axis p.0) p.1)) (function_next f rest h)
+
+-- the word in front gives its row
+row_back : {X : Type 0} (read : List ℕ → Option X) (row : X → Row) (word : List ℕ) (x : X) (rest : List ℕ) → AreSigns word → read word ≡ Some x → row_at read row (word ++ 32 ∷ rest) ≡ Some (Phrase (row x), rest)
+row_back read row word x rest h e =
+    let f = word_field word rest h in
+    ap (λ w. done (option_map row (read w)) (past 32 (word ++ 32 ∷ rest))) f.0
+    ∙ ap (λ o. done (option_map row o) (past 32 (word ++ 32 ∷ rest))) e
+    ∙ ap (λ t. Some (Phrase (row x), t)) f.1
+
+variable_back : (row : Variable → Row) (v : Variable) (rest : List ℕ) → IsVariable v → row_at variable_of row (variable_word v ++ 32 ∷ rest) ≡ Some (Phrase (row v), rest)
+variable_back row v rest h = row_back variable_of row (variable_word v) v rest (variable_signs v h) (variable_again v h)
+
+-- operands that begin with a value begin with no axis
+plain_row : (plain axis : Row) (os : List Operand) (ss : List (Option Source)) (text : List ℕ) → AreOperands (Value ∷ os) ss → text ≡ fields (map operand ss) [] → along plain axis text ≡ (Phrase plain, text)
+plain_row plain axis os ss text t e = ap (λ (b : Bool). cond b (Phrase axis, past 32 text) (Phrase plain, text)) (ap has_axis e ∙ no_axis os ss t)
 
 -- the operator's name leads to it
 named_reduce : (f : Function) (m : Operator) (text rest : List ℕ) → text ≡ operator_name m ++ 32 ∷ rest → action_named (until 32 text) (past 32 text) ≡ reduce_at rest
@@ -333,30 +344,26 @@ read_action text = action_named (until 32 text) (past 32 text)
 row_again : (r : Row) (ss : List (Option Source)) (text : List ℕ) → IsRow r → Takes (Phrase r) ss → text ≡ fields (map operand (without (list_place r) ss)) [] → read_action (fields (row_words r) text) ≡ Some (Phrase r, text)
 row_again Group ss text w t e = refl
 row_again (Index n) ss text w t e = absurd t
-row_again (Read v) ss text w t e = ap (λ o. o >>= λ p. Some (Phrase (Read p.0), p.1)) (variable_next v text w)
-row_again (Call v) ss text w t e = ap (λ o. o >>= λ p. Some (Phrase (Call p.0), p.1)) (variable_next v text w)
+row_again (Read v) ss text w t e = variable_back Read v text w
+row_again (Call v) ss text w t e = variable_back Call v text w
 row_again Select ss text w t e = refl
-row_again (Monadic f) ss text w t e =
-    ap (λ o. o >>= λ p. cond (has_axis p.1) (Some (Phrase (MonadicAxis p.0), past 32 p.1)) (Some (Phrase (Monadic p.0), p.1))) (function_next f text w)
-    ∙ ap (λ (b : Bool). cond b (Some (Phrase (MonadicAxis f), past 32 text)) (Some (Phrase (Monadic f), text))) (ap has_axis e ∙ no_axis [] ss t)
-row_again (MonadicAxis f) ss text w t e = ap (λ o. o >>= λ p. cond (has_axis p.1) (Some (Phrase (MonadicAxis p.0), past 32 p.1)) (Some (Phrase (Monadic p.0), p.1))) (function_next f (75 ∷ 32 ∷ text) w)
+row_again (Monadic f) ss text w t e = function_back Monadic MonadicAxis f text w ∙ ap Some (plain_row (Monadic f) (MonadicAxis f) [] ss text t e)
+row_again (MonadicAxis f) ss text w t e = function_back Monadic MonadicAxis f (75 ∷ 32 ∷ text) w
 row_again (Reduce f m) ss text w t e =
     named_reduce f m (fields (row_words (Reduce f m)) text) (function_word f ++ 32 ∷ operator_glyph m ∷ 32 ∷ text) refl
     ∙ reduce_next f m text w
-    ∙ ap (λ (b : Bool). cond b (Some (Phrase (ReduceAxis f m), past 32 text)) (Some (Phrase (Reduce f m), text))) (ap has_axis e ∙ no_axis [] ss t)
+    ∙ ap Some (plain_row (Reduce f m) (ReduceAxis f m) [] ss text t e)
 row_again (ReduceAxis f m) ss text w t e =
     named_reduce f m (fields (row_words (ReduceAxis f m)) text) (function_word f ++ 32 ∷ operator_glyph m ∷ 32 ∷ 75 ∷ 32 ∷ text) refl
     ∙ reduce_next f m (75 ∷ 32 ∷ text) w
-row_again (Dyadic f) ss text w t e =
-    ap (λ o. o >>= λ p. cond (has_axis p.1) (Some (Phrase (DyadicAxis p.0), past 32 p.1)) (Some (Phrase (Dyadic p.0), p.1))) (function_next f text w)
-    ∙ ap (λ (b : Bool). cond b (Some (Phrase (DyadicAxis f), past 32 text)) (Some (Phrase (Dyadic f), text))) (ap has_axis e ∙ no_axis (Value ∷ []) ss t)
-row_again (DyadicAxis f) ss text w t e = ap (λ o. o >>= λ p. cond (has_axis p.1) (Some (Phrase (DyadicAxis p.0), past 32 p.1)) (Some (Phrase (Dyadic p.0), p.1))) (function_next f (75 ∷ 32 ∷ text) w)
+row_again (Dyadic f) ss text w t e = function_back Dyadic DyadicAxis f text w ∙ ap Some (plain_row (Dyadic f) (DyadicAxis f) (Value ∷ []) ss text t e)
+row_again (DyadicAxis f) ss text w t e = function_back Dyadic DyadicAxis f (75 ∷ 32 ∷ text) w
 row_again (Inner f g) ss text w t e =
     ap (λ o. o >>= λ p. (function_at p.1 >>= λ q. Some (Phrase (Inner p.0 q.0), q.1))) (function_next f (function_word g ++ 32 ∷ text) w.0)
     ∙ ap (λ o. o >>= λ q. Some (Phrase (Inner f q.0), q.1)) (function_next g text w.1)
-row_again (Outer g) ss text w t e = ap (λ o. o >>= λ p. Some (Phrase (Outer p.0), p.1)) (function_next g text w)
-row_again (Assign v) ss text w t e = ap (λ o. o >>= λ p. Some (Phrase (Assign p.0), p.1)) (variable_next v text w)
-row_again (AssignIndexed v) ss text w t e = ap (λ o. o >>= λ p. Some (Phrase (AssignIndexed p.0), p.1)) (variable_next v text w)
+row_again (Outer g) ss text w t e = row_back function_of Outer (function_word g) g text (function_signs g w) (function_again g w)
+row_again (Assign v) ss text w t e = variable_back Assign v text w
+row_again (AssignIndexed v) ss text w t e = variable_back AssignIndexed v text w
 row_again Show ss text w t e = refl
 
 action_again : (a : Action) (ss : List (Option Source)) (text : List ℕ) → IsAction a → Takes a ss → text ≡ fields (operand_words a ss) [] → read_action (fields (action_words a) text) ≡ Some (a, text)

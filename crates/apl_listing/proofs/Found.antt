@@ -7,7 +7,7 @@ use Rattle.apl_charset.specs.Text.{bytes, IsLine}
 use Rattle.apl_code.specs.declared.instr.Instr.{Instr}
 use Rattle.apl_code.specs.Instr.{IsInstr}
 use Rattle.apl_listing.specs.Listing.{body, line}
-use Rattle.apl_listing.specs.Reading.{past, instr_at}
+use Rattle.apl_listing.specs.inside.Reading.{past, instr_at}
 use Rattle.apl_listing.proofs.Lists.{drop_front}
 use Rattle.apl_listing.proofs.Lines.{body_again, body_text}
 

@@ -15,7 +15,7 @@ use Rattle.apl_code.specs.declared.instr.Action.TheVariants.{Box, Phrase, End}
 use Rattle.apl_code.specs.declared.row.Ending.TheVariants.{Branch, Escape, Shown, Hidden, Nothing, Fail}
 use Rattle.apl_code.specs.declared.instr.Instr.{Instr}
 use Rattle.apl_listing.specs.Listing.{fields, action_words, operand_words, body, line}
-use Rattle.apl_listing.specs.Reading.{until, past, ◌>>=◌, number_of, action_named, placed, instr_at}
+use Rattle.apl_listing.specs.inside.Reading.{until, past, ◌>>=◌, number_of, action_named, placed, instr_at}
 use Rattle.apl_listing.specs.Assembly.{HasNoEnd}
 use Rattle.apl_listing.proofs.Fields.{fields_both}
 use Rattle.apl_listing.proofs.Signs.{is_sign, AreSigns, sign_member, decimal_signs}

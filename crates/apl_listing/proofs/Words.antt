@@ -2,7 +2,7 @@
 use Rattle.std.proofs.Common.{◌≡◌, ℕ, ◌<◌, ◌≤◌, Bool, true, false, cond, List, [], ◌∷◌, ◌++◌, length, map, refl, sym, ap, ◌∙◌, arith, append_assoc}
 use Rattle.std.specs.Prelude.{◌==◌, Option}
 use Rattle.apl_code.specs.declared.instr.Source.{Source}
-use Rattle.apl_listing.specs.Reading.{until, past, onto, words, source_of}
+use Rattle.apl_listing.specs.inside.Reading.{until, past, onto, words, source_of}
 
 past_case : (b : Bool) (cs rest : List ℕ) → length rest ≤ length cs → length (cond b cs rest) ≤ length cs
 past_case true cs rest h = omega arith

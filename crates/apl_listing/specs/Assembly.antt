@@ -1,11 +1,11 @@
 -- What assembling a text gives.
-use Rattle.std.specs.Prelude.{◌≡◌, ℕ, ◌<◌, ◌≤◌, ◌==◌, false, List, [], ◌∷◌, ◌++◌, length, take, drop}
+use Rattle.std.specs.Prelude.{◌≡◌, ℕ, ◌+◌, ◌<◌, ◌≤◌, ◌==◌, false, List, [], ◌∷◌, ◌++◌, length, take, drop}
 use Rattle.apl_code.specs.declared.instr.Instr.{Instr}
-use Rattle.apl_code.specs.Instr.{AreInstrs}
+use Rattle.apl_code.specs.Instr.{IsInstr, AreInstrs}
 use Rattle.apl_code.specs.Code.{is_end, IsCode}
 use Rattle.apl_listing.specs.declared.error.AsmError.{AsmError}
 use Rattle.apl_listing.specs.declared.error.AsmError.TheVariants.{Memory, Form}
-use Rattle.apl_listing.specs.Listing.{listed}
+use Rattle.apl_listing.specs.Listing.{line, listed}
 
 -- The first k lines of the text are the first k lines of some listing.
 pub record HasLines (text : List ℕ) (k : ℕ) : Type 0 where
@@ -38,6 +38,10 @@ HasNoEnd (b ∷ bs) = ((b == 10) ≡ false) × HasNoEnd bs
 abbrev pub ArePhrases : List Instr → Type 0
 ArePhrases [] = Unit {0}
 ArePhrases (i ∷ is) = (is_end i.action ≡ false) × ArePhrases is
+
+-- From a place on the text begins with the line of that instruction, which has this number; the line is so long.
+abbrev pub BeginsLine : List ℕ → ℕ → ℕ → Instr × ℕ → Type 0
+BeginsLine text number at x = IsInstr x.0 × (at + x.1 ≤ length text) × (drop at text ≡ line number x.0 ++ drop x.1 (drop at text))
 
 -- the lines read so far
 pub record Reads (text : List ℕ) (code : List Instr) (at : ℕ) : Type 0 where

@@ -1,4 +1,4 @@
 pub mod Listing
 pub mod Kinds
-pub mod Reading
+pub mod inside
 pub mod Assembly

@@ -19,7 +19,8 @@ use Rattle.apl_code.specs.declared.row.Function.TheVariants as function
 use Rattle.apl_code.specs.declared.row.Variable.{Variable}
 use Rattle.apl_code.specs.declared.row.Variable.TheVariants as variable
 use Rattle.apl_code.specs.declared.row.Row.{Row}
-use Rattle.apl_code.specs.declared.row.Row.TheVariants.{Group, Index, Read, Call, Select, Monadic, MonadicAxis, Reduce, ReduceAxis, Dyadic, DyadicAxis, Inner, Outer, Assign, AssignIndexed, Show}
+use Rattle.apl_code.specs.declared.row.Row.TheVariants.{Group, Index, Read, Call, Select, Monadic, MonadicAxis, Reduce}
+use Rattle.apl_code.specs.declared.row.Row.TheVariants.{ReduceAxis, Dyadic, DyadicAxis, Inner, Outer, Assign, AssignIndexed, Show}
 
 -- words, a blank behind each, and what follows them
 abbrev pub fields : List (List ℕ) → List ℕ → List ℕ
@@ -53,6 +54,10 @@ operator_name operator.SlashBar = codes "RED"
 operator_name operator.Slope = codes "SCN"
 operator_name operator.SlopeBar = codes "SCN"
 
+-- a reduction or a scan: its name, the function and the operator
+abbrev pub operator_words : Function → Operator → List (List ℕ)
+operator_words f m = operator_name m ∷ function_word f ∷ (operator_glyph m ∷ []) ∷ []
+
 -- what a row does: its functions or its variable behind a name, and K where it has an axis
 abbrev pub row_words : Row → List (List ℕ)
 row_words Group = codes "GRP" ∷ []
@@ -62,8 +67,8 @@ row_words (Call n) = codes "NIL" ∷ variable_word n ∷ []
 row_words Select = codes "IDX" ∷ []
 row_words (Monadic f) = codes "MON" ∷ function_word f ∷ []
 row_words (MonadicAxis f) = codes "MON" ∷ function_word f ∷ codes "K" ∷ []
-row_words (Reduce f m) = operator_name m ∷ function_word f ∷ (operator_glyph m ∷ []) ∷ []
-row_words (ReduceAxis f m) = operator_name m ∷ function_word f ∷ (operator_glyph m ∷ []) ∷ codes "K" ∷ []
+row_words (Reduce f m) = operator_words f m
+row_words (ReduceAxis f m) = operator_words f m ++ codes "K" ∷ []
 row_words (Dyadic f) = codes "DYA" ∷ function_word f ∷ []
 row_words (DyadicAxis f) = codes "DYA" ∷ function_word f ∷ codes "K" ∷ []
 row_words (Inner f g) = codes "INN" ∷ function_word f ∷ function_word g ∷ []

@@ -1,11 +1,12 @@
 //! Listings, read.
-ghost use Rattle.std.specs.Prelude.{◌≡◌, ◌≤◌, ◌<◌, ◌+◌, ℕ, List, ◌∷◌, ◌++◌, length, drop, IfOk, IfErr, IfSome, IfNone, MatchOption};
+ghost use Rattle.std.specs.Prelude.{◌≡◌, ◌≤◌, ◌<◌, ◌+◌, ℕ, List, ◌∷◌, ◌++◌};
+ghost use Rattle.std.specs.Prelude.{length, drop, IfOk, IfErr, IfSome, IfNone, MatchOption};
 ghost use Rattle.apl_charset.specs.Text.{bytes, IsLine};
 ghost use Rattle.apl_code.specs.Code.{is_end, IsCode};
 ghost use Rattle.apl_code.specs.Instr.{IsInstr};
 ghost use Rattle.apl_code.specs.declared.instr.Instr.{Instr};
 ghost use Rattle.apl_listing.specs.Listing.{body, line, listed};
-ghost use Rattle.apl_listing.specs.Assembly.{HasNoEnd, IsFault};
+ghost use Rattle.apl_listing.specs.Assembly.{BeginsLine, HasNoEnd, IsFault};
 
 use crate::error::AsmError;
 use crate::reading::{instr_at, split};
@@ -101,7 +102,7 @@ fn next_from(
     at: usize,
 ) -> Result<Option<(Instr, usize)>, AllocError>
     requires { at ≤ length text.now }
-    ensures found { IfOk result (λ o. IfSome o (λ x. IsInstr x.0 × (at + x.1 ≤ length text.now) × (drop at text.now ≡ line number x.0 ++ drop x.1 (drop at text.now)))) }
+    ensures found { IfOk result (λ o. IfSome o (BeginsLine text.now number at)) }
     ensures none { IfOk result (λ o. IfNone o ((i : Instr) (rest : List ℕ) → IsInstr i → drop at text.now ≡ line number i ++ rest → ⊥)) }
 {
     next_line(alloc, number, &text[at..])

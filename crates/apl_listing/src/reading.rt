@@ -1,8 +1,10 @@
 //! What a line says, read generously: what is read is compared with the line that it has.
-ghost use Rattle.std.specs.Prelude.{◌≡◌, ◌<◌, ◌-◌, ◌==◌, map, slice_index, option_map, IfOk};
+ghost use Rattle.std.specs.Prelude.{◌≡◌, ◌<◌, ◌-◌, ◌==◌, map, slice_index, option_map, Some, IfOk};
 ghost use Rattle.apl_code.specs.Names.{is_letter};
-ghost use Rattle.apl_listing.specs.Reading.{until, past, words, number_of, source_of, name_of, function_of, variable_of, operator_at, function_at, variable_at, has_axis, monadic_at, dyadic_at, under_at, reduce_at, inner_at, outer_at, read_at, call_at, assign_at, assign_indexed_at, end_at, ending_named, plain_named, variable_named, operator_named, action_named, refilled, placed, instr_at};
 ghost use Rattle.apl_listing.specs.Listing.{action_list};
+ghost use Rattle.apl_listing.specs.inside.Reading.{until, past, words, number_of, source_of, function_of, variable_of, operator_at};
+ghost use Rattle.apl_listing.specs.inside.Reading.{function_at, has_axis, along, function_row, done, reduce_at, inner_at, end_at};
+ghost use Rattle.apl_listing.specs.inside.Reading.{ending_named, plain_named, variable_named, operator_named, action_named, refilled, instr_at};
 
 use crate::writing::index_list;
 use apl_charset::{Ch, is_word};
@@ -101,13 +103,6 @@ fn function_at(text: &[Ch]) -> Option<(Function, &[Ch])>
     Some((function_of(word)?, rest))
 }
 
-fn variable_at(text: &[Ch]) -> Option<(Variable, &[Ch])>
-    ensures { option_map (λ x. (x.0, x.1.now)) result ≡ variable_at text.now }
-{
-    let (word, rest) = split(text, ' ');
-    Some((variable_of(word)?, rest))
-}
-
 /// The first character's code, or 0.
 fn first_code(text: &[Ch]) -> u32
     ensures { result ≡ slice_index text.now 0 }
@@ -138,8 +133,15 @@ fn operator_at(code: u32) -> Operator
     }
 }
 
+/// The row, if there is one, and the operands.
+fn done(row: Option<Row>, operands: &[Ch]) -> Option<(Action, &[Ch])>
+    ensures { option_map (λ x. (x.0, x.1.now)) result ≡ done row operands.now }
+{
+    Some((Action::Phrase(row?), operands))
+}
+
 fn monadic_at(text: &[Ch]) -> Option<(Action, &[Ch])>
-    ensures { option_map (λ x. (x.0, x.1.now)) result ≡ monadic_at text.now }
+    ensures { option_map (λ x. (x.0, x.1.now)) result ≡ function_row Row.Monadic Row.MonadicAxis text.now }
 {
     let Some((f, rest)) = function_at(text) else {
         return None;
@@ -151,7 +153,7 @@ fn monadic_at(text: &[Ch]) -> Option<(Action, &[Ch])>
 }
 
 fn dyadic_at(text: &[Ch]) -> Option<(Action, &[Ch])>
-    ensures { option_map (λ x. (x.0, x.1.now)) result ≡ dyadic_at text.now }
+    ensures { option_map (λ x. (x.0, x.1.now)) result ≡ function_row Row.Dyadic Row.DyadicAxis text.now }
 {
     let Some((f, rest)) = function_at(text) else {
         return None;
@@ -163,7 +165,7 @@ fn dyadic_at(text: &[Ch]) -> Option<(Action, &[Ch])>
 }
 
 fn under_at(f: Function, m: Operator, text: &[Ch]) -> Option<(Action, &[Ch])>
-    ensures { option_map (λ x. (x.0, x.1.now)) result ≡ under_at f m text.now }
+    ensures { option_map (λ x. (x.0, x.1.now)) result ≡ Some (along (Row.Reduce f m) (Row.ReduceAxis f m) text.now) }
 {
     if has_axis(text) {
         return Some((Action::Phrase(Row::ReduceAxis(f, m)), split(text, ' ').1));
@@ -190,51 +192,6 @@ fn inner_at(text: &[Ch]) -> Option<(Action, &[Ch])>
         return None;
     };
     Some((Action::Phrase(Row::Inner(f, g)), rest))
-}
-
-fn outer_at(text: &[Ch]) -> Option<(Action, &[Ch])>
-    ensures { option_map (λ x. (x.0, x.1.now)) result ≡ outer_at text.now }
-{
-    let Some((g, rest)) = function_at(text) else {
-        return None;
-    };
-    Some((Action::Phrase(Row::Outer(g)), rest))
-}
-
-fn read_at(text: &[Ch]) -> Option<(Action, &[Ch])>
-    ensures { option_map (λ x. (x.0, x.1.now)) result ≡ read_at text.now }
-{
-    let Some((v, rest)) = variable_at(text) else {
-        return None;
-    };
-    Some((Action::Phrase(Row::Read(v)), rest))
-}
-
-fn call_at(text: &[Ch]) -> Option<(Action, &[Ch])>
-    ensures { option_map (λ x. (x.0, x.1.now)) result ≡ call_at text.now }
-{
-    let Some((v, rest)) = variable_at(text) else {
-        return None;
-    };
-    Some((Action::Phrase(Row::Call(v)), rest))
-}
-
-fn assign_at(text: &[Ch]) -> Option<(Action, &[Ch])>
-    ensures { option_map (λ x. (x.0, x.1.now)) result ≡ assign_at text.now }
-{
-    let Some((v, rest)) = variable_at(text) else {
-        return None;
-    };
-    Some((Action::Phrase(Row::Assign(v)), rest))
-}
-
-fn assign_indexed_at(text: &[Ch]) -> Option<(Action, &[Ch])>
-    ensures { option_map (λ x. (x.0, x.1.now)) result ≡ assign_indexed_at text.now }
-{
-    let Some((v, rest)) = variable_at(text) else {
-        return None;
-    };
-    Some((Action::Phrase(Row::AssignIndexed(v)), rest))
 }
 
 fn end_at(text: &[Ch]) -> Option<(Action, &[Ch])>
@@ -283,14 +240,15 @@ fn plain_named<'a>(name: &[Ch], text: &'a [Ch]) -> Option<(Action, &'a [Ch])>
 fn variable_named<'a>(name: &[Ch], text: &'a [Ch]) -> Option<(Action, &'a [Ch])>
     ensures { option_map (λ x. (x.0, x.1.now)) result ≡ variable_named name.now text.now }
 {
+    let (word, rest) = split(text, ' ');
     if is_word(name, b"VAR") {
-        read_at(text)
+        done(variable_of(word).map(Row::Read), rest)
     } else if is_word(name, b"NIL") {
-        call_at(text)
+        done(variable_of(word).map(Row::Call), rest)
     } else if is_word(name, b"SET") {
-        assign_at(text)
+        done(variable_of(word).map(Row::Assign), rest)
     } else if is_word(name, b"SETX") {
-        assign_indexed_at(text)
+        done(variable_of(word).map(Row::AssignIndexed), rest)
     } else {
         plain_named(name, text)
     }
@@ -299,6 +257,7 @@ fn variable_named<'a>(name: &[Ch], text: &'a [Ch]) -> Option<(Action, &'a [Ch])>
 fn operator_named<'a>(name: &[Ch], text: &'a [Ch]) -> Option<(Action, &'a [Ch])>
     ensures { option_map (λ x. (x.0, x.1.now)) result ≡ operator_named name.now text.now }
 {
+    let (word, rest) = split(text, ' ');
     if is_word(name, b"RED") {
         reduce_at(text)
     } else if is_word(name, b"SCN") {
@@ -306,7 +265,7 @@ fn operator_named<'a>(name: &[Ch], text: &'a [Ch]) -> Option<(Action, &'a [Ch])>
     } else if is_word(name, b"INN") {
         inner_at(text)
     } else if is_word(name, b"OUT") {
-        outer_at(text)
+        done(function_of(word).map(Row::Outer), rest)
     } else {
         variable_named(name, text)
     }

@@ -23,6 +23,7 @@ impl Model for EmptySlots {
 }
 
 impl EmptySlots {
+    /// Of each slot, whether it is empty.
     pub fn as_slice(&self) -> &[bool]
         ensures { result.now ≡ self.now }
     {

@@ -1,9 +1,11 @@
 //! Which instructions are well made.
-ghost use Rattle.std.specs.Prelude.{◌≡◌, ◌&&◌, [], ◌∷◌, slice_index, MatchBool};
+ghost use Rattle.std.specs.Prelude.{◌≡◌, ◌&&◌, [], ◌∷◌, slice_index};
 ghost use Rattle.std.specs.List.{list_all};
 ghost use Rattle.apl_code.specs.Names.{is_letter, is_in_name, IsName};
-ghost use Rattle.apl_code.specs.Instr.{Value, Slots, IsOperand, AreOperands, IsSlot, AreSlots, Takes, IsFunction, IsVariable, IsRow, IsAction, IsPlace, IsInstr};
+ghost use Rattle.apl_code.specs.Instr.{Value, Slots, IsOperand, AreOperands, IsSlot, AreSlots, Takes};
+ghost use Rattle.apl_code.specs.Instr.{IsFunction, IsVariable, IsRow, IsAction, IsPlace, IsInstr};
 ghost use Rattle.apl_code.specs.declared.instr.Action.TheVariants.{Phrase, End};
+ghost use Rattle.apl_listing.specs.inside.Tests.{Tells};
 
 use crate::reading::is_letter;
 use apl_charset::Ch;
@@ -34,14 +36,14 @@ fn begins_name(text: &[Ch]) -> bool
 }
 
 fn is_name(name: Name) -> bool
-    ensures { MatchBool result (IsName name) (IsName name → ⊥) }
+    ensures { Tells result (IsName name) }
 {
     let text = name.as_slice();
     begins_name(text) && all_in_name(text)
 }
 
 fn is_function(function: Function) -> bool
-    ensures { MatchBool result (IsFunction function) (IsFunction function → ⊥) }
+    ensures { Tells result (IsFunction function) }
 {
     match function {
         Function::Name(name) => is_name(name),
@@ -50,7 +52,7 @@ fn is_function(function: Function) -> bool
 }
 
 fn is_variable(variable: Variable) -> bool
-    ensures { MatchBool result (IsVariable variable) (IsVariable variable → ⊥) }
+    ensures { Tells result (IsVariable variable) }
 {
     match variable {
         Variable::Name(name) => is_name(name),
@@ -59,7 +61,7 @@ fn is_variable(variable: Variable) -> bool
 }
 
 fn is_row(row: Row) -> bool
-    ensures { MatchBool result (IsRow row) (IsRow row → ⊥) }
+    ensures { Tells result (IsRow row) }
 {
     match row {
         Row::Group | Row::Index(_) | Row::Select | Row::Show => true,
@@ -76,7 +78,7 @@ fn is_row(row: Row) -> bool
 }
 
 fn is_action(action: Action) -> bool
-    ensures { MatchBool result (IsAction action) (IsAction action → ⊥) }
+    ensures { Tells result (IsAction action) }
 {
     match action {
         Action::Phrase(row) => is_row(row),
@@ -86,7 +88,7 @@ fn is_action(action: Action) -> bool
 
 /// Whether an operand is a value.
 fn is_value(source: Option<Source>) -> bool
-    ensures { MatchBool result (IsOperand Value source) (IsOperand Value source → ⊥) }
+    ensures { Tells result (IsOperand Value source) }
 {
     match source {
         None => false,
@@ -97,7 +99,7 @@ fn is_value(source: Option<Source>) -> bool
 
 /// Whether an operand is an index list.
 fn is_list(source: Option<Source>) -> bool
-    ensures { MatchBool result (IsOperand Slots source) (IsOperand Slots source → ⊥) }
+    ensures { Tells result (IsOperand Slots source) }
 {
     match source {
         None => false,
@@ -107,7 +109,7 @@ fn is_list(source: Option<Source>) -> bool
 }
 
 fn is_slot(source: Option<Source>) -> bool
-    ensures { MatchBool result (IsSlot source) (IsSlot source → ⊥) }
+    ensures { Tells result (IsSlot source) }
 {
     match source {
         None => true,
@@ -117,7 +119,7 @@ fn is_slot(source: Option<Source>) -> bool
 }
 
 fn are_slots(sources: &[Option<Source>]) -> bool
-    ensures { MatchBool result (AreSlots sources.now) (AreSlots sources.now → ⊥) }
+    ensures { Tells result (AreSlots sources.now) }
 {
     for source in sources {
         if !is_slot(*source) {
@@ -129,7 +131,7 @@ fn are_slots(sources: &[Option<Source>]) -> bool
 
 /// Whether there are no operands.
 fn none(sources: &[Option<Source>]) -> bool
-    ensures { MatchBool result (AreOperands [] sources.now) (AreOperands [] sources.now → ⊥) }
+    ensures { Tells result (AreOperands [] sources.now) }
 {
     match sources {
         [] => true,
@@ -139,7 +141,7 @@ fn none(sources: &[Option<Source>]) -> bool
 
 /// Whether the operands are one value.
 fn one(sources: &[Option<Source>]) -> bool
-    ensures { MatchBool result (AreOperands (Value ∷ []) sources.now) (AreOperands (Value ∷ []) sources.now → ⊥) }
+    ensures { Tells result (AreOperands (Value ∷ []) sources.now) }
 {
     match sources {
         [] => false,
@@ -149,7 +151,7 @@ fn one(sources: &[Option<Source>]) -> bool
 
 /// Whether the operands are two values.
 fn two(sources: &[Option<Source>]) -> bool
-    ensures { MatchBool result (AreOperands (Value ∷ Value ∷ []) sources.now) (AreOperands (Value ∷ Value ∷ []) sources.now → ⊥) }
+    ensures { Tells result (AreOperands (Value ∷ Value ∷ []) sources.now) }
 {
     match sources {
         [] => false,
@@ -159,7 +161,7 @@ fn two(sources: &[Option<Source>]) -> bool
 
 /// Whether the operands are an index list alone.
 fn list(sources: &[Option<Source>]) -> bool
-    ensures { MatchBool result (AreOperands (Slots ∷ []) sources.now) (AreOperands (Slots ∷ []) sources.now → ⊥) }
+    ensures { Tells result (AreOperands (Slots ∷ []) sources.now) }
 {
     match sources {
         [] => false,
@@ -169,7 +171,7 @@ fn list(sources: &[Option<Source>]) -> bool
 
 /// Whether the operands are an index list and a value.
 fn list_and_one(sources: &[Option<Source>]) -> bool
-    ensures { MatchBool result (AreOperands (Slots ∷ Value ∷ []) sources.now) (AreOperands (Slots ∷ Value ∷ []) sources.now → ⊥) }
+    ensures { Tells result (AreOperands (Slots ∷ Value ∷ []) sources.now) }
 {
     match sources {
         [] => false,
@@ -179,7 +181,7 @@ fn list_and_one(sources: &[Option<Source>]) -> bool
 
 /// Whether the operands are a value and an index list.
 fn one_and_list(sources: &[Option<Source>]) -> bool
-    ensures { MatchBool result (AreOperands (Value ∷ Slots ∷ []) sources.now) (AreOperands (Value ∷ Slots ∷ []) sources.now → ⊥) }
+    ensures { Tells result (AreOperands (Value ∷ Slots ∷ []) sources.now) }
 {
     match sources {
         [] => false,
@@ -189,7 +191,7 @@ fn one_and_list(sources: &[Option<Source>]) -> bool
 
 /// Whether the operands are a value, an index list and a value.
 fn around_list(sources: &[Option<Source>]) -> bool
-    ensures { MatchBool result (AreOperands (Value ∷ Slots ∷ Value ∷ []) sources.now) (AreOperands (Value ∷ Slots ∷ Value ∷ []) sources.now → ⊥) }
+    ensures { Tells result (AreOperands (Value ∷ Slots ∷ Value ∷ []) sources.now) }
 {
     match sources {
         [] => false,
@@ -199,7 +201,7 @@ fn around_list(sources: &[Option<Source>]) -> bool
 
 /// Whether a row takes these operands.
 fn row_takes(row: Row, sources: &[Option<Source>]) -> bool
-    ensures { MatchBool result (Takes (Phrase row) sources.now) (Takes (Phrase row) sources.now → ⊥) }
+    ensures { Tells result (Takes (Phrase row) sources.now) }
 {
     match row {
         Row::Index(_) => false,
@@ -218,7 +220,7 @@ fn row_takes(row: Row, sources: &[Option<Source>]) -> bool
 
 /// Whether the end of a line takes these operands.
 fn ending_takes(ending: Ending, sources: &[Option<Source>]) -> bool
-    ensures { MatchBool result (Takes (End ending) sources.now) (Takes (End ending) sources.now → ⊥) }
+    ensures { Tells result (Takes (End ending) sources.now) }
 {
     match ending {
         Ending::Branch | Ending::Shown | Ending::Hidden => one(sources),
@@ -227,7 +229,7 @@ fn ending_takes(ending: Ending, sources: &[Option<Source>]) -> bool
 }
 
 fn takes(action: Action, sources: &[Option<Source>]) -> bool
-    ensures { MatchBool result (Takes action sources.now) (Takes action sources.now → ⊥) }
+    ensures { Tells result (Takes action sources.now) }
 {
     match action {
         Action::Box => !sources.is_empty() && are_slots(sources),
@@ -237,7 +239,7 @@ fn takes(action: Action, sources: &[Option<Source>]) -> bool
 }
 
 fn is_place(action: Action, at: usize) -> bool
-    ensures { MatchBool result (IsPlace action at) (IsPlace action at → ⊥) }
+    ensures { Tells result (IsPlace action at) }
 {
     match action {
         Action::End(Ending::Shown) | Action::End(Ending::Hidden) | Action::End(Ending::Nothing) => {
@@ -252,7 +254,7 @@ fn is_place(action: Action, at: usize) -> bool
 
 /// Whether an instruction is well made.
 pub(crate) fn is_instr(instr: &Instr) -> bool
-    ensures { MatchBool result (IsInstr instr.now) (IsInstr instr.now → ⊥) }
+    ensures { Tells result (IsInstr instr.now) }
 {
     is_action(instr.action)
         && takes(instr.action, instr.arguments.as_slice())

@@ -4,7 +4,9 @@ ghost use Rattle.std.specs.Int.{is_in_range};
 ghost use Rattle.std.specs.List.{list_all};
 ghost use Rattle.apl_charset.specs.Text.{bytes};
 ghost use Rattle.apl_symbols.specs.Glyphs.{glyph_of};
-ghost use Rattle.apl_listing.specs.Listing.{fields, system_word, function_word, variable_word, operator_glyph, operator_name, row_words, ending_words, action_words, action_list, list_place, without, operand, operand_words, body, line, listed};
+ghost use Rattle.apl_listing.specs.Listing.{fields, system_word, function_word, variable_word, operator_glyph, operator_name, operator_words};
+ghost use Rattle.apl_listing.specs.Listing.{row_words, ending_words, action_words, action_list, list_place, without};
+ghost use Rattle.apl_listing.specs.Listing.{operand, operand_words, body, line, listed};
 
 use apl_charset::{Ch, push_ascii, push_number};
 use apl_code::{Action, Code, Ending, Function, Instr, Row, Source, Variable};
@@ -85,7 +87,7 @@ fn push_operator(
     function: Function,
     operator: Operator,
 ) -> Result<(), AllocError>
-    ensures { OnOk result (out.new.items ≡ out.old.items ++ fields (operator_name operator ∷ function_word function ∷ (operator_glyph operator ∷ []) ∷ []) []) }
+    ensures { OnOk result (out.new.items ≡ out.old.items ++ fields (operator_words function operator) []) }
 {
     push_ascii(out, operator_name(operator))?;
     push_ascii(out, b" ")?;

@@ -8,7 +8,7 @@ use Rattle.apl_names.proofs.Texts.{chain, not_below}
 use Rattle.apl_parts.specs.Pieces.{Watched}
 use Rattle.apl_saved.specs.Rules.{Ascend, function_names}
 use Rattle.apl_loading.specs.Refusals.{IsBehind}
-use Rattle.apl_loading.specs.Made.{AreFrom, AreNotBefore}
+use Rattle.apl_loading.specs.inside.Made.{AreFrom, AreNotBefore}
 use Rattle.apl_loading.proofs.Lists.{contains_first, contains_later, contains_now, next_at}
 
 -- ---- names that ascend

@@ -11,7 +11,7 @@ use Rattle.apl_workspace_file.specs.declared.fields.CallField.{CallField}
 use Rattle.apl_workspace_file.specs.declared.fields.RestField.{RestField}
 use Rattle.apl_tokens.specs.declared.token.Token.{Token}
 use Rattle.apl_tokens.specs.Tokens.{tokens_of}
-use Rattle.apl_loading.specs.Made.{IsCallBy, IsRestBy, IsRestOfLine, IsWaitingBy}
+use Rattle.apl_loading.specs.inside.Made.{IsCallBy, IsRestBy, IsRestOfLine, IsWaitingBy}
 use Rattle.apl_loading.proofs.OneLine.{same_tokens}
 
 line_behind : (lines : List Text) (k : ℕ) → line_at lines (suc k) ≡ slice_get lines k

@@ -25,7 +25,7 @@ use Rattle.apl_saved.specs.Rules.{HasNoLabel, IsCall, IsContext, IsLocal, IsPend
 use Rattle.apl_loading.specs.declared.error.LoadFault.{LoadFault}
 use Rattle.apl_loading.specs.declared.error.LoadFault.TheVariants as fault
 use Rattle.apl_loading.specs.Refusals.{AreValues, IsValueOf, operands_of, relisted, relisted_rest, with_listing}
-use Rattle.apl_loading.specs.Made.{AreLocals, IsBuilt, IsCallBy, IsMadeIn, IsMadeOf, IsNamedBy, IsRestOfLine, IsStatementBy, IsWaitingBy, RefusesPart}
+use Rattle.apl_loading.specs.inside.Made.{AreLocals, IsBuilt, IsCallBy, IsMadeIn, IsMadeOf, IsNamedBy, IsRestOfLine, IsStatementBy, IsWaitingBy, RefusesPart}
 use Rattle.apl_loading.proofs.Lists.{one_list}
 use Rattle.apl_loading.proofs.OneArray.{one_operand, one_value}
 use Rattle.apl_loading.proofs.OneDefinition.{one_definition}

@@ -28,7 +28,7 @@ use Rattle.apl_workspace_file.specs.declared.fields.RestField.{RestField}
 use Rattle.apl_workspace_file.specs.declared.fields.StatementField.{StatementField}
 use Rattle.apl_saved.specs.Spelled.{Pairwise, letter_of, letters_of}
 use Rattle.apl_saved.specs.Rules.{IsPendentLine, kind_of}
-use Rattle.apl_loading.specs.Made.{AreClasses, HasStack, IsRestBy, IsStatementBy, IsStatementLine, IsWaitingBy, is_named}
+use Rattle.apl_loading.specs.inside.Made.{AreClasses, HasStack, IsRestBy, IsStatementBy, IsStatementLine, IsWaitingBy, is_named}
 use Rattle.apl_loading.proofs.Lists.{one_list}
 
 -- ---- names of a line

@@ -22,7 +22,7 @@ use Rattle.apl_saved.specs.Rules.{Calls, Follows, IsContext, StandsOn, counted, 
 use Rattle.apl_loading.specs.declared.error.LoadFault.{LoadFault}
 use Rattle.apl_loading.specs.declared.error.LoadFault.TheVariants as fault
 use Rattle.apl_loading.specs.Refusals.{AreSmall, AreValues, Below, HasDefinition, IsNextContext, RefusesContext, TakesContext, counts, relisted, relisted_rest, with_listing}
-use Rattle.apl_loading.specs.Made.{Fits, IsAwaited, IsBelow, IsBuilt, IsListed, IsListedRest, IsMadeIn, IsMadeOf, MayStand, RefusesPart}
+use Rattle.apl_loading.specs.inside.Made.{Fits, IsAwaited, IsBelow, IsBuilt, IsListed, IsListedRest, IsMadeIn, IsMadeOf, MayStand, RefusesPart}
 use Rattle.apl_loading.proofs.OneContext.{same_context}
 use Rattle.apl_loading.proofs.OneLine.{same_tokens}
 

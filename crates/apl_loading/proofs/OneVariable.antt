@@ -5,7 +5,7 @@ use Rattle.apl_charset.specs.Text.{IsLine}
 use Rattle.apl_charset.proofs.Unique.{one_text}
 use Rattle.apl_defn.specs.Definitions.{Text}
 use Rattle.apl_workspace_file.specs.declared.fields.VariableField.{VariableField}
-use Rattle.apl_loading.specs.Made.{AreFrom, IsVariableBehind}
+use Rattle.apl_loading.specs.inside.Made.{AreFrom, IsVariableBehind}
 use Rattle.apl_loading.specs.Refusals.{IsBehind, IsNextVariable, RefusesVariable}
 use Rattle.apl_loading.specs.declared.error.LoadFault.TheVariants as fault
 use Rattle.apl_loading.proofs.Ahead.{AreAhead, has_ahead}

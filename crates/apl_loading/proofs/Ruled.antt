@@ -15,7 +15,7 @@ use Rattle.apl_workspace_file.specs.declared.fields.VariableField.{VariableField
 use Rattle.apl_workspace_file.specs.declared.fields.ContextField.{ContextField}
 use Rattle.apl_saved.specs.Spelled.{IsContextOf, IsFileOf, IsFunctionOf, IsVariableOf, Pairwise}
 use Rattle.apl_saved.specs.Rules.{AreContexts, AreRuled, Ascend, Ends, function_names, variable_names}
-use Rattle.apl_loading.specs.Held.{AreHeld}
+use Rattle.apl_loading.specs.inside.Held.{AreHeld}
 use Rattle.apl_loading.specs.Refusals.{AreTaken, Below, IsBehind, TakesContext, TakesFunction, TakesVariable, context_after, function_after, variable_after}
 use Rattle.apl_loading.proofs.OneContext.{all_by}
 

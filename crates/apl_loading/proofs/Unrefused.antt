@@ -27,7 +27,7 @@ use Rattle.apl_saved.specs.Spelled.{BothOrNeither, IsArrayOf, IsContextOf, IsFil
 use Rattle.apl_saved.specs.Rules.{AreContexts, AreRuled, Ascend, IsContext, counted, function_names, variable_names}
 use Rattle.apl_loading.specs.declared.error.LoadFault.{LoadFault}
 use Rattle.apl_loading.specs.declared.error.LoadFault.TheVariants as fault
-use Rattle.apl_loading.specs.Held.{AreHeld}
+use Rattle.apl_loading.specs.inside.Held.{AreHeld}
 use Rattle.apl_loading.specs.Small.{IsSmall, IsSmallOption, IsSmallOperand}
 use Rattle.apl_loading.specs.Refusals.{AreFunctions, AreSmall, AreTaken, AreValues, AreVariables, Below, HasDefinition, IsBehind, IsNextContext, IsRefused, IsRefusedIn, IsSmallLocal, IsValueOf, RefusesContext, RefusesFunction, RefusesVariable, TakesContext, TakesFunction, TakesVariable, context_after, counts, function_after, locals_in, nothing_below, operands_in, operands_of, relisted, variable_after}
 use Rattle.apl_loading.proofs.OneArray.{one_array}

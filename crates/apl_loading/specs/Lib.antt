@@ -1,5 +1,4 @@
 pub mod Numbers
 pub mod Small
 pub mod Refusals
-pub mod Made
-pub mod Held
+pub mod inside

@@ -42,7 +42,8 @@ AreTaken Takes next s (f ∷ fs) (p ∷ ps) = Takes s fs f p × AreTaken Takes n
 AreTaken Takes next s fs ps = ⊥
 
 -- The first of the fields that is refused is refused for this: those before it stand for parts.
-abbrev pub IsRefusedIn : {S F P : Type 0} → (S → List F → F → P → Type 0) → (S → List F → F → LoadFault → Type 0) → (S → P → S) → S → List F → LoadFault → Type 0
+abbrev pub IsRefusedIn : {S F P : Type 0} → (S → List F → F → P → Type 0) → (S → List F → F → LoadFault → Type 0)
+    → (S → P → S) → S → List F → LoadFault → Type 0
 IsRefusedIn Takes Refuses next s [] e = ⊥
 IsRefusedIn {S} {F} {P} Takes Refuses next s (f ∷ fs) e = Refuses s fs f e ⊎ ((p : P) × Takes s fs f p × IsRefusedIn Takes Refuses next (next s p) fs e)
 

@@ -4,7 +4,7 @@ ghost use Rattle.apl_defn.specs.Definitions.{line_of};
 ghost use Rattle.apl_parts.specs.Restored.{waiting_in};
 ghost use Rattle.apl_saved.specs.Rules.{counted, text_of};
 ghost use Rattle.apl_saved.specs.Spelled.{IsOperandOf, Pairwise};
-ghost use Rattle.apl_loading.specs.Made.{IsBelow, IsBuilt, IsCallBy, IsListed, IsMadeIn, RefusesPart};
+ghost use Rattle.apl_loading.specs.inside.Made.{IsBelow, IsBuilt, IsCallBy, IsListed, IsMadeIn, RefusesPart};
 ghost use Rattle.apl_workspace_file.specs.declared.fields.ContextField.TheVariants as fields;
 ghost use Rattle.apl_loading.specs.Numbers.{Refuses};
 ghost use Rattle.apl_loading.specs.Refusals.{AreStacked, AreValues, Below, IsRefusedIn, RefusesContext, TakesContext, context_after, counts, nothing_below};

@@ -6,7 +6,7 @@ ghost use Rattle.apl_tokens.specs.Tokens.{tokens_of};
 ghost use Rattle.apl_translate.specs.Binding.{bound_of, names_of};
 ghost use Rattle.apl_translate.specs.Translation.{Translates};
 ghost use Rattle.apl_saved.specs.Spelled.{letter_of, letters_of};
-ghost use Rattle.apl_loading.specs.Made.{AreClasses, AreOfText, IsStatementLine, is_named};
+ghost use Rattle.apl_loading.specs.inside.Made.{AreClasses, AreOfText, IsStatementLine, is_named};
 ghost use Rattle.apl_loading.specs.Numbers.{Refuses};
 ghost use Rattle.apl_loading.specs.declared.error.LoadFault.TheVariants as fault;
 

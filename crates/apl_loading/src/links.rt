@@ -5,7 +5,7 @@ ghost use Rattle.apl_parts.specs.Restored.{waiting_in};
 ghost use Rattle.apl_parts.specs.declared.parts.ContextPart.TheVariants as parts;
 ghost use Rattle.apl_parts.specs.declared.parts.StatementPart.{StatementPart};
 ghost use Rattle.apl_saved.specs.Rules.{Calls, IsStatement};
-ghost use Rattle.apl_loading.specs.Made.{Fits, MayStand};
+ghost use Rattle.apl_loading.specs.inside.Made.{Fits, MayStand};
 
 use apl_code::{Action, Function, Row, Variable};
 use apl_defn::Header;

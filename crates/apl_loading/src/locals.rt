@@ -2,19 +2,19 @@
 ghost use Rattle.std.specs.Prelude.{◌≡◌, ◌≢◌, ◌↔◌, ◌⊎◌, ◌++◌, IsTrue, IfOk, IfErr, OnOk, [], ◌∷◌, pos, length, map};
 ghost use Rattle.std.specs.List.{AllByRecursion};
 ghost use Rattle.apl_arrays.specs.Cells.{Numbers};
-ghost use Rattle.apl_arrays.specs.Ravels.{items_of};
+ghost use Rattle.apl_arrays.specs.Left.{listed};
 ghost use Rattle.apl_charset.specs.Text.{IsLine};
 ghost use Rattle.apl_machine_state.specs.Environment.{scalar};
 ghost use Rattle.apl_order.specs.Kept.{named, names_in};
 ghost use Rattle.apl_saved.specs.Rules.{IsLocal};
 ghost use Rattle.apl_saved.specs.Spelled.{Pairwise};
-ghost use Rattle.apl_loading.specs.Made.{AreLocals, IsNamedBy};
+ghost use Rattle.apl_loading.specs.inside.Made.{AreLocals, IsNamedBy};
 ghost use Rattle.apl_loading.specs.Numbers.{Refuses};
 ghost use Rattle.apl_loading.specs.declared.error.LoadFault.TheVariants as fault;
 
 use crate::error::LoadFault;
 use crate::names::is_named;
-use apl_arrays::{Array, Ravel};
+use apl_arrays::{Array, Elements};
 use apl_defn::Header;
 use apl_phrases::origin_name;
 use apl_symbols::Name;
@@ -78,12 +78,12 @@ fn paired(
 }
 
 /// Whether the elements are 0 or 1 alone.
-fn is_bit(ravel: &Ravel) -> bool
-    ensures { IsTrue result ↔ ((items_of ravel.now ≡ Numbers (pos 0 ∷ [])) ⊎ (items_of ravel.now ≡ Numbers (pos 1 ∷ []))) }
+fn is_bit(items: Elements<'_>) -> bool
+    ensures { IsTrue result ↔ ((listed items.entry ≡ Numbers (pos 0 ∷ [])) ⊎ (listed items.entry ≡ Numbers (pos 1 ∷ []))) }
 {
-    match ravel {
-        Ravel::Nums(numbers) => matches!(numbers.as_slice(), [0 | 1]),
-        Ravel::Chars(_) => false,
+    match items {
+        Elements::Nums(numbers) => matches!(numbers, [0 | 1]),
+        Elements::Chars(_) => false,
     }
 }
 
@@ -91,7 +91,7 @@ fn is_bit(ravel: &Ravel) -> bool
 fn is_origin(array: &Array) -> bool
     ensures { IsTrue result ↔ ((array.now ≡ scalar 0) ⊎ (array.now ≡ scalar 1)) }
 {
-    array.shape().is_empty() && is_bit(array.ravel())
+    array.shape().is_empty() && is_bit(array.items())
 }
 
 /// Whether a name may have that value, or none: only `⎕IO` may not have any.

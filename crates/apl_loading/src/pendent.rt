@@ -5,7 +5,7 @@ ghost use Rattle.apl_saved.specs.Rules.{IsPendentLine};
 ghost use Rattle.apl_translate.specs.Binding.{names_of};
 ghost use Rattle.apl_defn.specs.Definitions.{Text as Line};
 ghost use Rattle.apl_parts.specs.Pieces.{Waiting};
-ghost use Rattle.apl_loading.specs.Made.{Agrees, AreOfText, IsMade, IsMadeOf, IsRestBy, IsRestMade, IsStatementBy, IsStatementLine, IsWaitingBy};
+ghost use Rattle.apl_loading.specs.inside.Made.{Agrees, AreOfText, IsMade, IsMadeOf, IsRestBy, IsRestMade, IsStatementBy, IsStatementLine, IsWaitingBy};
 ghost use Rattle.apl_loading.specs.Numbers.{Refuses};
 ghost use Rattle.apl_loading.specs.declared.error.LoadFault.TheVariants as fault;
 
@@ -56,7 +56,8 @@ fn bound_rest(
     requires classes { length classes.items ≡ length (names_of tokens.now) }
     ensures rest { IfOk result (λ l. l.rest ≡ record { classes = classes.items; done = done; operands = operands.items }) }
     ensures made { IfOk result (λ l. IsMade tokens.now l.rest l.action l.listing.items) }
-    ensures refused { IfErr result (λ e. e ≢ fault.Memory → (e ≡ fault.Context) × ((code : List AnInstr) → ¬ IsPendentLine tokens.now (record { classes = classes.items; done = done; operands = operands.items }) code)) }
+    ensures refused { IfErr result (λ e. e ≢ fault.Memory → (e ≡ fault.Context) × ((code : List AnInstr) →
+        ¬ IsPendentLine tokens.now (record { classes = classes.items; done = done; operands = operands.items }) code)) }
 {
     let kept = code_of(alloc, tokens, classes.as_slice(), cache)?;
     let code: &Code = &kept;
@@ -107,7 +108,8 @@ pub(crate) fn read_statement(
 ) -> Result<PendentStatement, LoadFault>
     ensures found { IfOk result (λ s. IsStatementBy field.now operands.items s.part.text s.part.rest) }
     ensures made { IfOk result (λ s. IsMadeOf s.part.text s.part.rest s.action s.listing.items) }
-    ensures refused { IfErr result (λ e. e ≢ fault.Memory → (e ≡ fault.Context) × ((text : Line) (w : Waiting) → ¬ IsStatementBy field.now operands.items text w)) }
+    ensures refused { IfErr result (λ e. e ≢ fault.Memory →
+        (e ≡ fault.Context) × ((text : Line) (w : Waiting) → ¬ IsStatementBy field.now operands.items text w)) }
 {
     let StatementLine { text, tokens } = read_statement_line(alloc, &field.line)?;
     let line = read_rest(alloc, tokens.as_slice(), &field.rest, operands, cache)?;

@@ -1,7 +1,7 @@
 //! The operand stack of a line that awaits an answer.
 ghost use Rattle.std.specs.Prelude.{◌≡◌, ◌↔◌, IsTrue, IfOk, map, is_none};
 ghost use Rattle.apl_saved.specs.Rules.{kind_of};
-ghost use Rattle.apl_loading.specs.Made.{HasStack};
+ghost use Rattle.apl_loading.specs.inside.Made.{HasStack};
 
 use apl_arrays::Array;
 use apl_code::Code;

@@ -78,7 +78,8 @@ pub(crate) fn read_values(alloc: Global, field: &ContextField) -> Result<Values,
     requires locals { AllByRecursion IsSmallLocal (locals_in field.now) }
     requires operands { AllByRecursion IsSmallOperand (operands_in field.now) }
     ensures found { IfOk result (λ v. AreValues field.now v.locals.items v.operands.items) }
-    ensures refused { IfErr result (λ e. e ≢ fault.Memory → (e ≡ fault.Array) × ((values : List (Option Arr)) (operands : List AnOperand) → ¬ AreValues field.now values operands)) }
+    ensures refused { IfErr result (λ e. e ≢ fault.Memory →
+        (e ≡ fault.Array) × ((values : List (Option Arr)) (operands : List AnOperand) → ¬ AreValues field.now values operands)) }
 {
     let locals = read_all(alloc, locals_in(field))?;
     let operands = read_all(alloc, operands_in(field))?;

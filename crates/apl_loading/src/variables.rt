@@ -4,7 +4,7 @@ ghost use Rattle.std.specs.declared.cmp.Ordering.TheVariants.{Less};
 ghost use Rattle.apl_defn.specs.Definitions.{Text};
 ghost use Rattle.apl_names.specs.Maps.{name_cmp};
 ghost use Rattle.apl_saved.specs.Rules.{Ascend, function_names};
-ghost use Rattle.apl_loading.specs.Made.{AreFrom, AreNotBefore, IsVariableBehind};
+ghost use Rattle.apl_loading.specs.inside.Made.{AreFrom, AreNotBefore, IsVariableBehind};
 ghost use Rattle.apl_loading.specs.Refusals.{AreVariables, IsRefusedIn, RefusesVariable, TakesVariable, variable_after};
 ghost use Rattle.apl_loading.specs.declared.error.LoadFault.TheVariants as fault;
 
@@ -92,7 +92,8 @@ pub(crate) fn read_variables(
 ) -> Result<Vec<(Name, Array)>, LoadFault>
     requires { Ascend (function_names functions.now) }
     ensures found { IfOk result (λ v. AreVariables (function_names functions.now) fields.now v.items) }
-    ensures refused { IfErr result (λ e. e ≢ fault.Memory → IsRefusedIn (TakesVariable (function_names functions.now)) (RefusesVariable (function_names functions.now)) variable_after None fields.now e) }
+    ensures refused { IfErr result (λ e. e ≢ fault.Memory →
+        IsRefusedIn (TakesVariable (function_names functions.now)) (RefusesVariable (function_names functions.now)) variable_after None fields.now e) }
 {
     let mut before = None;
     let mut ahead = functions;

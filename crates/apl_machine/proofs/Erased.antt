@@ -46,7 +46,6 @@ under_erased n ms (Execute s ∷ cs) e = under_erased n ms cs e
 pub erase_sound : (s : Space) (ns : List Map) (stops traces : Vectors) (n : Text) → IsSound s → ns ≡ without_global n s.maps → IsSound (record s { maps = ns; kept = settings stops traces s.kept.origin })
 erase_sound s ns stops traces n h e = subst (λ (x : List Map). IsSound (record s { maps = x; kept = settings stops traces s.kept.origin })) (sym e) (record {
   contexts = record { stacked = h.contexts.stacked; as_many = length_erased n s.maps ∙ h.contexts.as_many };
-  origin = h.origin;
 })
 
 pub erase_is : (s : Space) (ns : List Map) (stops traces : Vectors) (n : Text) → IsSound s → ns ≡ without_global n s.maps → stops ≡ without_vector n s.kept.stops → traces ≡ without_vector n s.kept.traces → state_of (record s { maps = ns; kept = settings stops traces s.kept.origin }) ≡ objects.without_global n (state_of s)

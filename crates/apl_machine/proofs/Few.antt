@@ -15,7 +15,7 @@ use Rattle.apl_contexts.specs.declared.context.Context.TheVariants.{Statement, C
 use Rattle.apl_contexts.specs.Contexts.{lines_in, standing}
 use Rattle.apl_contexts.proofs.Blamed.{standing_dressed}
 use Rattle.apl_machine.specs.Spaces.{IsHeld, Space, state_of}
-use Rattle.apl_machine.specs.Traces.{AreFew}
+use Rattle.apl_machine.specs.inside.Traces.{AreFew}
 
 -- ---- calls
 

@@ -1,11 +1,7 @@
 pub mod Worlds
 pub mod Deeds
 pub mod Executing
-pub mod Traces
-pub mod Leaving
-pub mod Reduced
+pub mod inside
 pub mod Changes
-pub mod Paces
 pub mod Spaces
 pub mod Refusals
-pub mod Next

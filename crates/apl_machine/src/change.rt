@@ -1,6 +1,7 @@
 //! What a step makes of a machine.
 ghost use Rattle.std.specs.Prelude.{◌≡◌, ◌≤◌, ◌∷◌, [], true, IfOk, IsSome, List, None, Some, ℕ, length, reverse};
 ghost use Rattle.apl_arrays.specs.Cells.{Numbers};
+ghost use Rattle.apl_arrays.specs.Origins.{origin_number};
 ghost use Rattle.apl_arrays.specs.Simple.{vector};
 ghost use Rattle.apl_format.specs.Display.{display};
 ghost use Rattle.apl_names.specs.Maps.{Map};
@@ -9,20 +10,20 @@ ghost use Rattle.apl_machine_state.specs.declared.operand.Operand.TheVariants.{V
 ghost use Rattle.apl_machine_state.specs.Changes.{aim, leads_nowhere, line_number};
 ghost use Rattle.apl_machine_state.specs.Reports.{fault_lines};
 ghost use Rattle.apl_machine_state.specs.Watching.{arrow, blank};
-ghost use Rattle.apl_operands.specs.Operands.{AreThere, fetched};
+ghost use Rattle.apl_operands.specs.Operands.{Offers, fetched_from};
 ghost use Rattle.apl_frames.specs.Ends.{HoldsValue, IsColumn, has_place, is_of_value};
 ghost use Rattle.apl_contexts.specs.Contexts.{AreSound, AreStacked, Newest, dressed, line_in, lines_in, standing};
 ghost use Rattle.apl_machine.specs.Changes.{IsChange};
 ghost use Rattle.apl_machine.specs.Executing.{executes};
-ghost use Rattle.apl_machine.specs.Leaving.{Aims, Faulty, IsLeaving, finished, leaving};
-ghost use Rattle.apl_machine.specs.Reduced.{IsReduced};
-ghost use Rattle.apl_machine.specs.Traces.{trace_of};
+ghost use Rattle.apl_machine.specs.inside.Leaving.{Aims, EndsAt, FailsAt, Leaves, finished, leaving, left_by};
+ghost use Rattle.apl_machine.specs.inside.Reduced.{Reduces};
+ghost use Rattle.apl_machine.specs.inside.Traces.{trace_of};
 ghost use Rattle.apl_machine.specs.Worlds.{settings};
 ghost use Rattle.apl_phrases.specs.Effects.{acted, seen};
 
 use crate::reports::context_fault;
-use crate::traces::{trace, trace_value, vector_of};
-use apl_arrays::{Array, Ravel};
+use crate::traces::{trace, trace_value};
+use apl_arrays::{Array, Elements, Origin, Ravel};
 use apl_charset::{Ch, Text};
 use apl_code::{Action, Ending, Instr};
 use apl_contexts::{Context, Contexts};
@@ -66,9 +67,9 @@ pub enum Change {
 fn leads_nowhere(array: &Array) -> bool
     ensures { result ≡ leads_nowhere array.now.items }
 {
-    match array.ravel() {
-        Ravel::Chars(characters) => !characters.is_empty(),
-        Ravel::Nums(_) => false,
+    match array.items() {
+        Elements::Chars(characters) => !characters.is_empty(),
+        Elements::Nums(_) => false,
     }
 }
 
@@ -83,12 +84,12 @@ fn line_number(number: i64) -> usize
 fn aim(array: &Array) -> Option<usize>
     ensures { result ≡ aim array.now.items }
 {
-    match array.ravel() {
-        Ravel::Nums(numbers) => match numbers.first() {
+    match array.items() {
+        Elements::Nums(numbers) => match numbers.first() {
             Some(number) => Some(line_number(*number)),
             None => None,
         },
-        Ravel::Chars(_) => None,
+        Elements::Chars(_) => None,
     }
 }
 
@@ -101,7 +102,7 @@ fn failing(
 ) -> Result<Change, AllocError>
     requires stacked { AreStacked Newest contexts.now }
     requires column { IsColumn column }
-    ensures { IfOk result (λ change. (ms : List Map) (trace : List ℕ → List (List ℕ) → List (List ℕ)) (rest : Fault → List (List ℕ)) → rest fault ≡ fault_lines fault column (dressed ms contexts.now) → IsLeaving change (Faulty fault) trace rest) }
+    ensures { IfOk result (FailsAt column fault contexts.now) }
 {
     let report = context_fault(alloc, fault, contexts.stack(), column)?;
     Ok(Change::Fails(report))
@@ -124,7 +125,7 @@ fn executes(contexts: &Contexts) -> bool
 
 /// The newest line ends without a value.
 fn finishing(alloc: Global, traces: &Vectors, contexts: &Contexts) -> Result<Change, AllocError>
-    ensures { IfOk result (λ change. (report : Fault → List (List ℕ)) → IsLeaving change (finished (executes contexts.now) None [] [] []) (trace_of traces.now contexts.now) report) }
+    ensures { IfOk result (Leaves (finished (executes contexts.now) None [] [] []) traces.now contexts.now) }
 {
     if executes(contexts) {
         return Ok(Change::Answers(None));
@@ -139,7 +140,7 @@ fn hiding(
     contexts: &Contexts,
     value: &Array,
 ) -> Result<Change, AllocError>
-    ensures { IfOk result (λ change. (report : Fault → List (List ℕ)) → IsLeaving change (finished (executes contexts.now) (Some value.now) [] blank (display value.now)) (trace_of traces.now contexts.now) report) }
+    ensures { IfOk result (Leaves (finished (executes contexts.now) (Some value.now) [] blank (display value.now)) traces.now contexts.now) }
 {
     if executes(contexts) {
         return Ok(Change::Answers(Some(value.copy()?)));
@@ -156,7 +157,7 @@ fn showing(
     contexts: &Contexts,
     value: &Array,
 ) -> Result<Change, AllocError>
-    ensures { IfOk result (λ change. (report : Fault → List (List ℕ)) → IsLeaving change (finished (executes contexts.now) (Some value.now) (display value.now) blank (display value.now)) (trace_of traces.now contexts.now) report) }
+    ensures { IfOk result (Leaves (finished (executes contexts.now) (Some value.now) (display value.now) blank (display value.now)) traces.now contexts.now) }
 {
     if executes(contexts) {
         return Ok(Change::Answers(Some(value.copy()?)));
@@ -175,7 +176,7 @@ fn branching(
     contexts: &Contexts,
     value: &Array,
 ) -> Result<Change, AllocError>
-    ensures { IfOk result (λ change. (report : Fault → List (List ℕ)) → IsLeaving change (Aims (aim value.now.items) (display value.now)) (trace_of traces.now contexts.now) report) }
+    ensures { IfOk result (Leaves (Aims (aim value.now.items) (display value.now)) traces.now contexts.now) }
 {
     let lines = trace_value(alloc, traces, contexts.call(), &arrow(), value)?;
     Ok(Change::Branches(aim(value), lines))
@@ -193,7 +194,7 @@ fn leaving_with(
     requires value { is_of_value ending ≡ true }
     requires placed { has_place ending ≡ true → IsColumn instr.now.at }
     requires stacked { AreStacked Newest contexts.now }
-    ensures { IfOk result (λ change. (ms : List Map) → IsLeaving change (leaving (executes contexts.now) ending (Some (Value value.now) ∷ [])) (trace_of traces.now contexts.now) (λ fault. fault_lines fault instr.now.at (dressed ms contexts.now))) }
+    ensures { IfOk result (EndsAt instr.now.at (leaving (executes contexts.now) ending (Some (Value value.now) ∷ [])) traces.now contexts.now) }
 {
     match ending {
         Ending::Hidden => hiding(alloc, traces, contexts, value),
@@ -218,11 +219,11 @@ fn leaving(
     traces: &Vectors,
     contexts: &Contexts,
 ) -> Result<Change, AllocError>
-    requires there { AreThere (length operands.constants.now) instr.now.arguments (length operands.stack.now) }
-    requires value { is_of_value ending ≡ true → HoldsValue (fetched operands.constants.now instr.now.arguments (reverse operands.stack.now)) }
+    requires there { Offers operands instr.now.arguments }
+    requires value { is_of_value ending ≡ true → HoldsValue (fetched_from operands instr.now.arguments) }
     requires placed { has_place ending ≡ true → IsColumn instr.now.at }
     requires stacked { AreStacked Newest contexts.now }
-    ensures { IfOk result (λ change. (ms : List Map) → IsLeaving change (leaving (executes contexts.now) ending (fetched operands.entry.constants.now instr.now.arguments (reverse operands.entry.stack.now))) (trace_of traces.now contexts.now) (λ fault. fault_lines fault instr.now.at (dressed ms contexts.now))) }
+    ensures { IfOk result (EndsAt instr.now.at (left_by ending instr.now operands.entry contexts.now) traces.now contexts.now) }
 {
     match ending {
         Ending::Nothing => finishing(alloc, traces, contexts),
@@ -247,7 +248,7 @@ fn line_counter(alloc: Global, contexts: &Contexts) -> Result<Array, AllocError>
     ensures { IfOk result (λ array. array ≡ vector (Numbers (lines_in contexts.now))) }
 {
     let numbers = contexts.line_numbers(alloc)?;
-    Ok(vector_of(numbers))
+    Ok(Array::vector(Ravel::Nums(numbers)))
 }
 
 /// What a phrase makes of a machine.
@@ -258,12 +259,11 @@ fn reduce(
     instr: &Instr,
     operands: Operands<'_>,
 ) -> Result<Change, AllocError>
-    requires there { AreThere (length operands.constants.now) instr.now.arguments (length operands.stack.now) }
-    requires small { scene.io ≤ 1 }
+    requires there { Offers operands instr.now.arguments }
     requires placed { IsColumn instr.now.at }
     requires stacked { AreStacked Newest contexts.now }
     requires few { standing contexts.now ≤ 256 }
-    ensures { IfOk result (λ change. (ms : List Map) → IsReduced change (acted (seen scene.entry (lines_in contexts.now)) instr.now.action (fetched operands.entry.constants.now instr.now.arguments (reverse operands.entry.stack.now))) operands.entry.stack.now instr.now.arguments (λ fault. fault_lines fault instr.now.at (dressed ms contexts.now))) }
+    ensures { IfOk result (Reduces scene.entry instr.now operands.entry contexts.now) }
 {
     let sources = instr.arguments.as_slice();
     match perform(alloc, scene, &instr.action, sources, operands)? {
@@ -302,14 +302,13 @@ pub fn change_of(
     alloc: Global,
     names: &Names,
     traces: &Vectors,
-    io: usize,
+    io: Origin,
     contexts: &Contexts,
 ) -> Result<Change, AllocError>
     requires sound { AreSound contexts.now names.now }
-    requires small { io ≤ 1 }
     requires few { standing contexts.now ≤ 256 }
     requires runs { IsSome (line_in contexts.now) }
-    ensures { IfOk result (λ change. (stops : Vectors) → IsChange change names.now (settings stops traces.now io) contexts.now) }
+    ensures { IfOk result (λ change. (stops : Vectors) → IsChange change names.now (settings stops traces.now (origin_number io)) contexts.now) }
 {
     let Some(line) = contexts.line() else {
         unreachable!()

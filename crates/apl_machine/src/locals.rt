@@ -3,11 +3,11 @@ ghost use Rattle.std.specs.Prelude.{◌≡◌, ◌≤◌, ◌++◌, ℤ, IfOk, L
 ghost use Rattle.apl_machine_state.specs.Calls.{local_of, named, names_of_call};
 ghost use Rattle.apl_phrases.specs.Effects.{seen};
 
-use apl_arrays::{Array, Cell};
+use apl_arrays::Array;
 use apl_defn::Definition;
 use apl_names::Binding;
 use apl_parts::{bound_to, push_labels};
-use apl_phrases::{Scene, origin_name};
+use apl_phrases::{Scene, origin_name, origin_scalar};
 use apl_symbols::Name;
 use std::alloc::{AllocError, Global};
 
@@ -26,30 +26,26 @@ fn push_named(
 }
 
 /// What a local stands for as a call begins: nothing yet, but `⎕IO` has the caller's value.
-fn local_of(alloc: Global, scene: Scene<'_>, name: &Name) -> Result<(Name, Binding), AllocError>
-    requires { scene.io ≤ 1 }
-    ensures { IfOk result (λ e. (lines : List ℤ) → e ≡ local_of (seen scene.entry lines) name.now) }
+fn local_of(scene: Scene<'_>, name: &Name) -> (Name, Binding)
+    ensures { (lines : List ℤ) → result ≡ local_of (seen scene.entry lines) name.now }
 {
     if *name == origin_name() {
-        let origin = Array::scalar(alloc, Cell::Num(scene.origin() as i64))?;
-        Ok((*name, Binding::Value(origin)))
+        (*name, Binding::Value(origin_scalar(scene.origin())))
     } else {
-        Ok((*name, Binding::Unset))
+        (*name, Binding::Unset)
     }
 }
 
 /// Adds the locals.
 fn push_locals(
-    alloc: Global,
     names: &mut Vec<(Name, Binding)>,
     scene: Scene<'_>,
     locals: &[Name],
 ) -> Result<(), AllocError>
-    requires { scene.io ≤ 1 }
     ensures { OnOk result ((lines : List ℤ) → names.new.items ≡ names.old.items ++ map (local_of (seen scene.entry lines)) locals.now) }
 {
     for local in locals {
-        names.push(local_of(alloc, scene, local)?)?;
+        names.push(local_of(scene, local))?;
     }
     Ok(())
 }
@@ -62,7 +58,6 @@ pub(crate) fn names_of_call(
     left: Option<Array>,
     right: Option<Array>,
 ) -> Result<Vec<(Name, Binding)>, AllocError>
-    requires { scene.io ≤ 1 }
     ensures { IfOk result (λ names. (lines : List ℤ) → names.items ≡ names_of_call (seen scene.entry lines) definition.now left right) }
 {
     let header = definition.header();
@@ -70,7 +65,7 @@ pub(crate) fn names_of_call(
     push_named(&mut names, header.result, Binding::Unset)?;
     push_named(&mut names, header.left, bound_to(left))?;
     push_named(&mut names, header.right, bound_to(right))?;
-    push_locals(alloc, &mut names, scene, header.locals.as_slice())?;
+    push_locals(&mut names, scene, header.locals.as_slice())?;
     push_labels(&mut names, definition.labels())?;
     Ok(names)
 }

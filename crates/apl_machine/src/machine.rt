@@ -1,10 +1,12 @@
 //! The machine.
-ghost use Rattle.std.specs.Prelude.{◌≡◌, ◌↔◌, [], ◌∷◌, None, Some, Ok, true, false, IfOk, IfSome, IfNone, OnOk, OnErr, IsErrOf, IsFalse, option_copied, option_map};
+ghost use Rattle.std.specs.Prelude.{◌≡◌, ◌↔◌, [], ◌∷◌, None, Some, Ok, true, false, IfOk, IfSome};
+ghost use Rattle.std.specs.Prelude.{IfNone, OnOk, OnErr, IsErrOf, IsFalse, option_copied, option_map};
 ghost use Rattle.apl_machine_state.specs.Items.{Rest};
 ghost use Rattle.apl_machine_state.specs.Environment.{class_of, rest_at};
 ghost use Rattle.apl_machine_state.specs.Frames.{IsFrame};
 ghost use Rattle.apl_machine_state.specs.Objects.{cleared, erased, globals, levels, vectors_of};
-ghost use Rattle.apl_machine_state.specs.State.{State, clear, definition_of, interrupt, is_global_variable, is_idle, progress, step, turn, value_of, with_function, with_lines};
+ghost use Rattle.apl_machine_state.specs.State.{State, clear, definition_of, interrupt, is_global_variable, is_idle};
+ghost use Rattle.apl_machine_state.specs.State.{progress, step, turn, value_of, with_function, with_lines};
 ghost use Rattle.apl_machine_state.specs.Beginning.{begun, started};
 ghost use Rattle.apl_tokens.specs.Tokens.{tokens_of};
 ghost use Rattle.apl_contexts.specs.Contexts.{line_in};
@@ -16,7 +18,7 @@ use crate::objects::{clear, define, erase, function_in, is_variable};
 use crate::reports::{token_fault, typed_fault};
 use crate::stepping::{abandon, make, progress_of};
 use crate::workspace::Workspace;
-use apl_arrays::Array;
+use apl_arrays::{Array, Origin};
 use apl_charset::{Ch, Text};
 use apl_contexts::{Context, Contexts, Lines, Statement, begin_line};
 use apl_defn::Definition;
@@ -144,7 +146,7 @@ impl Machine {
                 names: Names::new(alloc),
                 stops: Vectors::new(alloc),
                 traces: Vectors::new(alloc),
-                io: 1,
+                io: Origin::One,
                 cache: Cache::new(alloc),
                 lines: Lines::new(alloc),
                 contexts: Contexts::new(alloc),

@@ -7,6 +7,7 @@ ghost use Rattle.apl_names.specs.Maps.{function_in};
 ghost use Rattle.apl_machine.specs.Spaces.{IsSound, state_of};
 
 use crate::workspace::Workspace;
+use apl_arrays::Origin;
 use apl_defn::Definition;
 use apl_names::{Binding, DefinedFunction};
 use apl_symbols::Name;
@@ -80,6 +81,6 @@ pub(crate) fn clear(workspace: &mut Workspace)
     workspace.names.clear();
     workspace.stops.clear();
     workspace.traces.clear();
-    workspace.io = 1;
+    workspace.io = Origin::One;
     workspace.contexts.clear();
 }

@@ -7,7 +7,7 @@ ghost use Rattle.apl_format.specs.Display.{display};
 ghost use Rattle.apl_machine_state.specs.Reports.{said};
 ghost use Rattle.apl_machine_state.specs.State.{stop_report};
 ghost use Rattle.apl_machine_state.specs.Watching.{behind, lines_array};
-ghost use Rattle.apl_machine.specs.Traces.{AreFew, IsTraced, IsUntraced, trace_by};
+ghost use Rattle.apl_machine.specs.inside.Traces.{AreFew, IsTraced, IsUntraced, trace_by};
 
 use apl_arrays::{Array, Ravel};
 use apl_charset::{Ch, Text};
@@ -119,18 +119,6 @@ pub(crate) fn trace_value(
     }
 }
 
-/// The vector of some numbers.
-pub(crate) fn vector_of(numbers: Vec<i64>) -> Array
-    requires { length numbers.items ≤ 1000000 }
-    ensures { result ≡ vector (Numbers numbers.items) }
-{
-    let count = numbers.len();
-    match Array::from_shape(&[count], Ravel::Nums(numbers)) {
-        Ok(array) => array,
-        Err(_) => unreachable!(),
-    }
-}
-
 /// Line numbers as the numbers of an array.
 fn numbers_of(alloc: Global, lines: &[usize]) -> Result<Vec<i64>, AllocError>
     requires { All (λ n. n ≤ 999) lines.now }
@@ -149,5 +137,5 @@ pub(crate) fn lines_array(alloc: Global, lines: &[usize]) -> Result<Array, Alloc
     ensures { IfOk result (λ array. array ≡ lines_array lines.now) }
 {
     let numbers = numbers_of(alloc, lines)?;
-    Ok(vector_of(numbers))
+    Ok(Array::vector(Ravel::Nums(numbers)))
 }

@@ -11,3 +11,4 @@ pub mod Beneath
 pub mod Taking
 pub mod ScopeAnswers
 pub mod GlobalKinds
+pub mod Swaps

@@ -1,5 +1,5 @@
 -- The names in force: maps from names to what they stand for, the newest first and the global one last.
-use Rattle.std.specs.Prelude.{◌≡◌, ℕ, List, [], ◌∷◌, map, Bool, true, false, Option, Some, None, is_some, if◌then◌else◌}
+use Rattle.std.specs.Prelude.{◌≡◌, ℕ, List, [], ◌∷◌, map, Bool, true, false, Option, Some, None, option_map, is_some, if◌then◌else◌}
 use Rattle.std.specs.Option.{option_or}
 use Rattle.std.specs.declared.cmp.Ordering.{Ordering}
 use Rattle.std.specs.declared.cmp.Ordering.TheVariants.{Less}
@@ -40,6 +40,10 @@ IsMap (e ∷ es) = IsAbove e.0 es
 -- what a map says of a name, if it has the name
 abbrev pub said : Map → Text → Option Binding
 said m n = lookup (bytes_eq n) m
+
+-- the name with what a map says of it, if it has the name
+abbrev pub entry_at : Map → Text → Option (Text × Binding)
+entry_at m n = option_map (λ b. (n, b)) (said m n)
 
 -- the map in which n stands for b
 abbrev pub with_entry : Text → Binding → Map → Map
@@ -84,6 +88,11 @@ value_in (Some Unset) = None
 value_in (Some (Label line)) = None
 value_in (Some (Value array)) = Some array
 value_in (Some (Function d)) = None
+
+-- a binding with the value a in place of its own, if it has one
+abbrev pub with_value : Arr → Option Binding → Option Binding
+with_value a (Some (Value array)) = Some (Value a)
+with_value a binding = binding
 
 -- the class of a name
 abbrev pub class_in : Option Binding → Class

@@ -1,10 +1,12 @@
 //! What a name stands for.
-ghost use Rattle.std.specs.Prelude.{◌≡◌, option_copied, Some};
-ghost use Rattle.apl_names.specs.Maps.{value_in, class_in, is_function};
+ghost use Rattle.std.specs.Prelude.{◌≡◌, is_some, unwrap_or, option_copied, Some, IfOk};
+ghost use Rattle.apl_names.specs.Maps.{value_in, class_in, is_function, with_value};
 
 use crate::function::DefinedFunction;
 use apl_arrays::Array;
 use apl_symbols::Class;
+use std::alloc::{AllocError, Global};
+use std::mem;
 
 /// What a map says of a name that it has.
 #[derive(Drop)]
@@ -41,6 +43,31 @@ impl Binding {
             Binding::Unset => None,
             Binding::Label(_) => None,
             Binding::Function(_) => None,
+        }
+    }
+
+    /// The same, whose value shares its elements with its copies from then on.
+    pub(crate) fn shared(self, alloc: Global) -> Result<Binding, AllocError>
+        ensures { IfOk result (λ binding. binding ≡ self) }
+    {
+        match self {
+            Binding::Value(value) => Ok(Binding::Value(value.shared(alloc)?)),
+            binding => Ok(binding),
+        }
+    }
+
+    /// Swaps its value, if it has one, with another, and says whether it has one.
+    pub(crate) fn swap(&mut self, value: &mut Array) -> bool
+        ensures told { result ≡ is_some (value_in (Some self.old)) }
+        ensures taken { value.new ≡ unwrap_or (value_in (Some self.old)) value.old }
+        ensures put { Some self.new ≡ with_value value.old (Some self.old) }
+    {
+        match self {
+            Binding::Value(own) => {
+                mem::swap(own, value);
+                true
+            }
+            Binding::Unset | Binding::Label(_) | Binding::Function(_) => false,
         }
     }
 

@@ -3,7 +3,7 @@ ghost use Rattle.std.specs.Prelude.{◌≡◌, ◌<◌, IfOk, option_map};
 ghost use Rattle.std.specs.Map.Iter.{deref_pair};
 ghost use Rattle.std.specs.Str.{bytes_eq};
 ghost use Rattle.indexmap.specs.IndexMap.{index_map_len, keys, IsUnique};
-ghost use Rattle.apl_names.specs.Maps.{kinds_in, last_map, said};
+ghost use Rattle.apl_names.specs.Maps.{entry_at, kinds_in, last_map};
 ghost use Rattle.apl_names.specs.Slots.{IsSound, held_of, maps_of, name_at};
 
 use crate::binding::Binding;
@@ -22,7 +22,7 @@ fn global_at<'a>(
     requires unique { IsUnique bytes_eq symbols.now }
     requires sound { IsSound symbols.now.entries scopes.now }
     ensures { option_map deref_pair result
-        ≡ option_map (λ b. (name_at (keys symbols.now) slot, b)) (said (last_map (maps_of (held_of symbols.now.entries scopes.now))) (name_at (keys symbols.now) slot)) }
+        ≡ entry_at (last_map (maps_of (held_of symbols.now.entries scopes.now))) (name_at (keys symbols.now) slot) }
 {
     let (name, _) = symbols.get_index(slot)?;
     Some((name, content_beneath(symbols, scopes, slot)?))

@@ -1,10 +1,10 @@
 //! Operands of instructions.
 ghost use Rattle.std.specs.Prelude.{◌≡◌, ◌≤◌, ◌<◌, IfOk, length, reverse, take, List, [], ◌∷◌, Option, Some, option_copied, option_map};
 ghost use Rattle.apl_code.specs.declared.instr.Source.{Source};
-ghost use Rattle.apl_operands.specs.Operands.{AreThere, fetched, fetched_one, unfetched_one, unfetched};
+ghost use Rattle.apl_operands.specs.Operands.{Offers, fetched_from, fetched_one, unfetched_one, unfetched};
 ghost use Rattle.apl_arrays.specs.Cells.{Arr};
 ghost use Rattle.apl_machine_state.specs.declared.operand.Operand.TheVariants.{Value};
-ghost use Rattle.apl_operands.specs.Operands.{EndsInValue, last_value, next_operands, operand_of, only, one_value};
+ghost use Rattle.apl_operands.specs.Operands.{EndsInValue, FetchesFirst, LeavesBeneath, PassesLast, operand_of, only, one_value};
 ghost use Rattle.apl_machine_state.specs.Items.{constant_at};
 ghost use Rattle.apl_machine_state.specs.Outcomes.{taken_of, taken_one, taken_two, taken_three};
 ghost use Rattle.apl_primitives.specs.Taken.{taken};
@@ -32,11 +32,11 @@ pub struct Operands<'a> {
 
 /// An operand, and what is left beneath it.
 pub fn fetch(operands: Operands<'_>, source: Source) -> (Held<'_>, Operands<'_>)
-    requires { AreThere (length operands.constants.now) (Some source ∷ []) (length operands.stack.now) }
+    requires { Offers operands (Some source ∷ []) }
     ensures held { operand_of result.0 ≡ fetched_one operands.entry.constants.now source (reverse operands.entry.stack.now) }
     ensures constants { result.1.constants.now ≡ operands.entry.constants.now }
     ensures below { reverse result.1.stack.now ≡ unfetched_one source (reverse operands.entry.stack.now) }
-    ensures there { (more : List (Option Source)) → AreThere (length operands.entry.constants.now) (Some source ∷ more) (length operands.entry.stack.now) → AreThere (length operands.entry.constants.now) more (length result.1.stack.now) }
+    ensures there { (more : List (Option Source)) → Offers operands.entry (Some source ∷ more) → Offers result.1 more }
 {
     match source {
         Source::Constant(k) => (Held::Value(&operands.constants[k]), operands),
@@ -68,8 +68,8 @@ fn only(sources: &[Option<Source>]) -> Option<Source>
 
 /// The value that an instruction takes, if it takes one value alone.
 pub fn one_value<'a>(sources: &[Option<Source>], operands: Operands<'a>) -> Option<&'a Array>
-    requires { AreThere (length operands.constants.now) sources.now (length operands.stack.now) }
-    ensures { option_copied result ≡ one_value (fetched operands.entry.constants.now sources.now (reverse operands.entry.stack.now)) }
+    requires { Offers operands sources.now }
+    ensures { option_copied result ≡ one_value (fetched_from operands.entry sources.now) }
 {
     let source = only(sources)?;
     match fetch(operands, source).0 {
@@ -80,9 +80,9 @@ pub fn one_value<'a>(sources: &[Option<Source>], operands: Operands<'a>) -> Opti
 
 /// An operand, if an instruction takes one here, and what is left beneath it.
 fn next(operands: Operands<'_>, source: Option<Source>) -> (Option<Held<'_>>, Operands<'_>)
-    requires { AreThere (length operands.constants.now) (source ∷ []) (length operands.stack.now) }
-    ensures held { (more : List (Option Source)) → fetched operands.entry.constants.now (source ∷ more) (reverse operands.entry.stack.now) ≡ option_map operand_of result.0 ∷ fetched result.1.constants.now more (reverse result.1.stack.now) }
-    ensures there { (more : List (Option Source)) → AreThere (length operands.entry.constants.now) (source ∷ more) (length operands.entry.stack.now) → AreThere (length result.1.constants.now) more (length result.1.stack.now) }
+    requires { Offers operands (source ∷ []) }
+    ensures held { FetchesFirst operands.entry source result.0 result.1 }
+    ensures there { (more : List (Option Source)) → Offers operands.entry (source ∷ more) → Offers result.1 more }
 {
     match source {
         Some(source) => {
@@ -136,8 +136,8 @@ fn three_arguments<'a>(
 /// The values and index lists that an instruction takes: what stands further left lies nearer the top.
 #[tactic(auto, using(crate::proofs::Fetching::first_there, crate::proofs::Fetching::too_few, crate::proofs::Fetching::too_many))]
 pub fn arguments<'a>(sources: &[Option<Source>], operands: Operands<'a>) -> Arguments<'a>
-    requires { AreThere (length operands.constants.now) sources.now (length operands.stack.now) }
-    ensures { taken result ≡ taken_of (fetched operands.entry.constants.now sources.now (reverse operands.entry.stack.now)) }
+    requires { Offers operands sources.now }
+    ensures { taken result ≡ taken_of (fetched_from operands.entry sources.now) }
 {
     match sources {
         [first] => one_argument(next(operands, *first).0),
@@ -158,7 +158,7 @@ pub fn arguments<'a>(sources: &[Option<Source>], operands: Operands<'a>) -> Argu
 fn left_beneath(source: Option<Source>, left: usize, stack: &[Operand]) -> usize
     requires { left ≤ length stack.now }
     ensures within { result ≤ length stack.now }
-    ensures left { (more : List (Option Source)) → unfetched (source ∷ more) (reverse (take left stack.now)) ≡ unfetched more (reverse (take result stack.now)) }
+    ensures left { LeavesBeneath source stack.now left result }
 {
     let _ = stack;
     let Some(source) = source else {
@@ -205,10 +205,10 @@ pub fn last_operand(
     sources: &[Option<Source>],
     operands: Operands<'_>,
 ) -> Result<(Given, usize), AllocError>
-    requires there { AreThere (length operands.constants.now) sources.now (length operands.stack.now) }
-    requires value { EndsInValue (fetched operands.constants.now sources.now (reverse operands.stack.now)) }
+    requires there { Offers operands sources.now }
+    requires value { EndsInValue (fetched_from operands sources.now) }
     ensures within { IfOk result (λ r. r.1 ≤ length operands.entry.stack.now) }
-    ensures value { IfOk result (λ r. (b : Arr) → last_value (fetched operands.entry.constants.now sources.now (reverse operands.entry.stack.now)) ≡ Some b → reverse (next_operands r.0 r.1 operands.entry.stack.now) ≡ Value b ∷ unfetched sources.now (reverse operands.entry.stack.now)) }
+    ensures value { IfOk result (λ r. PassesLast operands.entry sources.now r.0 r.1) }
 {
     let Some((last, others)) = sources.split_last() else {
         unreachable!()

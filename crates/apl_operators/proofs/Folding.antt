@@ -5,7 +5,7 @@ use Rattle.apl_faults.specs.declared.fault.Fault.{Fault}
 use Rattle.apl_arrays.specs.declared.cell.Cell.TheVariants.{Num}
 use Rattle.apl_arrays.specs.Results.{and_then, ok_map, all_ok}
 use Rattle.apl_arrays.proofs.InTurn.{after_none, after_one, range_step, range_none, all_ok-map, turns_same, length-all_ok}
-use Rattle.apl_operators.proofs.InRows.{fails_first}
+use Rattle.apl_folds.proofs.Faults.{fails_first}
 use Rattle.apl_arrays.proofs.Gathers.{from_none}
 use Rattle.apl_scalar.specs.declared.function.Dyadic.{Dyadic}
 use Rattle.apl_folds.specs.Folds.{folded}

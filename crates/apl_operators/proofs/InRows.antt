@@ -26,32 +26,6 @@ row_same h g m n e = ap (λ (k : ℕ). all_ok h (range_with_len k n)) (there m) 
     there : (m : ℕ) → m ≡ m + 0
     there m = omega arith
 
-fault_from : {B E : Type 0} (f : ℕ → Result B E) (e : E) (value : ℕ → B) (a n k : ℕ) → k < n → ((j : ℕ) → j < k → f (a + j) ≡ Ok (value (a + j))) → f (a + k) ≡ Err e → all_ok f (range_with_len a n) ≡ Err e
-fault_from f e value a zero k h each last = absurd (omega arith)
-fault_from {B = B} {E = E} f e value a (suc n) zero h each last =
-    ap (λ (r : Result B E). and_then r (λ y. ok_map (λ ys. y ∷ ys) (all_ok f (range_with_len (a + 1) n)))) (ap f (there a) ∙ last)
-  where
-    there : (a : ℕ) → a ≡ a + 0
-    there a = omega arith
-fault_from {B = B} {E = E} f e value a (suc n) (suc k) h each last =
-    ap (λ (r : Result B E). and_then r (λ y. ok_map (λ ys. y ∷ ys) (all_ok f (range_with_len (a + 1) n)))) (ap f (there a) ∙ each 0 (omega arith))
-    ∙ ap (ok_map (λ ys. value (a + 0) ∷ ys))
-    (fault_from f e value (a + 1) n k (omega arith) (λ j l. ap f (next a j) ∙ each (suc j) (omega arith) ∙ ap (λ (i : ℕ). Ok (value i)) (sym (next a j))) (ap f (next a k) ∙ last))
-  where
-    there : (a : ℕ) → a ≡ a + 0
-    there a = omega arith
-
-    next : (a j : ℕ) → a + 1 + j ≡ a + suc j
-    next a j = omega arith
-
--- the first fault after values
-pub first_fault : (f : ℕ → Result ℤ Fault) (zs : List ℤ) (e : Fault) (k n : ℕ) → k < n → ((j : ℕ) → j < k → f j ≡ Ok (get_or zs j (pos 0))) → f k ≡ Err e → all_ok f (range_with_len 0 n) ≡ Err e
-first_fault f zs e k n h each last =
-    fault_from f e (λ j. get_or zs j (pos 0)) 0 n k h (λ j l. ap f (there j) ∙ each j l ∙ ap (λ (i : ℕ). Ok (get_or zs i (pos 0))) (sym (there j))) (ap f (there k) ∙ last)
-  where
-    there : (j : ℕ) → 0 + j ≡ j
-    there j = omega arith
-
 -- the values for a part of numbers are those for its places
 pub block_same : (m : ℤ → Result ℤ Fault) (ys : List ℤ) (from till : ℕ) → from ≤ till → till ≤ length ys →
     all_ok (λ k. m (get_or ys k (pos 0))) (range_with_len from (till - from)) ≡ all_ok (λ k. m (get_or (slice_range ys from till) k (pos 0))) (range_with_len 0 (length (slice_range ys from till)))
@@ -104,8 +78,3 @@ pub crossed_row : (m : ℤ → ℤ → Result ℤ Fault) (xs ys : List ℤ) (i q
 crossed_row m xs ys i q h =
     ap (λ (k : ℕ). m (get_or xs k (pos 0)) (get_or ys ((i * length ys + q) % length ys) (pos 0))) (div-mul-add i (length ys) q h)
     ∙ ap (λ (k : ℕ). m (get_or xs i (pos 0)) (get_or ys k (pos 0))) (mod-mul-add i (length ys) q h)
-
--- a fault of the first number
-pub fails_first : {B E : Type 0} (f : ℕ → Result B E) (e : E) (n : ℕ) → 0 < n → f 0 ≡ Err e → all_ok f (range_with_len 0 n) ≡ Err e
-fails_first f e zero h g = absurd (omega arith)
-fails_first {B = B} {E = E} f e (suc n) h g = ap (λ (r : Result B E). and_then r (λ y. ok_map (λ ys. y ∷ ys) (all_ok f (range_with_len 1 n)))) g

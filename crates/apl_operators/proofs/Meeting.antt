@@ -15,10 +15,10 @@ use Rattle.apl_scalar.specs.Functions.{dyadic_of}
 use Rattle.apl_operators.specs.declared.joint.Joint.{Joint}
 use Rattle.apl_operators.specs.Products.{extended_index}
 use Rattle.apl_operators.specs.Places.{cells_met}
-use Rattle.apl_operators.specs.Standing.{Stand}
+use Rattle.apl_operators.specs.inside.Standing.{Stand}
 use Rattle.apl_operators.specs.Joints.{met, met_cells, folds_of, step_of, Joins}
 use Rattle.apl_operators.proofs.Folding.{folds_same, folds_fail}
-use Rattle.apl_operators.proofs.InRows.{fails_first}
+use Rattle.apl_folds.proofs.Faults.{fails_first}
 
 pub extended_below : (l n k : ℕ) → (l ≢ 1 → l ≡ n) → k < n → extended_index l k < l
 extended_below l n k fits h = each (l == 1) refl

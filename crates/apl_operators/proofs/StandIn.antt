@@ -13,8 +13,8 @@ use Rattle.apl_scalar.specs.declared.function.Dyadic.{Dyadic}
 use Rattle.apl_scalar.specs.Functions.{dyadic_of}
 use Rattle.apl_scalar.specs.Extension.{dyadic_at, compared}
 use Rattle.apl_operators.specs.Places.{cell_of, cells_met, crossed, crossed_cells}
-use Rattle.apl_operators.specs.Standing.{Stand}
-use Rattle.apl_operators.proofs.InRows.{first_fault}
+use Rattle.apl_operators.specs.inside.Standing.{Stand}
+use Rattle.apl_folds.proofs.Faults.{first_fault}
 
 number_cell : (zs : List ℤ) (i : ℕ) → i < length zs → cell_of (Numbers zs) i ≡ Num (get_or zs i (pos 0))
 number_cell zs i h = get_or-map Num zs i (pos 0) (Num (pos 0)) h

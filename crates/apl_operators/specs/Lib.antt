@@ -1,4 +1,4 @@
 pub mod Products
 pub mod Places
-pub mod Standing
+pub mod inside
 pub mod Joints

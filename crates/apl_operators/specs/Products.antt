@@ -42,7 +42,8 @@ extended_index n k = cond (n == 1) 0 k
 abbrev pub joined_item : ℕ → Arr → List ℕ → ℕ → Cell
 joined_item axis a i k = item_at a (inserted axis (extended_index (length_or_one axis a) k) i)
 
--- a function at the items of two arrays along joined axes of length n, for an index list of the result of which the first m indices are those of the first array
+-- a function at the items of two arrays along joined axes of length n, for an index list of the result
+-- of which the first m indices are those of the first array
 abbrev pub met_items : Dyadic → (List ℕ → ℕ → Cell) → (List ℕ → ℕ → Cell) → ℕ → ℕ → List ℕ → Result (List ℤ) Fault
 met_items g left right m n i = all_ok (λ k. dyadic_at g (Some (left (take m i) k)) (Some (right (drop m i) k))) (range_with_len 0 n)
 
@@ -58,13 +59,20 @@ last_axis a = length a.shape - 1
 abbrev pub axes_joined : Arr → Arr → Result ℕ Fault
 axes_joined a b = joined_length (length_or_one (last_axis a) a) (length_or_one 0 b)
 
+-- the lengths of the other axes, those of the first array and then those of the second one
+abbrev pub other_axes : Arr → Arr → List ℕ
+other_axes a b = without (last_axis a) a.shape ++ without 0 b.shape
+
 -- the shape of the inner product, or LIMIT
 abbrev pub inner_shape : Arr → Arr → Result (List ℕ) Fault
-inner_shape a b = limited (without (last_axis a) a.shape ++ without 0 b.shape)
+inner_shape a b = limited (other_axes a b)
 
--- the last axis of the first array with the first axis of the second one: lengths, then limits, then for each element and along the axis g, then the folds by f
+-- along the last axis of the first array and the first axis of the second one, which are n long, g for each index list of the other axes
+-- and along the joined ones, and then the folds by f
+abbrev pub inner_folds : Dyadic → Dyadic → Arr → Arr → ℕ → List ℕ → Result (List ℤ) Fault
+inner_folds f g a b n s = all_folded f (met_items g (joined_item (last_axis a) a) (joined_item 0 b) (last_axis a) n) (indices s)
+
+-- lengths, then limits, then the values in the shape of the other axes
 abbrev pub inner_product : Dyadic → Dyadic → Arr → Arr → Result Arr Fault
 inner_product f g a b =
-    and_then (axes_joined a b) (λ n.
-    and_then (inner_shape a b) (λ s.
-    ok_map (numbers_in s) (all_folded f (met_items g (joined_item (last_axis a) a) (joined_item 0 b) (last_axis a) n) (indices s))))
+    and_then (axes_joined a b) (λ n. and_then (inner_shape a b) (λ s. ok_map (numbers_in s) (inner_folds f g a b n s)))

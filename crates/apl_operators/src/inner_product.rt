@@ -1,31 +1,23 @@
 // Inner products.
-ghost use Rattle.std.specs.Prelude.{◌≡◌, ◌<◌, ◌*◌, ◌^◌, ◌++◌, ◌∷◌, [], length, map, Ok, IfOk};
+ghost use Rattle.std.specs.Prelude.{◌≡◌, ◌<◌, ◌*◌, ◌^◌, [], length, Ok, IfOk};
 ghost use Rattle.std.specs.List.{range_with_len};
 ghost use Rattle.apl_arrays.specs.Answers.{Answers, FaultsFirst};
-ghost use Rattle.apl_arrays.specs.Axes.{without};
 ghost use Rattle.apl_arrays.specs.Cells.{cells_of};
-ghost use Rattle.apl_arrays.specs.Index.{indices};
-ghost use Rattle.apl_arrays.specs.Ravels.{items_of};
+ghost use Rattle.apl_arrays.specs.Left.{listed};
 ghost use Rattle.apl_arrays.specs.Results.{all_ok, ok_map, and_then};
-ghost use Rattle.apl_arrays.specs.declared.cell.Cell.TheVariants.{Num};
 ghost use Rattle.apl_scalar.specs.Functions.{dyadic_of};
 ghost use Rattle.apl_folds.specs.Folds.{folded};
-ghost use Rattle.apl_operators.specs.Products.{joined_length, joined_item, length_or_one, last_axis, met_items, all_folded, axes_joined, inner_shape, inner_product};
-ghost use Rattle.apl_operators.specs.Joints.{met, met_cells, folds_of, so_far, step_of, Joins};
+ghost use Rattle.apl_operators.specs.Products.{axes_joined, other_axes, inner_shape, inner_folds, inner_product};
+ghost use Rattle.apl_operators.specs.Joints.{met, met_cells, folds_met, fold_after, so_far, step_of, Joins};
 
 use crate::joint::{Joint, joined, without_first, without_last};
 use crate::line::{Stepped, meet};
-use crate::shape::{joined_shape, shaped};
 use crate::small::SmallProduct;
 use crate::standing::standing;
-use crate::turned::Turned;
-use apl_arrays::{Array, Cells, Ravel, Stop, View, size, within_limits};
+use apl_arrays::{Array, Cells, Elements, Ravel, Stop, View, joined_shape, size, within_limits};
 use apl_faults::Fault;
-use apl_folds::fold_numbers;
-use apl_scalar::{
-    And, Difference, Dyadic, Equal, Less, Logical, Maximum, Minimum, Nand, Nor, NotEqual,
-    NotGreater, Or, Power, Quotient, Residue, Scalar, Sum,
-};
+use apl_folds::{fold_numbers, in_order};
+use apl_scalar::{ByFunction, Dyadic, Scalar};
 use std::alloc::{AllocError, Global};
 
 /// How far apart numbers stand along an axis that is so long: one of length 1 extends.
@@ -68,7 +60,7 @@ fn push_fold(
     row: &[i64],
     refused: Option<Fault>,
 ) -> Result<Option<Fault>, AllocError>
-    ensures { IfOk result (λ now. so_far out.new.items now ≡ and_then (so_far out.old.items refused) (λ zs. ok_map (λ z. zs ++ z ∷ []) (folded function (map Num row.now)))) }
+    ensures { IfOk result (λ now. so_far out.new.items now ≡ fold_after function out.old.items refused row.now) }
 {
     if refused.is_some() {
         return Ok(refused);
@@ -94,7 +86,7 @@ fn fold_each<F: Scalar>(
     requires joint { Joins joint.now (length xs.now) (length ys.now) }
     requires small { joint.now.rows * joint.now.columns < 2 ^ 63 }
     requires row { length row.old ≡ joint.now.joined }
-    ensures { Answers (λ v. v.items) (folds_of function (met F.meaning xs.now ys.now joint.now) (range_with_len 0 (joint.now.rows * joint.now.columns))) result }
+    ensures { Answers (λ v. v.items) (folds_met function (met F.meaning xs.now ys.now joint.now) joint.now) result }
 {
     let count = joint.rows * joint.columns;
     let mut out = Vec::with_capacity(alloc, count)?;
@@ -119,10 +111,32 @@ fn fold_met<F: Scalar>(
 ) -> Result<Vec<i64>, Stop>
     requires joint { Joins joint.now (length xs.now) (length ys.now) }
     requires small { joint.now.rows * joint.now.columns < 2 ^ 63 }
-    ensures { Answers (λ v. v.items) (folds_of function (met F.meaning xs.now ys.now joint.now) (range_with_len 0 (joint.now.rows * joint.now.columns))) result }
+    ensures { Answers (λ v. v.items) (folds_met function (met F.meaning xs.now ys.now joint.now) joint.now) result }
 {
     let mut row = vec![in alloc; 0i64; joint.joined]?;
     fold_each::<F>(alloc, function, xs, ys, joint, row.as_mut_slice())
+}
+
+/// Rows and columns that meet by a scalar function, and the function that folds what they make.
+#[derive(Clone, Copy)]
+struct Meeting<'a> {
+    alloc: Global,
+    function: Dyadic,
+    xs: &'a [i64],
+    ys: &'a [i64],
+    joint: &'a Joint,
+}
+
+impl<'a> ByFunction for Meeting<'a> {
+    type Output = Result<Vec<i64>, Stop>;
+
+    ghost can = { λ s f. Joins s.joint.now (length s.xs.now) (length s.ys.now) × (s.joint.now.rows * s.joint.now.columns < 2 ^ 63) };
+
+    ghost gives = { λ s f result. Answers (λ v. v.items) (folds_met s.function (met f s.xs.now s.ys.now s.joint.now) s.joint.now) result };
+
+    fn with<F: Scalar>(self) -> Result<Vec<i64>, Stop> {
+        fold_met::<F>(self.alloc, self.function, self.xs, self.ys, self.joint)
+    }
 }
 
 /// The folds of what a function makes of rows and columns.
@@ -130,33 +144,23 @@ fn fold_met_by(
     alloc: Global,
     outer_function: Dyadic,
     inner_function: Dyadic,
-    a: &[i64],
-    b: &[i64],
+    xs: &[i64],
+    ys: &[i64],
     joint: &Joint,
 ) -> Result<Vec<i64>, Stop>
-    requires joint { Joins joint.now (length a.now) (length b.now) }
+    requires joint { Joins joint.now (length xs.now) (length ys.now) }
     requires small { joint.now.rows * joint.now.columns < 2 ^ 63 }
-    ensures { Answers (λ v. v.items) (folds_of outer_function (met (dyadic_of inner_function) a.now b.now joint.now) (range_with_len 0 (joint.now.rows * joint.now.columns))) result }
+    ensures { Answers (λ v. v.items) (folds_met outer_function (met (dyadic_of inner_function) xs.now ys.now joint.now) joint.now) result }
 {
     match inner_function {
-        Dyadic::Plus => fold_met::<Sum>(alloc, outer_function, a, b, joint),
-        Dyadic::Minus => fold_met::<Difference>(alloc, outer_function, a, b, joint),
-        Dyadic::Times => fold_met::<SmallProduct>(alloc, outer_function, a, b, joint),
-        Dyadic::Divide => fold_met::<Quotient>(alloc, outer_function, a, b, joint),
-        Dyadic::Power => fold_met::<Power>(alloc, outer_function, a, b, joint),
-        Dyadic::Maximum => fold_met::<Maximum>(alloc, outer_function, a, b, joint),
-        Dyadic::Minimum => fold_met::<Minimum>(alloc, outer_function, a, b, joint),
-        Dyadic::Residue => fold_met::<Residue>(alloc, outer_function, a, b, joint),
-        Dyadic::Less => fold_met::<Less>(alloc, outer_function, a, b, joint),
-        Dyadic::NotGreater => fold_met::<NotGreater>(alloc, outer_function, a, b, joint),
-        Dyadic::Equal => fold_met::<Equal>(alloc, outer_function, a, b, joint),
-        Dyadic::NotLess => fold_met::<Turned<NotGreater>>(alloc, outer_function, a, b, joint),
-        Dyadic::Greater => fold_met::<Turned<Less>>(alloc, outer_function, a, b, joint),
-        Dyadic::NotEqual => fold_met::<NotEqual>(alloc, outer_function, a, b, joint),
-        Dyadic::And => fold_met::<Logical<And>>(alloc, outer_function, a, b, joint),
-        Dyadic::Or => fold_met::<Logical<Or>>(alloc, outer_function, a, b, joint),
-        Dyadic::Nand => fold_met::<Logical<Nand>>(alloc, outer_function, a, b, joint),
-        Dyadic::Nor => fold_met::<Logical<Nor>>(alloc, outer_function, a, b, joint),
+        Dyadic::Times => fold_met::<SmallProduct>(alloc, outer_function, xs, ys, joint),
+        _ => inner_function.apply(Meeting {
+            alloc,
+            function: outer_function,
+            xs,
+            ys,
+            joint,
+        }),
     }
 }
 
@@ -174,13 +178,13 @@ fn fold_elements(
     alloc: Global,
     outer_function: Dyadic,
     inner_function: Dyadic,
-    a: &Ravel,
-    b: &Ravel,
+    a: Elements<'_>,
+    b: Elements<'_>,
     joint: &Joint,
 ) -> Result<Vec<i64>, Stop>
-    requires joint { Joins joint.now (length (cells_of (items_of a.now))) (length (cells_of (items_of b.now))) }
+    requires joint { Joins joint.now (length (cells_of (listed a))) (length (cells_of (listed b))) }
     requires small { joint.now.rows * joint.now.columns < 2 ^ 63 }
-    ensures { Answers (λ v. v.items) (folds_of outer_function (met_cells inner_function (items_of a.now) (items_of b.now) joint.now) (range_with_len 0 (joint.now.rows * joint.now.columns))) result }
+    ensures { Answers (λ v. v.items) (folds_met outer_function (met_cells inner_function (listed a.entry) (listed b.entry) joint.now) joint.now) result }
 {
     let count = joint.rows * joint.columns;
     if count == 0 {
@@ -208,13 +212,15 @@ fn inner_values(
     b: &View<'_>,
     joined: usize,
 ) -> Result<Vec<i64>, Stop>
-    requires { joined_length (length_or_one (last_axis a.now) a.now) (length_or_one 0 b.now) ≡ Ok joined }
-    ensures { Answers (λ v. v.items) (all_folded outer_function (met_items inner_function (joined_item (last_axis a.now) a.now) (joined_item 0 b.now) (last_axis a.now) joined) (indices (without (last_axis a.now) a.now.shape ++ without 0 b.now.shape))) result }
+    requires { axes_joined a.now b.now ≡ Ok joined }
+    ensures { Answers (λ v. v.items) (inner_folds outer_function inner_function a.now b.now joined (other_axes a.now b.now)) result }
 {
-    let a = a.copied(alloc)?;
-    let b = b.copied(alloc)?;
-    let (a_others, left) = without_last(a.shape());
-    let (b_others, right) = without_first(b.shape());
+    let a_shape = a.shape();
+    let b_shape = b.shape();
+    let (a_others, left) = without_last(a_shape.as_slice());
+    let (b_others, right) = without_first(b_shape.as_slice());
+    let a = in_order(alloc, a)?;
+    let b = in_order(alloc, b)?;
     let joint = Joint {
         rows: size(a_others),
         columns: size(b_others),
@@ -226,8 +232,8 @@ fn inner_values(
         alloc,
         outer_function,
         inner_function,
-        a.ravel(),
-        b.ravel(),
+        a.items(),
+        b.items(),
         &joint,
     )
 }
@@ -258,5 +264,5 @@ pub fn inner<A: Cells, B: Cells>(
     let shape = joined_shape(a_others, b_others);
     within_limits(shape.as_slice())?;
     let values = inner_values(alloc, outer_function, inner_function, &a, &b, length)?;
-    Ok(shaped(shape.as_slice(), values)?)
+    Ok(Array::from_shape(shape.as_slice(), Ravel::Nums(values))?)
 }

@@ -5,10 +5,8 @@ mod inner_product;
 mod joint;
 mod line;
 mod outer_product;
-mod shape;
 mod small;
 mod standing;
-mod turned;
 
 pub use apl_folds::{reduce, scan};
 pub use inner_product::inner;

@@ -4,7 +4,7 @@ ghost use Rattle.std.specs.List.{range_with_len};
 ghost use Rattle.apl_arrays.specs.Results.{all_ok, ok_map};
 
 use apl_faults::Fault;
-use apl_scalar::Scalar;
+use apl_scalar::{Scalar, either};
 
 /// Numbers by the places of a line.
 pub(crate) trait Line {
@@ -76,14 +76,6 @@ impl<'a> Line for Stepped<'a> {
     fn at(&self, place: usize) -> i64 {
         self.numbers[self.from + place * self.step]
     }
-}
-
-/// Both flags in one, negative where either is.
-#[inline(always)]
-fn either(x: i64, y: i64) -> i64
-    ensures { pos 0 ≤ℤ result → (pos 0 ≤ℤ x) × (pos 0 ≤ℤ y) }
-{
-    x | y
 }
 
 /// Writes a number at each place, and says whether all are values, by one test of the flags of all.

@@ -1,26 +1,21 @@
 // Outer products.
-ghost use Rattle.std.specs.Prelude.{◌≡◌, ◌<◌, ◌≤◌, ◌*◌, ◌^◌, ◌++◌, length, slice_index_or, pos};
-ghost use Rattle.std.specs.List.{range_with_len};
+ghost use Rattle.std.specs.Prelude.{◌<◌, ◌≤◌, ◌*◌, ◌^◌, ◌++◌, length};
 ghost use Rattle.apl_arrays.specs.Answers.{Answers, Appends, FaultsFirst};
-ghost use Rattle.apl_arrays.specs.Cells.{cells_of};
+ghost use Rattle.apl_arrays.specs.Cells.{cells_of, IsArray};
 ghost use Rattle.apl_arrays.specs.Index.{indices};
-ghost use Rattle.apl_arrays.specs.Ravels.{items_of};
+ghost use Rattle.apl_arrays.specs.Left.{listed};
 ghost use Rattle.apl_arrays.specs.Results.{all_ok};
 ghost use Rattle.apl_scalar.specs.Functions.{dyadic_of};
 ghost use Rattle.apl_operators.specs.Products.{paired, outer_shape, outer_product};
-ghost use Rattle.apl_operators.specs.Places.{crossed, crossed_cells};
+ghost use Rattle.apl_operators.specs.Places.{row_of, crossing, crossing_cells};
 
 use crate::line::{Each, Same, meet};
-use crate::shape::{joined_shape, shaped};
 use crate::small::SmallProduct;
 use crate::standing::standing;
-use crate::turned::Turned;
-use apl_arrays::{Array, Cells, Ravel, Stop, View, within_limits};
+use apl_arrays::{Array, Cells, Elements, Ravel, Stop, View, joined_shape, within_limits};
 use apl_faults::Fault;
-use apl_scalar::{
-    And, Difference, Dyadic, Equal, Less, Logical, Maximum, Minimum, Nand, Nor, NotEqual,
-    NotGreater, Or, Power, Quotient, Residue, Scalar, Sum,
-};
+use apl_folds::in_order;
+use apl_scalar::{ByFunction, Dyadic, Scalar};
 use std::alloc::Global;
 
 /// How many values are made before they are appended.
@@ -34,7 +29,7 @@ fn push_block<F: Scalar>(
     room: &mut [i64; BLOCK],
 ) -> Result<(), Stop>
     requires { length ys.now ≤ BLOCK }
-    ensures { Appends out.old.items out.new.items (all_ok (λ k. F.meaning x.now.0 (slice_index_or ys.now k (pos 0))) (range_with_len 0 (length ys.now))) result }
+    ensures { Appends out.old.items out.new.items (row_of F.meaning x.now.0 ys.now) result }
 {
     let values = &mut room[..ys.len()];
     meet::<F, Same, Each>(x, &Each(ys), values)?;
@@ -49,7 +44,7 @@ fn push_row<F: Scalar>(
     ys: &[i64],
     room: &mut [i64; BLOCK],
 ) -> Result<(), Stop>
-    ensures { Appends out.old.items out.new.items (all_ok (λ k. F.meaning x.now.0 (slice_index_or ys.now k (pos 0))) (range_with_len 0 (length ys.now))) result }
+    ensures { Appends out.old.items out.new.items (row_of F.meaning x.now.0 ys.now) result }
 {
     let mut from = 0usize;
     while from < ys.len() {
@@ -63,7 +58,7 @@ fn push_row<F: Scalar>(
 /// The values of each number with each of others.
 fn cross<F: Scalar>(alloc: Global, xs: &[i64], ys: &[i64]) -> Result<Vec<i64>, Stop>
     requires { length xs.now * length ys.now < 2 ^ 63 }
-    ensures { Answers (λ v. v.items) (all_ok (crossed F.meaning xs.now ys.now) (range_with_len 0 (length xs.now * length ys.now))) result }
+    ensures { Answers (λ v. v.items) (crossing F.meaning xs.now ys.now) result }
 {
     let mut out = Vec::with_capacity(alloc, xs.len() * ys.len())?;
     let mut room = [0i64; BLOCK];
@@ -73,37 +68,46 @@ fn cross<F: Scalar>(alloc: Global, xs: &[i64], ys: &[i64]) -> Result<Vec<i64>, S
     Ok(out)
 }
 
+/// Numbers, each of which meets each of others by a scalar function.
+#[derive(Clone, Copy)]
+struct Crossing<'a> {
+    alloc: Global,
+    xs: &'a [i64],
+    ys: &'a [i64],
+}
+
+impl<'a> ByFunction for Crossing<'a> {
+    type Output = Result<Vec<i64>, Stop>;
+
+    ghost can = { λ s f. length s.xs.now * length s.ys.now < 2 ^ 63 };
+
+    ghost gives = { λ s f result. Answers (λ v. v.items) (crossing f s.xs.now s.ys.now) result };
+
+    fn with<F: Scalar>(self) -> Result<Vec<i64>, Stop> {
+        cross::<F>(self.alloc, self.xs, self.ys)
+    }
+}
+
 /// The values of a function of each number with each of others.
-fn cross_by(alloc: Global, function: Dyadic, a: &[i64], b: &[i64]) -> Result<Vec<i64>, Stop>
-    requires { length a.now * length b.now < 2 ^ 63 }
-    ensures { Answers (λ v. v.items) (all_ok (crossed (dyadic_of function) a.now b.now) (range_with_len 0 (length a.now * length b.now))) result }
+fn cross_by(alloc: Global, function: Dyadic, xs: &[i64], ys: &[i64]) -> Result<Vec<i64>, Stop>
+    requires { length xs.now * length ys.now < 2 ^ 63 }
+    ensures { Answers (λ v. v.items) (crossing (dyadic_of function) xs.now ys.now) result }
 {
     match function {
-        Dyadic::Plus => cross::<Sum>(alloc, a, b),
-        Dyadic::Minus => cross::<Difference>(alloc, a, b),
-        Dyadic::Times => cross::<SmallProduct>(alloc, a, b),
-        Dyadic::Divide => cross::<Quotient>(alloc, a, b),
-        Dyadic::Power => cross::<Power>(alloc, a, b),
-        Dyadic::Maximum => cross::<Maximum>(alloc, a, b),
-        Dyadic::Minimum => cross::<Minimum>(alloc, a, b),
-        Dyadic::Residue => cross::<Residue>(alloc, a, b),
-        Dyadic::Less => cross::<Less>(alloc, a, b),
-        Dyadic::NotGreater => cross::<NotGreater>(alloc, a, b),
-        Dyadic::Equal => cross::<Equal>(alloc, a, b),
-        Dyadic::NotLess => cross::<Turned<NotGreater>>(alloc, a, b),
-        Dyadic::Greater => cross::<Turned<Less>>(alloc, a, b),
-        Dyadic::NotEqual => cross::<NotEqual>(alloc, a, b),
-        Dyadic::And => cross::<Logical<And>>(alloc, a, b),
-        Dyadic::Or => cross::<Logical<Or>>(alloc, a, b),
-        Dyadic::Nand => cross::<Logical<Nand>>(alloc, a, b),
-        Dyadic::Nor => cross::<Logical<Nor>>(alloc, a, b),
+        Dyadic::Times => cross::<SmallProduct>(alloc, xs, ys),
+        _ => function.apply(Crossing { alloc, xs, ys }),
     }
 }
 
 /// The values of a function of each element with each of another array.
-fn cross_elements(alloc: Global, function: Dyadic, a: &Ravel, b: &Ravel) -> Result<Vec<i64>, Stop>
-    requires { length (cells_of (items_of a.now)) * length (cells_of (items_of b.now)) < 2 ^ 63 }
-    ensures { Answers (λ v. v.items) (all_ok (crossed_cells function (items_of a.now) (items_of b.now)) (range_with_len 0 (length (cells_of (items_of a.now)) * length (cells_of (items_of b.now))))) result }
+fn cross_elements(
+    alloc: Global,
+    function: Dyadic,
+    a: Elements<'_>,
+    b: Elements<'_>,
+) -> Result<Vec<i64>, Stop>
+    requires { length (cells_of (listed a)) * length (cells_of (listed b)) < 2 ^ 63 }
+    ensures { Answers (λ v. v.items) (crossing_cells function (listed a.entry) (listed b.entry)) result }
 {
     if a.is_empty() || b.is_empty() {
         return Ok(Vec::new(alloc));
@@ -126,11 +130,13 @@ fn outer_values(
     a: &View<'_>,
     b: &View<'_>,
 ) -> Result<Vec<i64>, Stop>
+    requires a { IsArray a.now.shape a.now.items }
+    requires b { IsArray b.now.shape b.now.items }
     ensures { Answers (λ v. v.items) (all_ok (paired function a.now b.now) (indices (a.now.shape ++ b.now.shape))) result }
 {
-    let a = a.copied(alloc)?;
-    let b = b.copied(alloc)?;
-    cross_elements(alloc, function, a.ravel(), b.ravel())
+    let a = in_order(alloc, a)?;
+    let b = in_order(alloc, b)?;
+    cross_elements(alloc, function, a.items(), b.items())
 }
 
 /// The outer product: a function of each element of one array with each of another, in the shape of the first one and then the second one's.
@@ -152,5 +158,5 @@ pub fn outer<A: Cells, B: Cells>(
     let shape = joined_shape(a.shape().as_slice(), b.shape().as_slice());
     within_limits(shape.as_slice())?;
     let values = outer_values(alloc, function, &a, &b)?;
-    Ok(shaped(shape.as_slice(), values)?)
+    Ok(Array::from_shape(shape.as_slice(), Ravel::Nums(values))?)
 }

@@ -5,7 +5,7 @@ ghost use Rattle.apl_scalar.specs.declared.function.Dyadic.TheVariants as two;
 ghost use Rattle.apl_scalar.specs.Functions.{dyadic_of};
 
 use apl_faults::Fault;
-use apl_scalar::{Product, Scalar};
+use apl_scalar::{Product, Scalar, wider};
 
 /// The product where it fits, and some number elsewhere.
 #[inline(always)]
@@ -21,15 +21,6 @@ fn spread(number: i64) -> u64
     ensures { result < 2 ^ 32 → unsigned_abs number ≤ 2 ^ 31 }
 {
     number.wrapping_add(0x8000_0000).cast_unsigned()
-}
-
-/// A number that is no less than either.
-#[inline(always)]
-fn wider(x: u64, y: u64) -> u64
-    ensures x { x ≤ result }
-    ensures y { y ≤ result }
-{
-    x | y
 }
 
 /// A flag that is negative where a number is not below 2^32.

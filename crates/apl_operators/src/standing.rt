@@ -1,14 +1,11 @@
 // Numbers that stand for the elements of two arrays under a function, so that there are loops over numbers alone.
-ghost use Rattle.std.specs.Prelude.{◌≡◌, ℕ, IfOk, Bool, MatchBool, nat_eq, map, pos, replicate, Err};
-ghost use Rattle.apl_arrays.specs.Ravels.{items_of};
+ghost use Rattle.std.specs.Prelude.{◌≡◌, IfOk, MatchBool, map, pos, replicate};
+ghost use Rattle.apl_arrays.specs.Left.{listed};
 ghost use Rattle.apl_arrays.specs.Cells.{Numbers, Characters};
-ghost use Rattle.apl_scalar.specs.Functions.{dyadic_of};
-ghost use Rattle.apl_scalar.specs.Extension.{compared};
-ghost use Rattle.apl_operators.specs.Standing.{held, StandOrFail};
+ghost use Rattle.apl_operators.specs.inside.Standing.{held, StandOrFail, TakesCodes, RefusesCharacters};
 
-use apl_arrays::Ravel;
+use apl_arrays::Elements;
 use apl_charset::Ch;
-use apl_faults::Fault;
 use apl_scalar::Dyadic;
 use std::alloc::{AllocError, Global};
 
@@ -39,7 +36,7 @@ pub(crate) struct StandIns<'a> {
 
 /// Whether a function takes characters: then it gives what it gives for their codes.
 fn takes_characters(function: Dyadic) -> bool
-    ensures { MatchBool result ((c d : ℕ) → compared function (nat_eq c d) ≡ dyadic_of function (pos c) (pos d)) ((same : Bool) → compared function same ≡ Err Fault.Domain) }
+    ensures { MatchBool result (TakesCodes function) (RefusesCharacters function) }
 {
     match function {
         Dyadic::Equal => true,
@@ -90,16 +87,16 @@ fn beside_numbers<'a>(
     alloc: Global,
     function: Dyadic,
     a: &'a [i64],
-    b: &'a Ravel,
+    b: Elements<'a>,
 ) -> Result<Option<StandIns<'a>>, AllocError>
-    ensures { IfOk result (λ found. StandOrFail function (Numbers a.now) (items_of b.now) found) }
+    ensures { IfOk result (λ found. StandOrFail function (Numbers a.now) (listed b.entry) found) }
 {
     match b {
-        Ravel::Nums(b) => Ok(Some(StandIns {
+        Elements::Nums(b) => Ok(Some(StandIns {
             left: Held::Lent(a),
-            right: Held::Lent(b.as_slice()),
+            right: Held::Lent(b),
         })),
-        Ravel::Chars(b) => {
+        Elements::Chars(b) => {
             if takes_characters(function) {
                 Ok(Some(apart(alloc, a.len(), b.len())?))
             } else {
@@ -114,16 +111,16 @@ fn beside_characters<'a>(
     alloc: Global,
     function: Dyadic,
     a: &'a [Ch],
-    b: &'a Ravel,
+    b: Elements<'a>,
 ) -> Result<Option<StandIns<'a>>, AllocError>
-    ensures { IfOk result (λ found. StandOrFail function (Characters a.now) (items_of b.now) found) }
+    ensures { IfOk result (λ found. StandOrFail function (Characters a.now) (listed b.entry) found) }
 {
     if !takes_characters(function) {
         return Ok(None);
     }
     match b {
-        Ravel::Nums(b) => Ok(Some(apart(alloc, a.len(), b.len())?)),
-        Ravel::Chars(b) => Ok(Some(coded(alloc, a, b.as_slice())?)),
+        Elements::Nums(b) => Ok(Some(apart(alloc, a.len(), b.len())?)),
+        Elements::Chars(b) => Ok(Some(coded(alloc, a, b)?)),
     }
 }
 
@@ -131,13 +128,13 @@ fn beside_characters<'a>(
 pub(crate) fn standing<'a>(
     alloc: Global,
     function: Dyadic,
-    a: &'a Ravel,
-    b: &'a Ravel,
+    a: Elements<'a>,
+    b: Elements<'a>,
 ) -> Result<Option<StandIns<'a>>, AllocError>
-    ensures { IfOk result (λ found. StandOrFail function (items_of a.now) (items_of b.now) found) }
+    ensures { IfOk result (λ found. StandOrFail function (listed a.entry) (listed b.entry) found) }
 {
     match a {
-        Ravel::Nums(a) => beside_numbers(alloc, function, a.as_slice(), b),
-        Ravel::Chars(a) => beside_characters(alloc, function, a.as_slice(), b),
+        Elements::Nums(a) => beside_numbers(alloc, function, a, b),
+        Elements::Chars(a) => beside_characters(alloc, function, a, b),
     }
 }

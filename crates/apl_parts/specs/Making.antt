@@ -27,7 +27,11 @@ use Rattle.apl_parts.specs.Taken.{function_in, variable_in}
 
 -- the state of a machine with these names, vectors, index origin and contexts, which writes nothing and defines nothing
 abbrev pub state_with : List Map → Vectors → Vectors → ℕ → List Context → State
-state_with ms stops traces origin cs = record clear { world = record { traces = traces; globals = under ms cs; io = origin }; stops = stops; contexts = dressed ms cs }
+state_with ms stops traces origin cs = record clear {
+  world = record { traces = traces; globals = under ms cs; io = origin };
+  stops = stops;
+  contexts = dressed ms cs;
+}
 
 -- the function of that name with its vectors, where a binding is one
 abbrev pub function_at : Vectors → Vectors → Text → Option Binding → List Watched

@@ -1,5 +1,6 @@
 -- The state of parts.
-use Rattle.std.specs.Prelude.{◌≡◌, ℕ, suc, ◌<◌, ◌≤◌, false, true, List, [], ◌∷◌, ◌++◌, All, map, length, reverse, Option, Some, None, Result, Ok, Err, option_map}
+use Rattle.std.specs.Prelude.{◌≡◌, ℕ, suc, ◌<◌, ◌≤◌, false, true, List, [], ◌∷◌, ◌++◌}
+use Rattle.std.specs.Prelude.{All, map, length, reverse, Option, Some, None, Result, Ok, Err, option_map}
 use Rattle.apl_arrays.specs.Cells.{Arr}
 use Rattle.apl_symbols.specs.declared.class.Class.{Class}
 use Rattle.apl_tokens.specs.declared.token.Token.{Token}
@@ -87,7 +88,9 @@ IsWaitingIn text (Some w) = IsWaiting text w
 -- A call's function is one that is defined, it stands at a line of it, and the names that have values are those of the header, in its order.
 abbrev pub IsContext : ContextPart → Type 0
 IsContext (Statement s) = IsWaiting s.text s.rest
-IsContext (Call c) = (is_line c.definition c.at ≡ true) × IsWaitingIn (line_of c.definition c.at) c.rest × IsDefined c.definition × (map (λ local. local.0) c.locals ≡ names_in c.definition.header)
+IsContext (Call c) =
+    (is_line c.definition c.at ≡ true) × IsWaitingIn (line_of c.definition c.at) c.rest × IsDefined c.definition
+    × (map (λ local. local.0) c.locals ≡ names_in c.definition.header)
 IsContext (Execute s) = IsWaiting s.text s.rest
 
 -- the newest context and one beneath a statement are suspended, and one beneath a call or an execute awaits an answer

@@ -46,7 +46,8 @@ values_in m names = map (λ name. (name, value_in (said m name))) names
 -- a context in parts
 abbrev pub part_of : model.Context → ContextPart
 part_of (model.Statement text rest) = Statement (record { text = text; rest = waiting_of rest })
-part_of (model.Call d at locals rest) = Call (record { definition = d; at = at; locals = values_in locals (names_in d.header); rest = option_map waiting_of rest })
+part_of (model.Call d at locals rest) =
+    Call (record { definition = d; at = at; locals = values_in locals (names_in d.header); rest = option_map waiting_of rest })
 part_of (model.Execute text rest) = Execute (record { text = text; rest = waiting_of rest })
 
 -- the function that a binding is, with its vectors

@@ -11,3 +11,7 @@ pub record Pieces : Type 0 where
   pub variables : List (Text × Arr)
   pub origin : ℕ
   pub contexts : List ContextPart
+
+-- the workspace of these parts
+abbrev pub workspace_of : List Watched → List (Text × Arr) → ℕ → List ContextPart → Pieces
+workspace_of functions variables origin contexts = record { functions = functions; variables = variables; origin = origin; contexts = contexts }

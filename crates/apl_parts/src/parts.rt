@@ -1,7 +1,8 @@
 //! The parts of a workspace.
 ghost use Rattle.std.specs.Prelude.{◌≡◌, option_copied};
+ghost use Rattle.apl_arrays.specs.Origins.{origin_number};
 
-use apl_arrays::Array;
+use apl_arrays::{Array, Origin};
 use apl_charset::Text;
 use apl_contexts::Contexts;
 use apl_machine_state::Operand;
@@ -200,16 +201,17 @@ impl FunctionPart {
 pub struct Parts {
     pub(crate) functions: Vec<FunctionPart>,
     pub(crate) variables: Vec<(Name, Array)>,
-    pub(crate) origin: usize,
+    pub(crate) origin: Origin,
     pub(crate) contexts: Vec<ContextPart>,
 }
 
 impl Model for Parts {
-    ghost use Rattle.apl_parts.specs.Workspaces.{Pieces};
+    ghost use Rattle.apl_arrays.specs.Origins.{origin_number};
+    ghost use Rattle.apl_parts.specs.Workspaces.{Pieces, workspace_of};
 
     ghost Value = { Pieces };
 
-    ghost view = { λ p. record { functions = p.functions.items; variables = p.variables.items; origin = p.origin; contexts = p.contexts.items } };
+    ghost view = { λ p. workspace_of p.functions.items p.variables.items (origin_number p.origin) p.contexts.items };
 }
 
 impl Parts {
@@ -217,10 +219,10 @@ impl Parts {
     pub fn new(
         functions: Vec<FunctionPart>,
         variables: Vec<(Name, Array)>,
-        origin: usize,
+        origin: Origin,
         contexts: Vec<ContextPart>,
     ) -> Parts
-        ensures { result ≡ record { functions = functions.items; variables = variables.items; origin = origin; contexts = contexts.items } }
+        ensures { result ≡ record { functions = functions.items; variables = variables.items; origin = origin_number origin; contexts = contexts.items } }
     {
         Parts {
             functions,
@@ -245,8 +247,8 @@ impl Parts {
     }
 
     /// The index origin.
-    pub fn origin(&self) -> usize
-        ensures { result ≡ self.now.origin }
+    pub fn origin(&self) -> Origin
+        ensures { origin_number result ≡ self.now.origin }
     {
         self.origin
     }
@@ -265,6 +267,6 @@ pub struct Restored {
     pub names: Names,
     pub stops: Vectors,
     pub traces: Vectors,
-    pub origin: usize,
+    pub origin: Origin,
     pub contexts: Contexts,
 }

@@ -1,5 +1,6 @@
 //! Puts a workspace together again.
 ghost use Rattle.std.specs.Prelude.{◌≡◌, ◌∷◌, [], All, IfOk, OnOk, map};
+ghost use Rattle.apl_arrays.specs.Origins.{origin_number};
 ghost use Rattle.apl_names.specs.declared.binding.Binding.TheVariants.{Function};
 ghost use Rattle.apl_names.specs.Maps.{first_map, with_global};
 ghost use Rattle.apl_vectors.specs.Vectors.{with_vector};
@@ -78,7 +79,7 @@ pub fn restored(alloc: Global, parts: Parts, cache: &mut Cache) -> Result<Restor
     ensures sound { IfOk result (λ r. AreSound r.contexts r.names) }
     ensures globals { IfOk result (λ r. under r.names r.contexts ≡ (state_of parts).world.globals) }
     ensures traces { IfOk result (λ r. r.traces ≡ (state_of parts).world.traces) }
-    ensures origin { IfOk result (λ r. r.origin ≡ parts.origin) }
+    ensures origin { IfOk result (λ r. origin_number r.origin ≡ parts.origin) }
     ensures stops { IfOk result (λ r. r.stops ≡ (state_of parts).stops) }
     ensures contexts { IfOk result (λ r. dressed r.names r.contexts ≡ (state_of parts).contexts) }
 {

@@ -1,4 +1,5 @@
 //! Takes a workspace apart.
+ghost use Rattle.apl_arrays.specs.Origins.{origin_number};
 ghost use Rattle.std.specs.Prelude.{◌≡◌, ◌++◌, IfOk, OnOk, length, suc};
 ghost use Rattle.std.specs.List.{flat_map};
 ghost use Rattle.apl_names.specs.Maps.{last_map, said};
@@ -8,7 +9,7 @@ ghost use Rattle.apl_parts.specs.Taken.{parts_of};
 
 use crate::parts::{FunctionPart, Parts};
 use crate::standing::contexts_of;
-use apl_arrays::Array;
+use apl_arrays::{Array, Origin};
 use apl_contexts::Contexts;
 use apl_names::{Binding, Names};
 use apl_symbols::Name;
@@ -86,11 +87,11 @@ pub fn taken(
     names: &Names,
     stops: &Vectors,
     traces: &Vectors,
-    origin: usize,
+    origin: Origin,
     contexts: &Contexts,
 ) -> Result<Parts, AllocError>
     requires { length names.now ≡ suc (calls contexts.now) }
-    ensures { IfOk result (λ p. p ≡ parts_of (state_with names.now stops.now traces.now origin contexts.now)) }
+    ensures { IfOk result (λ p. p ≡ parts_of (state_with names.now stops.now traces.now (origin_number origin) contexts.now)) }
 {
     let globals = names.globals()?;
     let functions = functions_of(alloc, names, stops, traces, globals.as_slice())?;

@@ -9,7 +9,7 @@ use Rattle.std.proofs.lemmas.List.{append-nil, drop_all, set_past, take_all}
 use Rattle.std.proofs.lemmas.List.Folds.{list_any_more}
 use Rattle.apl_defn.specs.Definitions.{Text}
 use Rattle.apl_machine_state.specs.Watching.{numbered}
-use Rattle.apl_phrases.specs.Marks.{marked, marked_lines, marks_of}
+use Rattle.apl_phrases.specs.inside.Marks.{marked, marked_lines, marks_of}
 
 -- ---- one number
 

@@ -1,3 +1,2 @@
 pub mod Effects
-pub mod Marks
-pub mod Origins
+pub mod inside

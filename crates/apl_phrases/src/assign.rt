@@ -1,18 +1,20 @@
 //! Names read and assigned to.
-ghost use Rattle.std.specs.Prelude.{◌≡◌, ◌≤◌, IfOk, IfSome, ℤ, List, Option, Result};
+ghost use Rattle.std.specs.Prelude.{◌≡◌, IfOk, ℤ, List, Option, Result, option_map};
 ghost use Rattle.apl_arrays.specs.Answers.{Answers};
 ghost use Rattle.apl_arrays.specs.Cells.{Arr};
+ghost use Rattle.apl_arrays.specs.Origins.{origin_number};
 ghost use Rattle.apl_faults.specs.declared.fault.Fault.{Fault};
 ghost use Rattle.apl_machine_state.specs.declared.operand.Operand.{Operand};
 ghost use Rattle.apl_names.specs.Maps.{found};
 ghost use Rattle.apl_machine_state.specs.Environment.{scalar};
-ghost use Rattle.apl_machine_state.specs.Outcomes.{as_origin, assign, assign_by, assign_indexed, assign_indexed_by, assign_one, assign_slots, assigned_result, origin_result, origin_set, read, read_by, taken_of};
+ghost use Rattle.apl_machine_state.specs.Outcomes.{as_origin, assign, assign_by, assign_indexed, assign_indexed_by, assign_one, assign_slots};
+ghost use Rattle.apl_machine_state.specs.Outcomes.{assigned_result, origin_result, origin_set, read, read_by, taken_of};
 ghost use Rattle.apl_primitives.specs.Taken.{taken};
-ghost use Rattle.apl_phrases.specs.Effects.{IsEffect, PassesOn, seen};
+ghost use Rattle.apl_phrases.specs.Effects.{AssignsIndexed, ComesTo, Does, DoesOf, DoesWith};
 
 use crate::effect::{Deed, Effect};
 use crate::scene::{Scene, origin_name};
-use apl_arrays::{Array, Cell, Ravel, Stop};
+use apl_arrays::{Array, Elements, Origin, Stop};
 use apl_code::Variable;
 use apl_faults::Fault;
 use apl_machine_state::Operand;
@@ -23,19 +25,26 @@ use apl_symbols::{Name, SystemName};
 use std::alloc::{AllocError, Global};
 
 /// The scalar of a small number.
-pub fn number(alloc: Global, number: u16) -> Result<Array, AllocError>
-    ensures { IfOk result (λ array. array ≡ scalar number) }
+pub fn number(number: u16) -> Array
+    ensures { result ≡ scalar number }
 {
-    Array::scalar(alloc, Cell::Num(i64::from(number)))
+    Array::number(i64::from(number))
+}
+
+/// The scalar of an index origin.
+pub fn origin_scalar(origin: Origin) -> Array
+    ensures { result ≡ scalar (origin_number origin) }
+{
+    number(origin.number() as u16)
 }
 
 /// The value of a name.
-fn read_name(alloc: Global, scene: Scene<'_>, name: &Name) -> Result<Effect, AllocError>
-    ensures { IfOk result (λ e. (lines : List ℤ) (operands : List (Option Operand)) → IsEffect lines e (read_by (found scene.entry.names.now name.now)) operands) }
+fn read_name(scene: Scene<'_>, name: &Name) -> Result<Effect, AllocError>
+    ensures { IfOk result (ComesTo (read_by (found scene.entry.names.now name.now))) }
 {
     match scene.names.binding(name) {
         Some(Binding::Value(array)) => Ok(Effect::Gives(Operand::Value(array.copy()?))),
-        Some(Binding::Label(line)) => Ok(Effect::Gives(Operand::Value(number(alloc, *line)?))),
+        Some(Binding::Label(line)) => Ok(Effect::Gives(Operand::Value(number(*line)))),
         Some(Binding::Function(_)) => Ok(Effect::Fails(Fault::Syntax)),
         Some(Binding::Unset) => Ok(Effect::Fails(Fault::Value)),
         None => Ok(Effect::Fails(Fault::Value)),
@@ -43,23 +52,20 @@ fn read_name(alloc: Global, scene: Scene<'_>, name: &Name) -> Result<Effect, All
 }
 
 /// `⎕IO`
-fn read_origin(alloc: Global, scene: Scene<'_>) -> Result<Effect, AllocError>
-    requires { scene.io ≤ 1 }
-    ensures { IfOk result (λ e. (lines : List ℤ) (operands : List (Option Operand)) → IsEffect lines e (read (seen scene.entry lines) (Variable.System SystemName.Origin)) operands) }
+fn read_origin(scene: Scene<'_>) -> Effect
+    ensures { Does scene.entry (λ s. read s (Variable.System SystemName.Origin)) result }
 {
-    let origin = number(alloc, scene.origin() as u16)?;
-    Ok(Effect::Gives(Operand::Value(origin)))
+    Effect::Gives(Operand::Value(origin_scalar(scene.origin())))
 }
 
 /// `V`
-pub fn read(alloc: Global, scene: Scene<'_>, variable: &Variable) -> Result<Effect, AllocError>
-    requires { scene.io ≤ 1 }
-    ensures { IfOk result (λ e. (lines : List ℤ) (operands : List (Option Operand)) → IsEffect lines e (read (seen scene.entry lines) variable.now) operands) }
+pub fn read(scene: Scene<'_>, variable: &Variable) -> Result<Effect, AllocError>
+    ensures { IfOk result (Does scene.entry (λ s. read s variable.now)) }
 {
     match variable {
-        Variable::Name(name) => read_name(alloc, scene, name),
+        Variable::Name(name) => read_name(scene, name),
         Variable::System(system) => match system {
-            SystemName::Origin => read_origin(alloc, scene),
+            SystemName::Origin => Ok(read_origin(scene)),
             _ => Ok(Effect::Fails(Fault::Syntax)),
         },
     }
@@ -67,7 +73,7 @@ pub fn read(alloc: Global, scene: Scene<'_>, variable: &Variable) -> Result<Effe
 
 /// `V ← B` of a name.
 fn assign_name(scene: Scene<'_>, name: &Name, b: &Array) -> Result<Effect, AllocError>
-    ensures { IfOk result (λ e. (lines : List ℤ) → PassesOn lines e b.now (assign_by (found scene.entry.names.now name.now) name.now b.now)) }
+    ensures { IfOk result (DoesWith b.now scene.entry (λ s. assign_by (found scene.entry.names.now name.now) name.now b.now)) }
 {
     match scene.names.binding(name) {
         Some(Binding::Label(_)) => Ok(Effect::Fails(Fault::Syntax)),
@@ -77,48 +83,41 @@ fn assign_name(scene: Scene<'_>, name: &Name, b: &Array) -> Result<Effect, Alloc
 }
 
 /// The origin that one element 0 or 1 is.
-fn as_origin(array: &Array) -> Option<u16>
-    ensures value { result ≡ as_origin array.now.items }
-    ensures small { IfSome result (λ origin. origin ≤ 1) }
+fn as_origin(array: &Array) -> Option<Origin>
+    ensures { option_map origin_number result ≡ as_origin array.now.items }
 {
-    match array.ravel() {
-        Ravel::Nums(numbers) => match numbers.as_slice() {
-            [0] => Some(0),
-            [1] => Some(1),
+    match array.items() {
+        Elements::Nums(numbers) => match numbers {
+            [0] => Some(Origin::Zero),
+            [1] => Some(Origin::One),
             _ => None,
         },
-        Ravel::Chars(_) => None,
+        Elements::Chars(_) => None,
     }
 }
 
 /// `⎕IO ← B`, where B is this origin if it is one.
-fn set_origin(alloc: Global, scene: Scene<'_>, origin: Option<u16>) -> Result<Effect, AllocError>
-    requires { IfSome origin (λ n. n ≤ 1) }
-    ensures { IfOk result (λ e. (lines : List ℤ) (b : Arr) → PassesOn lines e b (origin_set (seen scene.entry lines) origin b)) }
+fn set_origin(scene: Scene<'_>, origin: Option<Origin>) -> Effect
+    ensures { (b : Arr) → DoesWith b scene.entry (λ s. origin_set s (option_map origin_number origin) b) result }
 {
     let Some(origin) = origin else {
-        return Ok(Effect::Fails(Fault::Domain));
+        return Effect::Fails(Fault::Domain);
     };
     let name = origin_name();
     match scene.names.binding(&name) {
-        Some(_) => Ok(Effect::Passes(Deed::Assigns(name, number(alloc, origin)?))),
-        None => Ok(Effect::Passes(Deed::SetsOrigin(usize::from(origin)))),
+        Some(_) => Effect::Passes(Deed::Assigns(name, origin_scalar(origin))),
+        None => Effect::Passes(Deed::SetsOrigin(origin)),
     }
 }
 
 /// `V ← B`
-fn assign_one(
-    alloc: Global,
-    scene: Scene<'_>,
-    variable: &Variable,
-    b: &Array,
-) -> Result<Effect, AllocError>
-    ensures { IfOk result (λ e. (lines : List ℤ) → PassesOn lines e b.now (assign_one (seen scene.entry lines) variable.now b.now)) }
+fn assign_one(scene: Scene<'_>, variable: &Variable, b: &Array) -> Result<Effect, AllocError>
+    ensures { IfOk result (DoesWith b.now scene.entry (λ s. assign_one s variable.now b.now)) }
 {
     match variable {
         Variable::Name(name) => assign_name(scene, name, b),
         Variable::System(system) => match system {
-            SystemName::Origin => set_origin(alloc, scene, as_origin(b)),
+            SystemName::Origin => Ok(set_origin(scene, as_origin(b))),
             _ => Ok(Effect::Fails(Fault::Syntax)),
         },
     }
@@ -127,22 +126,21 @@ fn assign_one(
 /// `V ← B`, where a phrase takes this.
 #[tactic(auto, using(crate::proofs::Effects::passes_one))]
 pub fn assign(
-    alloc: Global,
     scene: Scene<'_>,
     variable: &Variable,
     arguments: Arguments<'_>,
 ) -> Result<Effect, AllocError>
-    ensures { IfOk result (λ e. (lines : List ℤ) (operands : List (Option Operand)) → taken arguments.entry ≡ taken_of operands → IsEffect lines e (assign (seen scene.entry lines) variable.now (taken arguments.entry)) operands) }
+    ensures { IfOk result (DoesOf (taken arguments.entry) scene.entry (λ s. assign s variable.now (taken arguments.entry))) }
 {
     match arguments {
-        Arguments::One(b) => assign_one(alloc, scene, variable, b),
+        Arguments::One(b) => assign_one(scene, variable, b),
         _ => Ok(Effect::Fails(Fault::Syntax)),
     }
 }
 
 /// What an indexed assignment to a name does that answers this.
 fn assigned_result(name: Name, answer: Result<Array, Stop>) -> Result<Effect, AllocError>
-    ensures { IfOk result (λ e. (lines : List ℤ) (b : Arr) (defined : Result Arr Fault) → Answers (λ a. a) defined answer → PassesOn lines e b (assigned_result name defined b)) }
+    ensures { IfOk result (λ e. (defined : Result Arr Fault) → Answers (λ a. a) defined answer → AssignsIndexed name defined e) }
 {
     match answer {
         Ok(array) => Ok(Effect::Passes(Deed::Assigns(name, array))),
@@ -159,8 +157,7 @@ fn assign_slots_of_name(
     slots: &[Option<Array>],
     b: &Array,
 ) -> Result<Effect, AllocError>
-    requires { scene.io ≤ 1 }
-    ensures { IfOk result (λ e. (lines : List ℤ) → PassesOn lines e b.now (assign_slots (seen scene.entry lines) (Variable.Name name) slots.now b.now)) }
+    ensures { IfOk result (DoesWith b.now scene.entry (λ s. assign_slots s (Variable.Name name) slots.now b.now)) }
 {
     match scene.names.binding(&name) {
         Some(Binding::Value(v)) => {
@@ -180,12 +177,12 @@ fn assign_slots_of_origin(
     slots: &[Option<Array>],
     b: &Array,
 ) -> Result<Effect, AllocError>
-    requires { scene.io ≤ 1 }
-    ensures { IfOk result (λ e. (lines : List ℤ) → PassesOn lines e b.now (assign_slots (seen scene.entry lines) (Variable.System SystemName.Origin) slots.now b.now)) }
+    ensures { IfOk result (DoesWith b.now scene.entry (λ s. assign_slots s (Variable.System SystemName.Origin) slots.now b.now)) }
 {
-    let now = number(alloc, scene.origin() as u16)?;
-    match index_assign(alloc, &now, slots, b, scene.origin()) {
-        Ok(array) => set_origin(alloc, scene, as_origin(&array)),
+    let origin = scene.origin();
+    let now = origin_scalar(origin);
+    match index_assign(alloc, &now, slots, b, origin) {
+        Ok(array) => Ok(set_origin(scene, as_origin(&array))),
         Err(Stop::Fault(fault)) => Ok(Effect::Fails(fault)),
         Err(Stop::Memory) => Err(AllocError),
     }
@@ -199,8 +196,7 @@ fn assign_slots(
     slots: &[Option<Array>],
     b: &Array,
 ) -> Result<Effect, AllocError>
-    requires { scene.io ≤ 1 }
-    ensures { IfOk result (λ e. (lines : List ℤ) → PassesOn lines e b.now (assign_slots (seen scene.entry lines) variable.now slots.now b.now)) }
+    ensures { IfOk result (DoesWith b.now scene.entry (λ s. assign_slots s variable.now slots.now b.now)) }
 {
     match variable {
         Variable::Name(name) => assign_slots_of_name(alloc, scene, *name, slots, b),
@@ -219,8 +215,7 @@ pub fn assign_indexed(
     variable: &Variable,
     arguments: Arguments<'_>,
 ) -> Result<Effect, AllocError>
-    requires { scene.io ≤ 1 }
-    ensures { IfOk result (λ e. (lines : List ℤ) (operands : List (Option Operand)) → taken arguments.entry ≡ taken_of operands → IsEffect lines e (assign_indexed (seen scene.entry lines) variable.now (taken arguments.entry)) operands) }
+    ensures { IfOk result (DoesOf (taken arguments.entry) scene.entry (λ s. assign_indexed s variable.now (taken arguments.entry))) }
 {
     match arguments {
         Arguments::AlongOne(slots, b) => assign_slots(alloc, scene, variable, slots, b),

@@ -9,11 +9,11 @@ ghost use Rattle.apl_machine_state.specs.Outcomes.{of_result};
 ghost use Rattle.apl_primitives.specs.Tables.{monadic_of};
 ghost use Rattle.apl_primitives.specs.Taken.{taken};
 ghost use Rattle.apl_primitives.specs.Values.{phrase_value};
-ghost use Rattle.apl_phrases.specs.Effects.{IsEffect, seen};
-ghost use Rattle.apl_phrases.specs.Origins.{IsOfNoOrigin};
+ghost use Rattle.apl_phrases.specs.Effects.{ComesTo, Does, seen};
+ghost use Rattle.apl_phrases.specs.inside.Origins.{IsOfNoOrigin};
 
 use crate::scene::Scene;
-use apl_arrays::{Array, Stop};
+use apl_arrays::{Array, Origin, Stop};
 use apl_charset::Text;
 use apl_code::{Function, Row};
 use apl_faults::Fault;
@@ -52,12 +52,12 @@ pub enum Deed {
     /// The name has this value from now on.
     Assigns(Name, Array),
     /// The workspace has this index origin from now on.
-    SetsOrigin(usize),
+    SetsOrigin(Origin),
 }
 
 /// What a phrase does whose function answers this.
 fn effect_of(answer: Result<Array, Stop>) -> Result<Effect, AllocError>
-    ensures { IfOk result (λ e. (lines : List ℤ) (defined : Result Arr Fault) (operands : List (Option Operand)) → Answers (λ a. a) defined answer → IsEffect lines e (of_result defined) operands) }
+    ensures { IfOk result (λ e. (defined : Result Arr Fault) → Answers (λ a. a) defined answer → ComesTo (of_result defined) e) }
 {
     match answer {
         Ok(array) => Ok(Effect::Gives(Operand::Value(array))),
@@ -103,13 +103,12 @@ pub fn of_row(
     row: &Row,
     arguments: Arguments<'_>,
 ) -> Result<Array, Stop>
-    requires { scene.io ≤ 1 }
     ensures { (lines : List ℤ) → Answers (λ a. a) (phrase_value row.now (taken arguments.entry) (index_origin (seen scene.entry lines))) result }
 {
     if asks_origin(row) {
         return phrase_value(alloc, row, arguments, scene.origin());
     }
-    phrase_value(alloc, row, arguments, 1)
+    phrase_value(alloc, row, arguments, Origin::One)
 }
 
 /// What a phrase of a row does that the primitives give.
@@ -119,8 +118,7 @@ pub fn value(
     row: &Row,
     arguments: Arguments<'_>,
 ) -> Result<Effect, AllocError>
-    requires { scene.io ≤ 1 }
-    ensures { IfOk result (λ e. (lines : List ℤ) (operands : List (Option Operand)) → IsEffect lines e (of_result (phrase_value row.now (taken arguments.entry) (index_origin (seen scene.entry lines)))) operands) }
+    ensures { IfOk result (Does scene.entry (λ s. of_result (phrase_value row.now (taken arguments.entry) (index_origin s)))) }
 {
     effect_of(of_row(alloc, scene, row, arguments))
 }

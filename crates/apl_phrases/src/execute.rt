@@ -4,12 +4,12 @@ ghost use Rattle.apl_machine_state.specs.declared.operand.Operand.{Operand};
 ghost use Rattle.apl_machine_state.specs.Outcomes.{execute, executed_as, executed_by, text_in};
 ghost use Rattle.apl_machine_state.specs.Texts.{colon_of, fault_of};
 ghost use Rattle.apl_tokens.specs.Tokens.{tokens_of};
-ghost use Rattle.apl_phrases.specs.Effects.{IsEffect, seen};
+ghost use Rattle.apl_phrases.specs.Effects.{Does};
 
 use crate::effect::Effect;
 use crate::scene::{MAX_CALLS, Scene};
 use crate::watch::is_list;
-use apl_arrays::{Array, Ravel};
+use apl_arrays::{Array, Elements};
 use apl_charset::{Ch, Text};
 use apl_faults::Fault;
 use apl_symbols::Symbol;
@@ -20,9 +20,9 @@ use std::alloc::{AllocError, Global};
 fn text_in(array: &Array) -> Option<&[Ch]>
     ensures { option_copied result ≡ text_in array.now.items }
 {
-    match array.ravel() {
-        Ravel::Chars(text) => Some(text.as_slice()),
-        Ravel::Nums(numbers) => { if numbers.is_empty() { Some(&[]) } else { None } }
+    match array.items() {
+        Elements::Chars(text) => Some(text),
+        Elements::Nums(numbers) => { if numbers.is_empty() { Some(&[]) } else { None } }
     }
 }
 
@@ -66,7 +66,7 @@ fn executed_as(
     tokens: Vec<Token>,
 ) -> Result<Effect, AllocError>
     requires { tokens_of text.now ≡ Ok tokens.items }
-    ensures { IfOk result (λ e. (lines : List ℤ) (operands : List (Option Operand)) → IsEffect lines e (executed_as (seen scene.entry lines) text.now tokens.items (colon_of tokens.items)) operands) }
+    ensures { IfOk result (Does scene.entry (λ s. executed_as s text.now tokens.items (colon_of tokens.items))) }
 {
     if colon_of(tokens.as_slice()).is_some() {
         return Ok(Effect::Fails(Fault::Syntax));
@@ -80,7 +80,7 @@ fn executed_as(
 
 /// What is done where a text is executed.
 fn executed(alloc: Global, scene: Scene<'_>, text: &[Ch]) -> Result<Effect, AllocError>
-    ensures { IfOk result (λ e. (lines : List ℤ) (operands : List (Option Operand)) → IsEffect lines e (executed_by (seen scene.entry lines) text.now (tokens_of text.now)) operands) }
+    ensures { IfOk result (Does scene.entry (λ s. executed_by s text.now (tokens_of text.now))) }
 {
     match tokens(alloc, text) {
         Ok(tokens) => executed_as(alloc, scene, text, tokens),
@@ -90,7 +90,7 @@ fn executed(alloc: Global, scene: Scene<'_>, text: &[Ch]) -> Result<Effect, Allo
 
 /// `⍎ B`
 pub fn execute(alloc: Global, scene: Scene<'_>, b: &Array) -> Result<Effect, AllocError>
-    ensures { IfOk result (λ e. (lines : List ℤ) (operands : List (Option Operand)) → IsEffect lines e (execute (seen scene.entry lines) b.now) operands) }
+    ensures { IfOk result (Does scene.entry (λ s. execute s b.now)) }
 {
     if !is_list(b) {
         return Ok(Effect::Fails(Fault::Rank));

@@ -13,6 +13,7 @@ mod phrase;
 mod scene;
 mod watch;
 
+pub use assign::origin_scalar;
 pub use effect::{Deed, Effect};
 pub use execute::colon_of;
 pub use frequent::{assigned, given};

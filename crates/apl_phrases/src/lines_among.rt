@@ -1,7 +1,7 @@
 //! The lines of a function that numbers name.
 ghost use Rattle.std.specs.Prelude.{◌≡◌, ◌≤◌, IfOk, length};
 ghost use Rattle.apl_machine_state.specs.Watching.{lines_among};
-ghost use Rattle.apl_phrases.specs.Marks.{marked, marked_lines, marks_of};
+ghost use Rattle.apl_phrases.specs.inside.Marks.{marked, marked_lines, marks_of};
 
 use apl_defn::Definition;
 use std::alloc::{AllocError, Global};

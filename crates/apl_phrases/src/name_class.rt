@@ -2,12 +2,12 @@
 ghost use Rattle.std.specs.Prelude.{◌≡◌, ℤ, IfOk, List, Option, option_copied};
 ghost use Rattle.apl_machine_state.specs.declared.operand.Operand.{Operand};
 ghost use Rattle.apl_machine_state.specs.Outcomes.{class_number, name_class, number_of_binding};
-ghost use Rattle.apl_phrases.specs.Effects.{IsEffect, seen};
+ghost use Rattle.apl_phrases.specs.Effects.{Does, seen};
 
 use crate::assign::number;
 use crate::effect::Effect;
 use crate::scene::Scene;
-use apl_arrays::{Array, Ravel};
+use apl_arrays::{Array, Elements};
 use apl_defn::{name_of, trimmed};
 use apl_faults::Fault;
 use apl_machine_state::Operand;
@@ -40,16 +40,16 @@ fn class_number(scene: Scene<'_>, name: Option<Name>) -> u16
 
 /// `⎕NC B`
 pub fn name_class(alloc: Global, scene: Scene<'_>, b: &Array) -> Result<Effect, AllocError>
-    ensures { IfOk result (λ e. (lines : List ℤ) (operands : List (Option Operand)) → IsEffect lines e (name_class (seen scene.entry lines) b.now) operands) }
+    ensures { IfOk result (Does scene.entry (λ s. name_class s b.now)) }
 {
     if b.rank() > 1 {
         return Ok(Effect::Fails(Fault::Rank));
     }
-    match b.ravel() {
-        Ravel::Nums(_) => Ok(Effect::Fails(Fault::Domain)),
-        Ravel::Chars(text) => {
-            let name = name_of(alloc, trimmed(text.as_slice()))?;
-            let class = number(alloc, class_number(scene, name))?;
+    match b.items() {
+        Elements::Nums(_) => Ok(Effect::Fails(Fault::Domain)),
+        Elements::Chars(text) => {
+            let name = name_of(alloc, trimmed(text))?;
+            let class = number(class_number(scene, name));
             Ok(Effect::Gives(Operand::Value(class)))
         }
     }

@@ -6,8 +6,8 @@ ghost use Rattle.apl_code.specs.declared.row.Row.TheVariants.{Group};
 ghost use Rattle.apl_machine_state.specs.Outcomes.{Makes, outcome, shown, value_in, taken_of, of_result};
 ghost use Rattle.apl_primitives.specs.Taken.{taken};
 ghost use Rattle.apl_primitives.specs.Values.{phrase_value};
-ghost use Rattle.apl_operands.specs.Operands.{AreThere, fetched};
-ghost use Rattle.apl_phrases.specs.Effects.{IsEffect, acted, seen};
+ghost use Rattle.apl_operands.specs.Operands.{Offers, fetched_from};
+ghost use Rattle.apl_phrases.specs.Effects.{ComesOf, ComesWith, DoesTo, FetchesSlot, acted};
 
 use crate::assign::{assign, assign_indexed, read};
 use crate::calls::{call, dyadic, monadic};
@@ -26,7 +26,7 @@ use std::alloc::{AllocError, Global};
 /// `( B )`: the value stays as it is.
 #[tactic(auto, using(apl_operands::proofs::Fetching::one_taken))]
 fn group(arguments: Arguments<'_>) -> Effect
-    ensures { (lines : List ℤ) (operands : List (Option Operand)) → taken arguments.entry ≡ taken_of operands → IsEffect lines result (of_result (phrase_value Group (taken arguments.entry) 1)) operands }
+    ensures { ComesOf (taken arguments.entry) (of_result (phrase_value Group (taken arguments.entry) 1)) result }
 {
     match arguments {
         Arguments::One(_) => Effect::Passes(Deed::Nothing),
@@ -37,7 +37,7 @@ fn group(arguments: Arguments<'_>) -> Effect
 /// `⎕ ← B`
 #[tactic(auto, using(apl_operands::proofs::Fetching::one_taken))]
 fn show(alloc: Global, arguments: Arguments<'_>) -> Result<Effect, AllocError>
-    ensures { IfOk result (λ e. (lines : List ℤ) (operands : List (Option Operand)) → taken arguments.entry ≡ taken_of operands → IsEffect lines e (shown (taken arguments.entry)) operands) }
+    ensures { IfOk result (ComesOf (taken arguments.entry) (shown (taken arguments.entry))) }
 {
     match arguments {
         Arguments::One(b) => Ok(Effect::Passes(Deed::Writes(said(alloc, display(alloc, b)?)?))),
@@ -50,10 +50,9 @@ fn slot(
     operands: Operands<'_>,
     source: Option<Source>,
 ) -> Result<(Option<Array>, Operands<'_>), AllocError>
-    requires { AreThere (length operands.constants.now) (source ∷ []) (length operands.stack.now) }
-    ensures constants { IfOk result (λ r. r.1.constants.now ≡ operands.entry.constants.now) }
-    ensures slot { IfOk result (λ r. (more : List (Option Source)) → map value_in (fetched operands.entry.constants.now (source ∷ more) (reverse operands.entry.stack.now)) ≡ r.0 ∷ map value_in (fetched operands.entry.constants.now more (reverse r.1.stack.now))) }
-    ensures there { IfOk result (λ r. (more : List (Option Source)) → AreThere (length operands.entry.constants.now) (source ∷ more) (length operands.entry.stack.now) → AreThere (length operands.entry.constants.now) more (length r.1.stack.now)) }
+    requires { Offers operands (source ∷ []) }
+    ensures slot { IfOk result (λ r. FetchesSlot operands.entry source r.0 r.1) }
+    ensures there { IfOk result (λ r. (more : List (Option Source)) → Offers operands.entry (source ∷ more) → Offers r.1 more) }
 {
     let Some(source) = source else {
         return Ok((None, operands));
@@ -71,8 +70,8 @@ fn slots(
     sources: &[Option<Source>],
     operands: Operands<'_>,
 ) -> Result<Vec<Option<Array>>, AllocError>
-    requires { AreThere (length operands.constants.now) sources.now (length operands.stack.now) }
-    ensures { IfOk result (λ slots. slots.items ≡ map value_in (fetched operands.entry.constants.now sources.now (reverse operands.entry.stack.now))) }
+    requires { Offers operands sources.now }
+    ensures { IfOk result (λ slots. slots.items ≡ map value_in (fetched_from operands.entry sources.now)) }
 {
     let mut slots = Vec::with_capacity(alloc, sources.len())?;
     let mut rest = operands;
@@ -90,8 +89,8 @@ fn index_list(
     sources: &[Option<Source>],
     operands: Operands<'_>,
 ) -> Result<Effect, AllocError>
-    requires { AreThere (length operands.constants.now) sources.now (length operands.stack.now) }
-    ensures { IfOk result (λ e. (lines : List ℤ) → IsEffect lines e (Makes (map value_in (fetched operands.entry.constants.now sources.now (reverse operands.entry.stack.now)))) (fetched operands.entry.constants.now sources.now (reverse operands.entry.stack.now))) }
+    requires { Offers operands sources.now }
+    ensures { IfOk result (ComesWith (fetched_from operands.entry sources.now) (Makes (map value_in (fetched_from operands.entry sources.now)))) }
 {
     let slots = slots(alloc, sources, operands)?;
     Ok(Effect::Gives(Operand::Slots(Slots::new(slots))))
@@ -105,20 +104,19 @@ fn perform_row(
     sources: &[Option<Source>],
     operands: Operands<'_>,
 ) -> Result<Effect, AllocError>
-    requires there { AreThere (length operands.constants.now) sources.now (length operands.stack.now) }
-    requires small { scene.io ≤ 1 }
-    ensures { IfOk result (λ e. (lines : List ℤ) → IsEffect lines e (outcome (seen scene.entry lines) row.now (fetched operands.entry.constants.now sources.now (reverse operands.entry.stack.now))) (fetched operands.entry.constants.now sources.now (reverse operands.entry.stack.now))) }
+    requires there { Offers operands sources.now }
+    ensures { IfOk result (DoesTo (fetched_from operands.entry sources.now) scene.entry (λ s. outcome s row.now (fetched_from operands.entry sources.now))) }
 {
     match row {
         Row::Index(_) => index_list(alloc, sources, operands),
         Row::Group => Ok(group(arguments(sources, operands))),
-        Row::Read(variable) => read(alloc, scene, variable),
+        Row::Read(variable) => read(scene, variable),
         Row::Call(variable) => call(scene, variable),
         Row::Monadic(function) => {
             monadic(alloc, scene, row, function, arguments(sources, operands))
         }
         Row::Dyadic(function) => dyadic(alloc, scene, row, function, arguments(sources, operands)),
-        Row::Assign(variable) => assign(alloc, scene, variable, arguments(sources, operands)),
+        Row::Assign(variable) => assign(scene, variable, arguments(sources, operands)),
         Row::AssignIndexed(variable) => {
             assign_indexed(alloc, scene, variable, arguments(sources, operands))
         }
@@ -135,9 +133,8 @@ pub fn perform(
     sources: &[Option<Source>],
     operands: Operands<'_>,
 ) -> Result<Effect, AllocError>
-    requires there { AreThere (length operands.constants.now) sources.now (length operands.stack.now) }
-    requires small { scene.io ≤ 1 }
-    ensures { IfOk result (λ e. (lines : List ℤ) → IsEffect lines e (acted (seen scene.entry lines) action.now (fetched operands.entry.constants.now sources.now (reverse operands.entry.stack.now))) (fetched operands.entry.constants.now sources.now (reverse operands.entry.stack.now))) }
+    requires there { Offers operands sources.now }
+    ensures { IfOk result (DoesTo (fetched_from operands.entry sources.now) scene.entry (λ s. acted s action.now (fetched_from operands.entry sources.now))) }
 {
     match action {
         Action::Box => index_list(alloc, sources, operands),

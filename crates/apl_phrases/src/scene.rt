@@ -1,9 +1,10 @@
 //! What phrases see beside their operands.
-ghost use Rattle.std.specs.Prelude.{◌≡◌, ◌≤◌};
+ghost use Rattle.std.specs.Prelude.{◌≡◌};
+ghost use Rattle.apl_arrays.specs.Origins.{origin_number};
 ghost use Rattle.apl_machine_state.specs.Environment.{origin_by, origin_in, origin_name};
 ghost use Rattle.apl_names.specs.Maps.{found};
 
-use apl_arrays::{Array, Ravel};
+use apl_arrays::{Array, Elements, Origin};
 use apl_charset::Ch;
 use apl_names::{Binding, Names};
 use apl_symbols::Name;
@@ -16,8 +17,8 @@ pub(crate) const MAX_CALLS: usize = 256;
 pub struct Scene<'a> {
     /// The names in force.
     pub names: &'a Names,
-    /// The index origin of the workspace: 0 or 1.
-    pub io: usize,
+    /// The index origin of the workspace.
+    pub io: Origin,
     /// How many calls and executes stand.
     pub standing: usize,
 }
@@ -35,25 +36,22 @@ pub fn origin_name() -> Name
 }
 
 /// The origin that an array stands for, which holds 0 or 1.
-fn origin_in(array: &Array) -> usize
-    ensures value { result ≡ origin_in array.now.items }
-    ensures small { result ≤ 1 }
+fn origin_in(array: &Array) -> Origin
+    ensures { origin_number result ≡ origin_in array.now.items }
 {
-    match array.ravel() {
-        Ravel::Nums(numbers) => match numbers.as_slice() {
-            [0, ..] => 0,
-            _ => 1,
+    match array.items() {
+        Elements::Nums(numbers) => match numbers {
+            [0, ..] => Origin::Zero,
+            _ => Origin::One,
         },
-        Ravel::Chars(_) => 1,
+        Elements::Chars(_) => Origin::One,
     }
 }
 
 impl<'a> Scene<'a> {
     /// The index origin in force.
-    pub fn origin(self) -> usize
-        requires { self.io ≤ 1 }
-        ensures value { result ≡ origin_by (found self.entry.names.now origin_name) self.entry.io }
-        ensures small { result ≤ 1 }
+    pub fn origin(self) -> Origin
+        ensures { origin_number result ≡ origin_by (found self.entry.names.now origin_name) (origin_number self.entry.io) }
     {
         match self.names.binding(&origin_name()) {
             Some(Binding::Value(array)) => origin_in(array),

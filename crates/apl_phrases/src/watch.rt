@@ -5,12 +5,13 @@ ghost use Rattle.apl_machine_state.specs.declared.operand.Operand.{Operand};
 ghost use Rattle.apl_machine_state.specs.Outcomes.{rewatch, watch, watched, watched_by};
 ghost use Rattle.apl_machine_state.specs.Watching.{function_named, is_list, lines_among, numbers_in};
 ghost use Rattle.apl_names.specs.Maps.{function_in, last_map, said};
-ghost use Rattle.apl_phrases.specs.Effects.{IsEffect, seen};
+ghost use Rattle.apl_phrases.specs.Effects.{ComesTo, Does};
+ghost use Rattle.apl_phrases.specs.inside.Marks.{chosen};
 
 use crate::effect::Effect;
 use crate::lines_among::lines_among;
 use crate::scene::Scene;
-use apl_arrays::{Array, Ravel};
+use apl_arrays::{Array, Elements};
 use apl_charset::Ch;
 use apl_defn::Definition;
 use apl_faults::Fault;
@@ -30,9 +31,9 @@ pub fn is_list(array: &Array) -> bool
 fn numbers_in(array: &Array) -> Option<&[i64]>
     ensures { option_copied result ≡ numbers_in array.now.items }
 {
-    match array.ravel() {
-        Ravel::Nums(numbers) => Some(numbers.as_slice()),
-        Ravel::Chars(text) => { if text.is_empty() { Some(&[]) } else { None } }
+    match array.items() {
+        Elements::Nums(numbers) => Some(numbers),
+        Elements::Chars(text) => { if text.is_empty() { Some(&[]) } else { None } }
     }
 }
 
@@ -54,7 +55,7 @@ fn ask(
     definition: &Definition,
     numbers: Option<&[i64]>,
 ) -> Result<Effect, AllocError>
-    ensures { IfOk result (λ e. (lines : List ℤ) (operands : List (Option Operand)) → IsEffect lines e (watched_by which name (Some definition.now) (option_map lines_among (option_copied numbers.entry))) operands) }
+    ensures { IfOk result (ComesTo (watched_by which name (Some definition.now) (chosen (option_copied numbers.entry)))) }
 {
     match numbers {
         Some(numbers) => {
@@ -73,7 +74,7 @@ fn ask_named(
     text: &[Ch],
     numbers: Option<&[i64]>,
 ) -> Result<Effect, AllocError>
-    ensures { IfOk result (λ e. (lines : List ℤ) (operands : List (Option Operand)) → IsEffect lines e (watched_by which text.now (function_named (seen scene.entry lines) text.now) (option_map lines_among (option_copied numbers.entry))) operands) }
+    ensures { IfOk result (Does scene.entry (λ s. watched_by which text.now (function_named s text.now) (chosen (option_copied numbers.entry)))) }
 {
     let Some(name) = Name::new(text) else {
         return Ok(Effect::Fails(Fault::Domain));
@@ -92,17 +93,17 @@ fn watched(
     numbers: Option<&[i64]>,
     b: &Array,
 ) -> Result<Effect, AllocError>
-    ensures { IfOk result (λ e. (lines : List ℤ) (operands : List (Option Operand)) → IsEffect lines e (watched (seen scene.entry lines) which b.now.items (option_map lines_among (option_copied numbers.entry))) operands) }
+    ensures { IfOk result (Does scene.entry (λ s. watched s which b.now.items (chosen (option_copied numbers.entry)))) }
 {
-    match b.ravel() {
-        Ravel::Nums(_) => Ok(Effect::Fails(Fault::Domain)),
-        Ravel::Chars(text) => ask_named(alloc, scene, which, text.as_slice(), numbers),
+    match b.items() {
+        Elements::Nums(_) => Ok(Effect::Fails(Fault::Domain)),
+        Elements::Chars(text) => ask_named(alloc, scene, which, text, numbers),
     }
 }
 
 /// `⎕STOP B` and `⎕TRACE B`
 pub fn watch(alloc: Global, scene: Scene<'_>, which: Watch, b: &Array) -> Result<Effect, AllocError>
-    ensures { IfOk result (λ e. (lines : List ℤ) (operands : List (Option Operand)) → IsEffect lines e (watch (seen scene.entry lines) which b.now) operands) }
+    ensures { IfOk result (Does scene.entry (λ s. watch s which b.now)) }
 {
     if !is_list(b) {
         return Ok(Effect::Fails(Fault::Rank));
@@ -118,7 +119,7 @@ pub fn rewatch(
     a: &Array,
     b: &Array,
 ) -> Result<Effect, AllocError>
-    ensures { IfOk result (λ e. (lines : List ℤ) (operands : List (Option Operand)) → IsEffect lines e (rewatch (seen scene.entry lines) which a.now b.now) operands) }
+    ensures { IfOk result (Does scene.entry (λ s. rewatch s which a.now b.now)) }
 {
     if !is_list(a) || !is_list(b) {
         return Ok(Effect::Fails(Fault::Rank));

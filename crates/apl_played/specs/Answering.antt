@@ -34,7 +34,8 @@ has_room outcome transcript after = nat_le (length (transcript_in outcome)) (len
 
 -- A call's answer, of what playing the lines comes to: both sizes always; where both have room they lie in their buffers and the number is that of the
 -- outcome, and else it is 9 and the buffers are as before.
-pub record Answers (steps : ℕ) (workspace lines : List ℕ) (number transcript_length workspace_length : ℕ) (transcript transcript' after after' : List ℕ) : Type 0 where
+pub record Answers (steps : ℕ) (workspace lines : List ℕ) (number transcript_length workspace_length : ℕ)
+    (transcript transcript' after after' : List ℕ) : Type 0 where
   pub outcome : Result Played PlayError
   pub comes : ComesTo steps workspace lines outcome
   pub transcript_told : transcript_length ≡ length (transcript_in outcome)

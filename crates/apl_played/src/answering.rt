@@ -68,7 +68,9 @@ fn lay_outcome(
     after: &mut [u8],
 ) -> Answer
     ensures number { result.number ≡ (if has_room outcome.now transcript.old after.old then number_in outcome.now else 9) }
-    ensures transcript { transcript.new ≡ (if has_room outcome.now transcript.old after.old then laid (transcript_in outcome.now) transcript.old else transcript.old) }
+    ensures transcript { transcript.new ≡ (if has_room outcome.now transcript.old after.old
+        then laid (transcript_in outcome.now) transcript.old
+        else transcript.old) }
     ensures after { after.new ≡ (if has_room outcome.now transcript.old after.old then laid (workspace_in outcome.now) after.old else after.old) }
     ensures transcript_length { result.transcript ≡ length (transcript_in outcome.now) }
     ensures workspace_length { result.workspace ≡ length (workspace_in outcome.now) }

@@ -11,6 +11,7 @@ pub struct Input<'a> {
 }
 
 impl<'a> Input<'a> {
+    /// These bytes, of which none is read yet.
     pub fn new(bytes: &'a [u8]) -> Input<'a>
         ensures { result.left.now ≡ bytes.now }
     {
@@ -45,6 +46,7 @@ pub struct Output {
 }
 
 impl Output {
+    /// No bytes yet, and no failure.
     pub fn new(alloc: Global) -> Output
         ensures { result.bytes.items ≡ [] }
     {

@@ -1,8 +1,7 @@
 -- Where the slots that name an axis lie means nothing.
-use Rattle.std.proofs.Common.{◌≡◌, refl, ℕ, List, Option, Some, None, Result, Ok, Err, subst, sym}
+use Rattle.std.proofs.Common.{◌≡◌, refl, ℕ, List, Option, Some, None, Result, subst}
 use Rattle.std.specs.Borrow.{Bor}
 use Rattle.apl_arrays.specs.Answers.{Answers}
-use Rattle.apl_arrays.specs.declared.array.Array.{Array}
 use Rattle.apl_arrays.specs.declared.axis_choice.Along.TheVariants.{Named}
 use Rattle.apl_arrays.specs.declared.stop.Stop.{Stop}
 use Rattle.apl_arrays.specs.Along.{named}

@@ -1,9 +1,10 @@
 // Operators and the functions that they take.
-ghost use Rattle.std.specs.Prelude.{◌≡◌, ◌≤◌};
+ghost use Rattle.std.specs.Prelude.{◌≡◌};
 ghost use Rattle.apl_arrays.specs.Answers.{Answers};
+ghost use Rattle.apl_arrays.specs.Origins.{origin_number};
 ghost use Rattle.apl_primitives.specs.Values.{derived, derived_along, inner_by, outer_by, own_axis};
 
-use apl_arrays::{Along, Array, Stop};
+use apl_arrays::{Along, Array, Origin, Stop};
 use apl_faults::Fault;
 use apl_folds::{reduce, scan};
 use apl_operators::{inner, outer};
@@ -30,10 +31,9 @@ fn derived_along(
     function: Dyadic,
     along: Along<'_>,
     b: &Array,
-    origin: usize,
+    origin: Origin,
 ) -> Result<Array, Stop>
-    requires { origin ≤ 1 }
-    ensures { Answers (λ r. r) (derived_along operator function along.entry b.now origin) result }
+    ensures { Answers (λ r. r) (derived_along operator function along.entry b.now (origin_number origin)) result }
 {
     match operator {
         Operator::Slash => reduce(alloc, function, along, b, origin),
@@ -50,10 +50,9 @@ pub(crate) fn derived(
     function: Option<Dyadic>,
     along: Along<'_>,
     b: &Array,
-    origin: usize,
+    origin: Origin,
 ) -> Result<Array, Stop>
-    requires { origin ≤ 1 }
-    ensures { Answers (λ r. r) (derived operator function along.entry b.now origin) result }
+    ensures { Answers (λ r. r) (derived operator function along.entry b.now (origin_number origin)) result }
 {
     match function {
         Some(function) => derived_along(alloc, operator, function, along, b, origin),

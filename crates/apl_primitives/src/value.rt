@@ -1,14 +1,16 @@
 // The values of phrases.
-ghost use Rattle.std.specs.Prelude.{◌≡◌, ◌≤◌};
+ghost use Rattle.std.specs.Prelude.{◌≡◌};
 ghost use Rattle.apl_arrays.specs.Answers.{Answers};
+ghost use Rattle.apl_arrays.specs.Origins.{origin_number};
 ghost use Rattle.apl_primitives.specs.Tables.{monadic_of, dyadic_of};
 ghost use Rattle.apl_primitives.specs.Taken.{taken};
-ghost use Rattle.apl_primitives.specs.Values.{by_axis_and_one, by_axis_and_two, by_index_list, by_one, by_two, of_one, phrase_value, scalar_or_structural1, scalar_or_structural2};
+ghost use Rattle.apl_primitives.specs.Values.{by_axis_and_one, by_axis_and_two, by_index_list, by_one, by_two, of_one};
+ghost use Rattle.apl_primitives.specs.Values.{phrase_value, scalar_or_structural1, scalar_or_structural2};
 
 use crate::arguments::Arguments;
 use crate::operators::{derived, inner_by, outer_by, own_axis};
 use crate::table::{dyadic_of, monadic_of};
-use apl_arrays::{Along, Array, Stop};
+use apl_arrays::{Along, Array, Origin, Stop};
 use apl_code::{Function, Row};
 use apl_faults::Fault;
 use apl_format::format1;
@@ -23,10 +25,9 @@ fn scalar_or_structural1(
     alloc: Global,
     function: Primitive,
     b: &Array,
-    origin: usize,
+    origin: Origin,
 ) -> Result<Array, Stop>
-    requires { origin ≤ 1 }
-    ensures { Answers (λ r. r) (scalar_or_structural1 (monadic_of function) function b.now origin) result }
+    ensures { Answers (λ r. r) (scalar_or_structural1 (monadic_of function) function b.now (origin_number origin)) result }
 {
     match monadic_of(function) {
         Some(function) => monadic(alloc, function, b),
@@ -40,10 +41,9 @@ fn scalar_or_structural2(
     function: Primitive,
     a: &Array,
     b: &Array,
-    origin: usize,
+    origin: Origin,
 ) -> Result<Array, Stop>
-    requires { origin ≤ 1 }
-    ensures { Answers (λ r. r) (scalar_or_structural2 (dyadic_of function) function a.now b.now origin) result }
+    ensures { Answers (λ r. r) (scalar_or_structural2 (dyadic_of function) function a.now b.now (origin_number origin)) result }
 {
     match dyadic_of(function) {
         Some(function) => dyadic(alloc, function, a, b),
@@ -52,9 +52,8 @@ fn scalar_or_structural2(
 }
 
 /// `F B`.
-fn of_one(alloc: Global, function: Primitive, b: &Array, origin: usize) -> Result<Array, Stop>
-    requires { origin ≤ 1 }
-    ensures { Answers (λ r. r) (of_one function b.now origin) result }
+fn of_one(alloc: Global, function: Primitive, b: &Array, origin: Origin) -> Result<Array, Stop>
+    ensures { Answers (λ r. r) (of_one function b.now (origin_number origin)) result }
 {
     match function {
         Primitive::Format => format1(alloc, b),
@@ -63,9 +62,8 @@ fn of_one(alloc: Global, function: Primitive, b: &Array, origin: usize) -> Resul
 }
 
 /// A row that takes one value.
-fn by_one(alloc: Global, row: &Row, b: &Array, origin: usize) -> Result<Array, Stop>
-    requires { origin ≤ 1 }
-    ensures { Answers (λ r. r) (by_one row.now b.now origin) result }
+fn by_one(alloc: Global, row: &Row, b: &Array, origin: Origin) -> Result<Array, Stop>
+    ensures { Answers (λ r. r) (by_one row.now b.now (origin_number origin)) result }
 {
     match *row {
         Row::Group => Ok(b.copy()?),
@@ -85,9 +83,8 @@ fn by_one(alloc: Global, row: &Row, b: &Array, origin: usize) -> Result<Array, S
 }
 
 /// A row that takes two values.
-fn by_two(alloc: Global, row: &Row, a: &Array, b: &Array, origin: usize) -> Result<Array, Stop>
-    requires { origin ≤ 1 }
-    ensures { Answers (λ r. r) (by_two row.now a.now b.now origin) result }
+fn by_two(alloc: Global, row: &Row, a: &Array, b: &Array, origin: Origin) -> Result<Array, Stop>
+    ensures { Answers (λ r. r) (by_two row.now a.now b.now (origin_number origin)) result }
 {
     match *row {
         Row::Dyadic(Function::Primitive(function)) => {
@@ -108,10 +105,9 @@ fn by_axis_and_one(
     row: &Row,
     axis: &[Option<Array>],
     b: &Array,
-    origin: usize,
+    origin: Origin,
 ) -> Result<Array, Stop>
-    requires { origin ≤ 1 }
-    ensures { Answers (λ r. r) (by_axis_and_one row.now axis.now b.now origin) result }
+    ensures { Answers (λ r. r) (by_axis_and_one row.now axis.now b.now (origin_number origin)) result }
 {
     match *row {
         Row::MonadicAxis(Function::Primitive(function)) => {
@@ -138,10 +134,9 @@ fn by_axis_and_two(
     axis: &[Option<Array>],
     a: &Array,
     b: &Array,
-    origin: usize,
+    origin: Origin,
 ) -> Result<Array, Stop>
-    requires { origin ≤ 1 }
-    ensures { Answers (λ r. r) (by_axis_and_two row.now axis.now a.now b.now origin) result }
+    ensures { Answers (λ r. r) (by_axis_and_two row.now axis.now a.now b.now (origin_number origin)) result }
 {
     match *row {
         Row::DyadicAxis(Function::Primitive(function)) => {
@@ -157,10 +152,9 @@ fn by_index_list(
     row: &Row,
     b: &Array,
     slots: &[Option<Array>],
-    origin: usize,
+    origin: Origin,
 ) -> Result<Array, Stop>
-    requires { origin ≤ 1 }
-    ensures { Answers (λ r. r) (by_index_list row.now b.now slots.now origin) result }
+    ensures { Answers (λ r. r) (by_index_list row.now b.now slots.now (origin_number origin)) result }
 {
     match *row {
         Row::Select => index(alloc, b, slots, origin),
@@ -168,7 +162,7 @@ fn by_index_list(
     }
 }
 
-/// The value that a phrase of this row gives from what it takes, where the index origin is this, 0 or 1.
+/// The value that a phrase of this row gives from what it takes, where the index origin is this.
 ///
 /// A row without a meaning is a syntax fault, and so are a function without the wanted valence, an axis of a function that takes none, and an
 /// operator beside anything but a scalar function of two arrays. Every other fault is the function's own.
@@ -176,10 +170,9 @@ pub fn phrase_value(
     alloc: Global,
     row: &Row,
     arguments: Arguments<'_>,
-    origin: usize,
+    origin: Origin,
 ) -> Result<Array, Stop>
-    requires { origin ≤ 1 }
-    ensures { Answers (λ r. r) (phrase_value row.now (taken arguments.entry) origin) result }
+    ensures { Answers (λ r. r) (phrase_value row.now (taken arguments.entry) (origin_number origin)) result }
 {
     match arguments {
         Arguments::One(b) => by_one(alloc, row, b, origin),

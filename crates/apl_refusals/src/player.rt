@@ -1,7 +1,7 @@
 //! Sessions that are played a call at a time.
 ghost use Rattle.std.specs.Prelude.{◌≡◌, OnOk, OnErr};
 ghost use Rattle.apl_session.specs.Events.{after_event};
-ghost use Rattle.apl_refusals.specs.Calls.{event_of};
+ghost use Rattle.apl_refusals.specs.inside.Calls.{event_of};
 
 use crate::unmade::Unmade;
 use apl_machine::{Machine, OutLine};

@@ -15,7 +15,7 @@ use Rattle.apl_arrays.specs.Views.{on_axis}
 use Rattle.apl_arrays.proofs.Order.{length-indices}
 use Rattle.apl_reshape.specs.declared.blocks.Block.{Block}
 use Rattle.apl_reshape.specs.Catenate.{place_in, joined_at, joined_items, joined_shape, of_one_type, Both, BothNumbers, BothCharacters}
-use Rattle.apl_reshape.specs.Rows.{blocks, item_at, needed, rows_of, is_scalar_shape, HasRows}
+use Rattle.apl_reshape.specs.inside.Rows.{blocks, item_at, needed, rows_of, is_scalar_shape, HasRows}
 use Rattle.apl_reshape.proofs.JoinedRows.{by_blocks, joined_from}
 use Rattle.apl_reshape.proofs.Ranges.{map_one, map_always, range-append}
 
@@ -72,7 +72,7 @@ rows_list {A = A} axis u v s t xs ys d h l e =
         ∙ ap (λ (p : ℕ). cond (nat_lt (get_or i axis 0) (get_or s axis 0)) (get_or xs (cond (is_scalar_shape u) 0 (position_in s i)) d) (get_or ys p d)) (place_at v t (on_axis axis (λ k. k - get_or s axis 0) i))
 
 -- the joined elements are rows of blocks
-rows_items : (axis : ℕ) (u v s t : List ℕ) (both : Both) (x y : Block) → axis < length s → length s ≡ length t → same (without axis s) (without axis t) ≡ true →
+pub rows_items : (axis : ℕ) (u v s t : List ℕ) (both : Both) (x y : Block) → axis < length s → length s ≡ length t → same (without axis s) (without axis t) ≡ true →
     x.is_scalar ≡ is_scalar_shape u → x.len ≡ size_of (drop axis s) → y.is_scalar ≡ is_scalar_shape v → y.len ≡ size_of (drop axis t) →
     rows_of x y (size_of (take axis s)) both ≡ joined_items axis (get_or s axis 0) (place_in u s) (place_in v t) both (indices (joined_shape axis s t))
 rows_items axis u v s t (BothNumbers xs ys) x y h l e a b c d =

@@ -7,7 +7,7 @@ use Rattle.apl_arrays.specs.Checks.{limited}
 use Rattle.apl_arrays.specs.Results.{and_then, ok_map}
 use Rattle.apl_reshape.specs.declared.blocks.Block.{Block}
 use Rattle.apl_reshape.specs.Catenate.{Both, beside, of_one_type, place_in, joined_items, joined_shape, joined_array, joined_of}
-use Rattle.apl_reshape.specs.Rows.{is_scalar_shape, needed}
+use Rattle.apl_reshape.specs.inside.Rows.{is_scalar_shape, needed}
 use Rattle.apl_reshape.proofs.JoinedRows.{size_parts}
 use Rattle.apl_reshape.proofs.Joins.{size-beside}
 use Rattle.apl_reshape.proofs.Limits.{few_is_enough}

@@ -12,7 +12,7 @@ use Rattle.apl_arrays.proofs.Places.{both, within_head}
 use Rattle.apl_arrays.proofs.Order.{map_map, map_by_places, all_within}
 use Rattle.apl_arrays.proofs.InOrder.{map_same}
 use Rattle.apl_reshape.specs.Catenate.{joined_shape}
-use Rattle.apl_reshape.specs.Rows.{blocks}
+use Rattle.apl_reshape.specs.inside.Rows.{blocks}
 use Rattle.apl_reshape.proofs.Ranges.{map_always, range-append}
 
 pub same_is_equal : (s t : List ℕ) → same s t ≡ true → s ≡ t

@@ -8,3 +8,6 @@ pub mod Joins
 pub mod JoinedRows
 pub mod InBlocks
 pub mod Joined
+pub mod InVector
+pub mod Enough
+pub mod Scalars

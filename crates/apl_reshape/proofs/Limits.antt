@@ -3,6 +3,7 @@ use Rattle.std.proofs.Common.{suc, zero, ◌≡◌, ℕ, ◌*◌, ◌<◌, ◌�
 use Rattle.std.proofs.Math.Nat.{mul-le-mul_left, mul-le-mul_right}
 use Rattle.apl_arrays.specs.Index.{size_of, bound_of}
 use Rattle.apl_arrays.specs.Cells.{Arr, Items, cells_of}
+use Rattle.apl_arrays.specs.Simple.{vector}
 use Rattle.apl_reshape.specs.Take.{with_axes}
 use Rattle.apl_arrays.proofs.Places.{bound_of-pos, mul_low}
 
@@ -60,3 +61,12 @@ full_ones n s t (m ∷ u) items old e f h full g = absurd (omega arith)
 
 pub small_ones : (n : ℕ) (s t : List ℕ) → s ≡ t → t ≡ replicate n 1 → bound_of s ≤ 1000000
 small_ones n s t e f = omega (arith, ap bound_of (e ∙ f), bound-ones n)
+
+-- a vector's ravel is itself
+pub vector_stays : (b : Arr) → length b.shape ≡ 1 → length (cells_of b.items) ≡ size_of b.shape → vector b.items ≡ b
+vector_stays b e full = at b.shape e full
+  where
+    at : (s : List ℕ) → length s ≡ 1 → length (cells_of b.items) ≡ size_of s → vector b.items ≡ record { shape = s; items = b.items }
+    at [] e full = absurd (omega arith)
+    at (n ∷ []) e full = let same : length (cells_of b.items) ≡ n = omega arith in ap (λ (k : ℕ). record { shape = k ∷ []; items = b.items }) same
+    at (n ∷ m ∷ s) e full = absurd (omega arith)

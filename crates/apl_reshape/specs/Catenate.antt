@@ -1,5 +1,6 @@
 -- Two arrays joined along an axis.
-use Rattle.std.specs.Prelude.{ℕ, ℤ, pos, ◌+◌, ◌-◌, ◌==◌, nat_lt, max, List, [], ◌∷◌, map, length, if◌then◌else◌, Option, None, Some, Result, Ok, Err, slice_index_or}
+use Rattle.std.specs.Prelude.{ℕ, ℤ, pos, ◌+◌, ◌-◌, ◌==◌, nat_lt, max, List, [], ◌∷◌, map, length, slice_index_or}
+use Rattle.std.specs.Prelude.{if◌then◌else◌, Option, None, Some, Result, Ok, Err}
 use Rattle.apl_faults.specs.declared.fault.Fault.{Fault}
 use Rattle.apl_faults.specs.declared.fault.Fault.TheVariants.{Domain, Rank, Length}
 use Rattle.apl_arrays.specs.declared.axis_choice.Along.{Along}
@@ -58,7 +59,9 @@ joined_shape axis s t = on_axis axis (λ n. n + slice_index_or t axis 0) s
 
 -- both together, in this shape
 abbrev pub joined_array : ℕ → List ℕ → List ℕ → Arr → Arr → Both → List ℕ → Arr
-joined_array axis s t a b both shape = record { shape = shape; items = joined_items axis (slice_index_or s axis 0) (place_in a.shape s) (place_in b.shape t) both (indices shape) }
+joined_array axis s t a b both shape =
+    let items = joined_items axis (slice_index_or s axis 0) (place_in a.shape s) (place_in b.shape t) both (indices shape) in
+    record { shape = shape; items = items }
 
 -- operands that take part with these lengths
 abbrev pub joined_of : ℕ → List ℕ → List ℕ → Arr → Arr → Result Arr Fault

@@ -1,4 +1,4 @@
 pub mod Reshape
 pub mod Take
 pub mod Catenate
-pub mod Rows
+pub mod inside

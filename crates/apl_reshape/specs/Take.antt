@@ -1,11 +1,13 @@
 -- The first or last elements along each axis, and the others.
-use Rattle.std.specs.Prelude.{unsigned_abs, ℕ, ℤ, pos, ◌+◌, ◌-◌, ◌==◌, Bool, true, nat_le, min, List, [], ◌∷◌, map, length, if◌then◌else◌, Result, slice_index_or, replicate}
+use Rattle.std.specs.Prelude.{ℕ, ℤ, pos, ◌+◌, ◌-◌, ◌==◌, nat_le, min, unsigned_abs, Bool, true, if◌then◌else◌, Result}
+use Rattle.std.specs.Prelude.{List, [], ◌∷◌, map, length, replicate, slice_index_or}
 use Rattle.std.specs.Int.{is_negative}
+use Rattle.std.specs.List.{range_with_len}
 use Rattle.apl_faults.specs.declared.fault.Fault.{Fault}
 use Rattle.apl_faults.specs.declared.fault.Fault.TheVariants.{Length, Limit}
 use Rattle.apl_arrays.specs.Index.{size_of, indices, is_within, position_in}
 use Rattle.apl_arrays.specs.Cells.{Arr, Items, Numbers, Characters}
-use Rattle.apl_arrays.specs.Views.{selected}
+use Rattle.apl_arrays.specs.Views.{all_at, selected}
 use Rattle.apl_arrays.specs.Results.{and_then, ok_map}
 use Rattle.apl_arrays.specs.Checks.{demand, limited, numbers_of, vector_rank}
 
@@ -45,6 +47,10 @@ place_from_end n wanted i = if nat_le wanted (i + n) then i + n - wanted else n
 abbrev pub place_taken : Bool → ℕ → ℕ → ℕ → ℕ
 place_taken from_end n wanted i = if from_end then place_from_end n wanted i else i
 
+-- so many items of a list, from the front or from the end, with fills where there are too few
+abbrev pub line_taken : {A : Type 0} → Bool → ℕ → List A → A → List A
+line_taken from_end wanted xs fill = all_at xs (place_taken from_end (length xs) wanted) (range_with_len 0 wanted) fill
+
 -- of an axis of n elements, the one that is taken i-th: from the front, or so that the last is taken last; n or more where there is none
 abbrev pub taken_index : ℕ → ℤ → ℕ → ℕ
 taken_index n z i = place_taken (is_negative z) n (unsigned_abs z) i
@@ -62,9 +68,13 @@ abbrev pub found_or_filled : List ℕ → Items → (List ℕ → List ℕ) → 
 found_or_filled s (Numbers zs) g is = Numbers (map (λ i. element_or s zs (pos 0) (g i)) is)
 found_or_filled s (Characters cs) g is = Characters (map (λ i. element_or s cs 32 (g i)) is)
 
+-- the elements that are taken for these index lists
+abbrev pub taken_for : List ℕ → List ℤ → Items → List (List ℕ) → Items
+taken_for s zs items is = found_or_filled s items (on_axes taken_index s zs) is
+
 -- so many elements along each axis, from the front or from the end, with fills where there are too few
 abbrev pub taken_by : List ℤ → Arr → Arr
-taken_by zs b = let s = map unsigned_abs zs in record { shape = s; items = found_or_filled b.shape b.items (on_axes taken_index b.shape zs) (indices s) }
+taken_by zs b = let s = map unsigned_abs zs in record { shape = s; items = taken_for b.shape zs b.items (indices s) }
 
 abbrev pub taken : Arr → Arr → Result Arr Fault
 taken a b = and_then (named_counts a b.shape) (λ zs. ok_map (λ ok. taken_by zs (widened (length zs) b)) (limited (map unsigned_abs zs)))

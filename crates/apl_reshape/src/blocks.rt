@@ -1,9 +1,8 @@
 // Rows made of a block of one operand's items and a block of another's.
-ghost use Rattle.std.specs.Prelude.{◌≡◌, ◌+◌, ◌*◌, ◌≤◌, ◌++◌, length, IfOk, OnOk, map};
-ghost use Rattle.std.specs.List.{flat_map, range_with_len};
-ghost use Rattle.apl_reshape.specs.Rows.{blocks, item_at, needed};
+ghost use Rattle.std.specs.Prelude.{◌≡◌, ◌+◌, ◌≤◌, ◌++◌, length, IfOk, OnOk};
+ghost use Rattle.apl_reshape.specs.inside.Rows.{item_at, needed, row_block, rows_of_lists};
 
-use crate::formed::{piece, repeat};
+use crate::pieces::{piece, repeat};
 use std::alloc::{AllocError, Global};
 
 /// How many items of an operand stand in a row. A scalar has one for all.
@@ -21,7 +20,7 @@ fn push_block<T: Copy>(
     row: usize,
 ) -> Result<(), AllocError>
     requires { needed block (row + 1) ≤ length items.now }
-    ensures { OnOk result ((d : T) → out.new.items ≡ out.old.items ++ map (λ r. item_at block.is_scalar items.now d (row * block.len + r)) (range_with_len 0 block.len)) }
+    ensures { OnOk result ((d : T) → out.new.items ≡ out.old.items ++ row_block (item_at block.is_scalar items.now d) block.len row) }
 {
     if block.is_scalar {
         repeat(out, items[0], block.len)?;
@@ -43,7 +42,7 @@ pub(crate) fn rows_joined<T: Copy>(
 ) -> Result<Vec<T>, AllocError>
     requires xs { needed x rows ≤ length xs.now }
     requires ys { needed y rows ≤ length ys.now }
-    ensures { IfOk result (λ v. (d : T) → v.items ≡ flat_map (blocks (item_at x.is_scalar xs.now d) (item_at y.is_scalar ys.now d) x.len y.len) (range_with_len 0 rows)) }
+    ensures { IfOk result (λ v. (d : T) → v.items ≡ rows_of_lists x y rows xs.now ys.now d) }
 {
     let mut out = Vec::with_capacity(alloc, room)?;
     for row in 0..rows {

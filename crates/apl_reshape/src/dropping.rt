@@ -3,11 +3,11 @@ ghost use Rattle.std.specs.Prelude.{◌≡◌, ◌≤◌, length, IfOk, true};
 ghost use Rattle.apl_arrays.specs.Answers.{Answers, FaultsFirst};
 ghost use Rattle.apl_reshape.specs.Take.{dropped, dropped_by, fits_axes, widened};
 
-use crate::formed::formed;
-use crate::lengths::{fronts_left, lengths_left, ones};
+use crate::lengths::{Asked, asked_of_each, ones};
 use crate::named::counts_named;
 use crate::parts::part_of;
-use apl_arrays::{Array, MAX_RANK, Stop};
+use crate::rounds::ravel_round;
+use apl_arrays::{Array, MAX_RANK, Stop, size};
 use apl_faults::Fault;
 use std::alloc::{AllocError, Global};
 
@@ -17,19 +17,21 @@ fn left_of(alloc: Global, counts: &[i64], b: &Array) -> Result<Array, AllocError
     ensures { IfOk result (λ r. r ≡ dropped_by counts.now b.now) }
 {
     let shape = b.shape();
-    let fronts = fronts_left(shape, counts);
-    let lengths = lengths_left(shape, counts);
+    let fronts = asked_of_each(Asked::FrontLeft, shape, counts);
+    let lengths = asked_of_each(Asked::Left, shape, counts);
     part_of(alloc, b, fronts.as_slice(), lengths.as_slice())
 }
 
-/// A scalar with so many axes of length 1.
-fn with_ones(count: usize, b: &Array) -> Result<Array, AllocError>
-    requires count { count ≤ MAX_RANK }
+/// What is left of a scalar with as many axes of length 1 as there are counts: its element, or none.
+fn left_of_scalar(alloc: Global, counts: &[i64], b: &Array) -> Result<Array, AllocError>
+    requires few { length counts.now ≤ MAX_RANK }
     requires scalar { length b.now.shape ≡ 0 }
-    ensures { IfOk result (λ r. r ≡ widened count b.now) }
+    ensures { IfOk result (λ r. r ≡ dropped_by counts.now (widened (length counts.now) b.now)) }
 {
-    let shape = ones(count);
-    Ok(formed(shape.as_slice(), b.ravel().copy()?))
+    let axes = ones(counts.len());
+    let lengths = asked_of_each(Asked::Left, axes.as_slice(), counts);
+    let left = ravel_round(alloc, b.items(), size(lengths.as_slice()))?;
+    Ok(Array::in_shape(lengths.as_slice(), left))
 }
 
 /// What is left of an array, where a scalar gets as many axes as there are counts.
@@ -39,8 +41,7 @@ fn left_of_widened(alloc: Global, counts: &[i64], b: &Array) -> Result<Array, Al
     ensures { IfOk result (λ r. r ≡ dropped_by counts.now (widened (length counts.now) b.now)) }
 {
     if b.rank() == 0 {
-        let scalar = with_ones(counts.len(), b)?;
-        return left_of(alloc, counts, &scalar);
+        return left_of_scalar(alloc, counts, b);
     }
     left_of(alloc, counts, b)
 }

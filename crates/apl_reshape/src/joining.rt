@@ -4,14 +4,15 @@ ghost use Rattle.apl_arrays.specs.Answers.{Answers, FaultsFirst};
 ghost use Rattle.apl_arrays.specs.Axes.{without};
 ghost use Rattle.apl_arrays.specs.Checks.{same};
 ghost use Rattle.apl_arrays.specs.Index.{bound_of, size_of};
+ghost use Rattle.apl_arrays.specs.Origins.{origin_number};
 ghost use Rattle.apl_reshape.specs.Catenate.{beside, catenated, joined_of, joined_on, joined_shape};
-ghost use Rattle.apl_reshape.specs.Rows.{is_scalar_shape};
+ghost use Rattle.apl_reshape.specs.inside.Rows.{is_scalar_shape};
 
 use crate::beside::{lengths_beside, others_agree, replaced};
 use crate::blocks::Block;
-use crate::formed::formed;
 use crate::pairs::{paired, ravel_joined};
-use apl_arrays::{Along, Array, MAX_ELEMENTS, MAX_RANK, Stop, size, within_limits};
+use crate::vectors::join_vectors;
+use apl_arrays::{Along, Array, MAX_ELEMENTS, MAX_RANK, Origin, Stop, size, within_limits};
 use apl_faults::Fault;
 use arrayvec::ArrayVec;
 use std::alloc::Global;
@@ -70,14 +71,14 @@ fn join_with(
     ensures value { Answers (λ r. r) (joined_of axis s.now t.now a.now b.now) result }
     ensures at_once { FaultsFirst (joined_of axis s.now t.now a.now b.now) result }
 {
-    let pair = paired(a.ravel(), b.ravel())?;
+    let pair = paired(a.items(), b.items())?;
     let shape = joined_lengths(axis, s, t);
     within_limits(shape.as_slice())?;
     let room = size(shape.as_slice());
     let x = block_of(a.shape(), axis, s);
     let y = block_of(b.shape(), axis, t);
     let ravel = ravel_joined(alloc, room, rows_before(axis, s), pair, x, y)?;
-    Ok(formed(shape.as_slice(), ravel))
+    Ok(Array::in_shape(shape.as_slice(), ravel))
 }
 
 /// Two arrays joined along an axis.
@@ -86,8 +87,13 @@ fn join_on(alloc: Global, axis: usize, a: &Array, b: &Array) -> Result<Array, St
     ensures value { Answers (λ r. r) (joined_on axis a.now b.now) result }
     ensures at_once { FaultsFirst (joined_on axis a.now b.now) result }
 {
-    let s = lengths_beside(axis, a.shape(), b.shape());
-    let t = lengths_beside(axis, b.shape(), a.shape());
+    let own = a.shape();
+    let other = b.shape();
+    if own.len() < 2 && other.len() < 2 {
+        return join_vectors(alloc, a, b);
+    }
+    let s = lengths_beside(axis, own, other);
+    let t = lengths_beside(axis, other, own);
     if s.len() != t.len() {
         return Err(Stop::Fault(Fault::Rank));
     }
@@ -108,10 +114,10 @@ pub fn catenate(
     along: Along<'_>,
     a: &Array,
     b: &Array,
-    origin: usize,
+    origin: Origin,
 ) -> Result<Array, Stop>
-    ensures value { Answers (λ r. r) (catenated along.entry origin a.now b.now) result }
-    ensures at_once { FaultsFirst (catenated along.entry origin a.now b.now) result }
+    ensures value { Answers (λ r. r) (catenated along.entry (origin_number origin) a.now b.now) result }
+    ensures at_once { FaultsFirst (catenated along.entry (origin_number origin) a.now b.now) result }
 {
     match along.axis(a.rank().max(b.rank()), origin) {
         Ok(Some(axis)) => join_on(alloc, axis, a, b),

@@ -1,6 +1,7 @@
 // Lengths of axes, made of those of an operand and of counts.
 ghost use Rattle.std.specs.Prelude.{◌≡◌, ◌<◌, ◌≤◌, length, pos, replicate, slice_index_or};
-ghost use Rattle.apl_reshape.specs.Take.{each_axis, left_from, left_length, with_axes};
+ghost use Rattle.apl_reshape.specs.inside.Asked.{asked_of, has_enough};
+ghost use Rattle.apl_reshape.specs.Take.{each_axis, with_axes};
 
 use apl_arrays::MAX_RANK;
 use arrayvec::ArrayVec;
@@ -42,50 +43,60 @@ pub(crate) fn axes_of(count: usize, shape: &[usize]) -> ArrayVec<usize, MAX_RANK
     }
 }
 
-/// How many of an axis are left without so many.
-fn left(shape: &[usize], counts: &[i64], axis: usize) -> usize
+/// What is asked of an axis, by its length and a count.
+#[derive(Clone, Copy)]
+pub(crate) enum Asked {
+    /// How many are left without so many.
+    Left,
+    /// How many of those that are dropped stand before what is left.
+    FrontLeft,
+    /// How many stand before those that are taken.
+    FrontTaken,
+}
+
+/// What is asked of an axis.
+fn asked_at(asked: Asked, shape: &[usize], counts: &[i64], axis: usize) -> usize
     requires shape { axis < length shape.now }
     requires counts { axis < length counts.now }
-    ensures { result ≡ left_length (slice_index_or shape.now axis 0) (slice_index_or counts.now axis (pos 0)) }
+    ensures { result ≡ asked_of asked (slice_index_or shape.now axis 0) (slice_index_or counts.now axis (pos 0)) }
 {
-    shape[axis].saturating_sub(counts[axis].unsigned_abs() as usize)
-}
-
-/// How many are dropped from its front.
-fn front(shape: &[usize], counts: &[i64], axis: usize) -> usize
-    requires shape { axis < length shape.now }
-    requires counts { axis < length counts.now }
-    ensures { result ≡ left_from (slice_index_or shape.now axis 0) (slice_index_or counts.now axis (pos 0)) }
-{
-    if counts[axis] < 0 {
-        0
-    } else {
-        (counts[axis].unsigned_abs() as usize).min(shape[axis])
+    let length = shape[axis];
+    let magnitude = counts[axis].unsigned_abs() as usize;
+    match (asked, counts[axis] < 0) {
+        (Asked::Left, _) | (Asked::FrontTaken, true) => length.saturating_sub(magnitude),
+        (Asked::FrontLeft, false) => magnitude.min(length),
+        (Asked::FrontLeft, true) | (Asked::FrontTaken, false) => 0,
     }
 }
 
-/// How many of each axis are left.
-pub(crate) fn lengths_left(shape: &[usize], counts: &[i64]) -> ArrayVec<usize, MAX_RANK>
+/// What is asked of each axis.
+pub(crate) fn asked_of_each(
+    asked: Asked,
+    shape: &[usize],
+    counts: &[i64],
+) -> ArrayVec<usize, MAX_RANK>
     requires axes { length shape.now ≡ length counts.now }
     requires few { length shape.now ≤ MAX_RANK }
-    ensures { result.items ≡ each_axis left_length shape.now counts.now }
+    ensures { result.items ≡ each_axis (asked_of asked) shape.now counts.now }
 {
-    let mut lengths = ArrayVec::new();
+    let mut numbers = ArrayVec::new();
     for axis in 0..shape.len() {
-        lengths.push(left(shape, counts, axis));
+        numbers.push(asked_at(asked, shape, counts, axis));
     }
-    lengths
+    numbers
 }
 
-/// How many are dropped from the front of each.
-pub(crate) fn fronts_left(shape: &[usize], counts: &[i64]) -> ArrayVec<usize, MAX_RANK>
-    requires axes { length shape.now ≡ length counts.now }
-    requires few { length shape.now ≤ MAX_RANK }
-    ensures { result.items ≡ each_axis left_from shape.now counts.now }
+/// Whether an array of this shape has so many elements along each axis.
+pub(crate) fn has_enough(shape: &[usize], lengths: &[usize]) -> bool
+    ensures { result ≡ has_enough shape.now lengths.now }
 {
-    let mut fronts = ArrayVec::new();
-    for axis in 0..shape.len() {
-        fronts.push(front(shape, counts, axis));
+    if shape.len() != lengths.len() {
+        return false;
     }
-    fronts
+    for axis in 0..shape.len() {
+        if shape[axis] < lengths[axis] {
+            return false;
+        }
+    }
+    true
 }

@@ -4,15 +4,16 @@
 mod beside;
 mod blocks;
 mod dropping;
-mod formed;
 mod joining;
 mod lengths;
 mod named;
 mod pairs;
 mod parts;
+mod pieces;
 mod rounds;
 mod shapes;
 mod taking;
+mod vectors;
 
 pub use dropping::drop_items;
 pub use joining::catenate;

@@ -50,7 +50,7 @@ pub(crate) fn shape_named_by(a: &Array) -> Result<ArrayVec<usize, MAX_RANK>, Fau
     if a.rank() > 1 {
         return Err(Fault::Rank);
     }
-    shape_of_lengths(numbers_in(a.ravel())?)
+    shape_of_lengths(numbers_in(a.items())?)
 }
 
 /// The numbers of A, one for each axis of a shape. For a scalar's any count serves.
@@ -61,8 +61,8 @@ pub(crate) fn counts_named<'a>(a: &'a Array, shape: &[usize]) -> Result<&'a [i64
     if a.rank() > 1 {
         return Err(Fault::Rank);
     }
-    if !shape.is_empty() && a.ravel().len() != shape.len() {
+    if !shape.is_empty() && a.items().len() != shape.len() {
         return Err(Fault::Length);
     }
-    numbers_in(a.ravel())
+    numbers_in(a.items())
 }

@@ -1,13 +1,14 @@
 // The elements of two operands, of one type.
 ghost use Rattle.std.specs.Prelude.{◌≡◌, IfOk};
 ghost use Rattle.apl_arrays.specs.Cells.{Characters, Numbers};
+ghost use Rattle.apl_arrays.specs.Left.{listed};
 ghost use Rattle.apl_arrays.specs.Ravels.{items_of};
 ghost use Rattle.apl_arrays.specs.Results.{ok_map};
 ghost use Rattle.apl_reshape.specs.Catenate.{of_one_type};
-ghost use Rattle.apl_reshape.specs.Rows.{both_of, rows_of, HasRows};
+ghost use Rattle.apl_reshape.specs.inside.Rows.{both_of, rows_of, HasRows};
 
 use crate::blocks::{Block, rows_joined};
-use apl_arrays::Ravel;
+use apl_arrays::{Elements, Ravel};
 use apl_charset::Ch;
 use apl_faults::Fault;
 use std::alloc::{AllocError, Global};
@@ -20,14 +21,14 @@ pub(crate) enum Pair<'a> {
 }
 
 /// Numbers beside the elements of another operand.
-fn beside_numbers<'a>(xs: &'a [i64], b: &'a Ravel) -> Result<Pair<'a>, Fault>
-    ensures { of_one_type (Numbers xs.now) (items_of b.now) ≡ ok_map both_of result }
+fn beside_numbers<'a>(xs: &'a [i64], b: Elements<'a>) -> Result<Pair<'a>, Fault>
+    ensures { of_one_type (Numbers xs.now) (listed b.entry) ≡ ok_map both_of result }
 {
     match b {
-        Ravel::Nums(ys) => Ok(Pair::Numbers(xs, ys.as_slice())),
-        Ravel::Chars(ys) => {
+        Elements::Nums(ys) => Ok(Pair::Numbers(xs, ys)),
+        Elements::Chars(ys) => {
             if xs.is_empty() {
-                Ok(Pair::Characters(&[], ys.as_slice()))
+                Ok(Pair::Characters(&[], ys))
             } else if ys.is_empty() {
                 Ok(Pair::Numbers(xs, &[]))
             } else {
@@ -38,14 +39,14 @@ fn beside_numbers<'a>(xs: &'a [i64], b: &'a Ravel) -> Result<Pair<'a>, Fault>
 }
 
 /// Characters beside the elements of another operand.
-fn beside_characters<'a>(xs: &'a [Ch], b: &'a Ravel) -> Result<Pair<'a>, Fault>
-    ensures { of_one_type (Characters xs.now) (items_of b.now) ≡ ok_map both_of result }
+fn beside_characters<'a>(xs: &'a [Ch], b: Elements<'a>) -> Result<Pair<'a>, Fault>
+    ensures { of_one_type (Characters xs.now) (listed b.entry) ≡ ok_map both_of result }
 {
     match b {
-        Ravel::Chars(ys) => Ok(Pair::Characters(xs, ys.as_slice())),
-        Ravel::Nums(ys) => {
+        Elements::Chars(ys) => Ok(Pair::Characters(xs, ys)),
+        Elements::Nums(ys) => {
             if xs.is_empty() {
-                Ok(Pair::Numbers(&[], ys.as_slice()))
+                Ok(Pair::Numbers(&[], ys))
             } else if ys.is_empty() {
                 Ok(Pair::Characters(xs, &[]))
             } else {
@@ -56,12 +57,12 @@ fn beside_characters<'a>(xs: &'a [Ch], b: &'a Ravel) -> Result<Pair<'a>, Fault>
 }
 
 /// The elements of two operands. An empty one takes the other's type, else two types are a domain fault.
-pub(crate) fn paired<'a>(a: &'a Ravel, b: &'a Ravel) -> Result<Pair<'a>, Fault>
-    ensures { of_one_type (items_of a.now) (items_of b.now) ≡ ok_map both_of result }
+pub(crate) fn paired<'a>(a: Elements<'a>, b: Elements<'a>) -> Result<Pair<'a>, Fault>
+    ensures { of_one_type (listed a.entry) (listed b.entry) ≡ ok_map both_of result }
 {
     match a {
-        Ravel::Nums(xs) => beside_numbers(xs.as_slice(), b),
-        Ravel::Chars(xs) => beside_characters(xs.as_slice(), b),
+        Elements::Nums(xs) => beside_numbers(xs, b),
+        Elements::Chars(xs) => beside_characters(xs, b),
     }
 }
 

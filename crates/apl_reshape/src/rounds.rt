@@ -1,11 +1,12 @@
 // Elements taken round.
 ghost use Rattle.std.specs.Prelude.{◌≡◌, ◌<◌, ◌++◌, length, IfOk, OnOk, map};
 ghost use Rattle.std.specs.List.{range_with_len};
+ghost use Rattle.apl_arrays.specs.Left.{listed};
 ghost use Rattle.apl_arrays.specs.Ravels.{items_of};
 ghost use Rattle.apl_reshape.specs.Reshape.{item_round, taken_round};
 
-use crate::formed::repeat;
-use apl_arrays::Ravel;
+use crate::pieces::repeat;
+use apl_arrays::{Elements, Ravel};
 use apl_charset::Ch;
 use std::alloc::{AllocError, Global};
 
@@ -47,17 +48,21 @@ fn items_round<T: Copy>(
     }
 }
 
-/// So many elements, taken round from a ravel.
-pub(crate) fn ravel_round(alloc: Global, ravel: &Ravel, count: usize) -> Result<Ravel, AllocError>
-    ensures { IfOk result (λ r. items_of r ≡ taken_round count (items_of ravel.now)) }
+/// So many elements, taken round from these.
+pub(crate) fn ravel_round(
+    alloc: Global,
+    items: Elements<'_>,
+    count: usize,
+) -> Result<Ravel, AllocError>
+    ensures { IfOk result (λ r. items_of r ≡ taken_round count (listed items.entry)) }
 {
-    match ravel {
-        Ravel::Nums(numbers) => {
-            let round = items_round(alloc, numbers.as_slice(), 0, count)?;
+    match items {
+        Elements::Nums(numbers) => {
+            let round = items_round(alloc, numbers, 0, count)?;
             Ok(Ravel::Nums(round))
         }
-        Ravel::Chars(characters) => {
-            let round = items_round(alloc, characters.as_slice(), Ch::ascii(b' '), count)?;
+        Elements::Chars(characters) => {
+            let round = items_round(alloc, characters, Ch::ascii(b' '), count)?;
             Ok(Ravel::Chars(round))
         }
     }

@@ -4,7 +4,6 @@ ghost use Rattle.apl_arrays.specs.Answers.{Answers, FaultsFirst};
 ghost use Rattle.apl_arrays.specs.Index.{bound_of};
 ghost use Rattle.apl_reshape.specs.Reshape.{raveled, reshaped, shape_of};
 
-use crate::formed::{formed, vector_of};
 use crate::named::shape_named_by;
 use crate::rounds::ravel_round;
 use apl_arrays::{Array, MAX_ELEMENTS, Ravel, Stop, size};
@@ -35,14 +34,17 @@ pub fn shape(alloc: Global, b: &Array) -> Result<Array, Stop>
     ensures { Answers (λ r. r) (Ok (shape_of b.now)) result }
 {
     let lengths = length_numbers(alloc, b.shape())?;
-    Ok(vector_of(Ravel::Nums(lengths)))
+    Ok(Array::vector(Ravel::Nums(lengths)))
 }
 
-/// The elements in ravel order, as a vector.
+/// The elements in ravel order, as a vector. A vector stays.
 pub fn ravel(alloc: Global, b: &Array) -> Result<Array, Stop>
     ensures { Answers (λ r. r) (Ok (raveled b.now)) result }
 {
-    Ok(vector_of(b.ravel().copy()?))
+    if b.shape().len() == 1 {
+        return Ok(b.copy()?);
+    }
+    Ok(Array::vector(b.items().to_ravel(alloc)?))
 }
 
 /// The elements of B in ravel order, taken round, in the shape that A names.
@@ -56,6 +58,6 @@ pub fn reshape(alloc: Global, a: &Array, b: &Array) -> Result<Array, Stop>
 {
     let lengths = shape_named_by(a)?;
     let count = size(lengths.as_slice());
-    let round = ravel_round(alloc, b.ravel(), count)?;
-    Ok(formed(lengths.as_slice(), round))
+    let round = ravel_round(alloc, b.items(), count)?;
+    Ok(Array::in_shape(lengths.as_slice(), round))
 }

@@ -1,17 +1,20 @@
 // The first or last elements along each axis, with fills where there are too few.
-ghost use Rattle.std.specs.Prelude.{◌≡◌, ◌<◌, ◌≤◌, ◌+◌, ◌++◌, ◌^◌, length, IfOk, OnOk, map, pos, slice_index_or, unsigned_abs};
+ghost use Rattle.std.specs.Prelude.{◌≡◌, ◌<◌, ◌≤◌, ◌+◌, ◌++◌, ◌^◌, true, false, IfOk, OnOk};
+ghost use Rattle.std.specs.Prelude.{length, map, pos, slice_index_or, unsigned_abs};
 ghost use Rattle.std.specs.Int.{is_negative};
-ghost use Rattle.std.specs.List.{range_with_len};
 ghost use Rattle.apl_arrays.specs.Answers.{Answers, FaultsFirst};
 ghost use Rattle.apl_arrays.specs.Cells.{cells_of};
 ghost use Rattle.apl_arrays.specs.Index.{bound_of, indices, size_of};
+ghost use Rattle.apl_arrays.specs.Left.{listed};
 ghost use Rattle.apl_arrays.specs.Ravels.{items_of};
-ghost use Rattle.apl_reshape.specs.Take.{found_or_filled, on_axes, place_from_end, place_taken, taken, taken_from, taken_index};
+ghost use Rattle.apl_reshape.specs.inside.Asked.{has_enough};
+ghost use Rattle.apl_reshape.specs.Take.{line_taken, place_taken, taken, taken_by, taken_for, taken_from, widened};
 
-use crate::formed::{formed, repeat};
-use crate::lengths::axes_of;
+use crate::lengths::{Asked, asked_of_each, axes_of, has_enough};
 use crate::named::{counts_named, magnitudes};
-use apl_arrays::{Array, MAX_ELEMENTS, Ravel, Stop, size};
+use crate::parts::part_of;
+use crate::pieces::repeat;
+use apl_arrays::{Array, Elements, MAX_ELEMENTS, Ravel, Stop, size};
 use apl_charset::Ch;
 use std::alloc::{AllocError, Global};
 
@@ -44,7 +47,7 @@ fn push_first<T: Copy>(
     fill: T,
     wanted: usize,
 ) -> Result<(), AllocError>
-    ensures { OnOk result (out.new.items ≡ out.old.items ++ map (λ k. slice_index_or items.now k fill) (range_with_len 0 wanted)) }
+    ensures { OnOk result (out.new.items ≡ out.old.items ++ line_taken false wanted items.now fill) }
 {
     let kept = wanted.min(items.len());
     out.extend_from_slice(items.split_at(kept).0)?;
@@ -59,7 +62,7 @@ fn push_last<T: Copy>(
     fill: T,
     wanted: usize,
 ) -> Result<(), AllocError>
-    ensures { OnOk result (out.new.items ≡ out.old.items ++ map (λ k. slice_index_or items.now (place_from_end (length items.now) wanted k) fill) (range_with_len 0 wanted)) }
+    ensures { OnOk result (out.new.items ≡ out.old.items ++ line_taken true wanted items.now fill) }
 {
     let kept = wanted.min(items.len());
     repeat(out, fill, wanted - kept)?;
@@ -75,7 +78,7 @@ fn push_line<T: Copy>(
     from_end: bool,
     wanted: usize,
 ) -> Result<(), AllocError>
-    ensures { OnOk result (out.new.items ≡ out.old.items ++ map (λ k. slice_index_or items.now (place_taken from_end (length items.now) wanted k) fill) (range_with_len 0 wanted)) }
+    ensures { OnOk result (out.new.items ≡ out.old.items ++ line_taken from_end wanted items.now fill) }
 {
     if from_end {
         push_last(out, items, fill, wanted)?;
@@ -154,32 +157,47 @@ fn items_taken<T: Copy>(
     Ok(out)
 }
 
-/// What is taken of a ravel in a shape.
+/// What is taken of elements in a shape.
 fn ravel_taken(
     alloc: Global,
-    ravel: &Ravel,
+    items: Elements<'_>,
     shape: &[usize],
     counts: &[i64],
     lengths: &[usize],
 ) -> Result<Ravel, AllocError>
     requires axes { length shape.now ≡ length counts.now }
     requires lengths { lengths.now ≡ map unsigned_abs counts.now }
-    requires room { size_of shape.now ≤ length (cells_of (items_of ravel.now)) }
+    requires room { size_of shape.now ≤ length (cells_of (listed items)) }
     requires shape_small { bound_of shape.now ≤ MAX_ELEMENTS }
     requires small { bound_of lengths.now ≤ MAX_ELEMENTS }
-    ensures { IfOk result (λ r. items_of r ≡ found_or_filled shape.now (items_of ravel.now) (on_axes taken_index shape.now counts.now) (indices lengths.now)) }
+    ensures { IfOk result (λ r. items_of r ≡ taken_for shape.now counts.now (listed items.entry) (indices lengths.now)) }
 {
-    match ravel {
-        Ravel::Nums(numbers) => {
-            let taken = items_taken(alloc, numbers.as_slice(), 0, shape, counts, lengths)?;
+    match items {
+        Elements::Nums(numbers) => {
+            let taken = items_taken(alloc, numbers, 0, shape, counts, lengths)?;
             Ok(Ravel::Nums(taken))
         }
-        Ravel::Chars(characters) => {
+        Elements::Chars(characters) => {
             let blank = Ch::ascii(b' ');
-            let taken = items_taken(alloc, characters.as_slice(), blank, shape, counts, lengths)?;
+            let taken = items_taken(alloc, characters, blank, shape, counts, lengths)?;
             Ok(Ravel::Chars(taken))
         }
     }
+}
+
+/// What is taken of an array that has so many elements along each axis, where the lengths are the magnitudes of the counts.
+fn part_taken(
+    alloc: Global,
+    b: &Array,
+    counts: &[i64],
+    lengths: &[usize],
+) -> Result<Array, AllocError>
+    requires lengths { lengths.now ≡ map unsigned_abs counts.now }
+    requires enough { has_enough b.now.shape lengths.now ≡ true }
+    ensures { IfOk result (λ r. r ≡ taken_by counts.now (widened (length counts.now) b.now)) }
+{
+    let fronts = asked_of_each(Asked::FrontTaken, b.shape(), counts);
+    part_of(alloc, b, fronts.as_slice(), lengths)
 }
 
 /// The first so many elements of B along each axis, or the last where the number in A is below 0, with fills, 0 or blank, where there are
@@ -192,15 +210,14 @@ pub fn take_items(alloc: Global, a: &Array, b: &Array) -> Result<Array, Stop>
     ensures value { Answers (λ r. r) (taken a.now b.now) result }
     ensures at_once { FaultsFirst (taken a.now b.now) result }
 {
-    let counts = counts_named(a, b.shape())?;
+    let own = b.shape();
+    let counts = counts_named(a, own)?;
     let lengths = magnitudes(counts)?;
-    let shape = axes_of(counts.len(), b.shape());
-    let ravel = ravel_taken(
-        alloc,
-        b.ravel(),
-        shape.as_slice(),
-        counts,
-        lengths.as_slice(),
-    )?;
-    Ok(formed(lengths.as_slice(), ravel))
+    let wanted = lengths.as_slice();
+    if has_enough(own, wanted) {
+        return Ok(part_taken(alloc, b, counts, wanted)?);
+    }
+    let shape = axes_of(counts.len(), own);
+    let ravel = ravel_taken(alloc, b.items(), shape.as_slice(), counts, wanted)?;
+    Ok(Array::in_shape(wanted, ravel))
 }

@@ -19,7 +19,9 @@ pub record IsSameRun (x : State) (line : List ℕ) (n : ℕ) : Type 0 where
   pub at_most : stops_in n (typed x line) ≤ moves n (typed (unstopped x) line)
   -- where the one still runs after n steps it has made all of them, the other two more for each stop, and both are interrupted at the same phrase
   pub interrupted : is_idle (steps n (typed (unstopped x) line)) ≡ false →
-      (moves n (typed (unstopped x) line) ≡ n) × (cut_moves n (typed x line) ≡ n + 2 * stops_in n (typed x line)) × (free (cut_steps n (typed x line)) ≡ free (steps n (typed (unstopped x) line)))
+      (moves n (typed (unstopped x) line) ≡ n)
+      × (cut_moves n (typed x line) ≡ n + 2 * stops_in n (typed x line))
+      × (free (cut_steps n (typed x line)) ≡ free (steps n (typed (unstopped x) line)))
   -- they come to idle together, or both run at the end
   pub both_idle : (k : ℕ) → k ≤ n → is_idle (cut_steps k (typed x line)) ≡ is_idle (steps k (typed (unstopped x) line))
 

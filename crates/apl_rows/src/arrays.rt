@@ -15,7 +15,7 @@ use crate::lacks::Lack;
 use crate::page::Page;
 use crate::words::{count, find, next_part};
 use crate::writing::{write_answer, write_cells, write_found, write_value};
-use apl_arrays::{Array, Ravel, within_limits};
+use apl_arrays::{Array, Origin, Ravel, within_limits};
 use apl_charset::Ch;
 use apl_format::{display, format1};
 use apl_scalar::{Dyadic, Monadic, dyadic, monadic};
@@ -175,14 +175,16 @@ fn write_dyadic(page: &mut Page, text: &str) {
 /// Writes the value of a function of structure of one argument.
 fn write_structural1(page: &mut Page, function: Primitive, text: &str) {
     if let Some(b) = page.array(text) {
-        write_answer(page, structural1(page.alloc, function, None, &b, 1));
+        let answer = structural1(page.alloc, function, None, &b, Origin::One);
+        write_answer(page, answer);
     }
 }
 
 /// Writes the value of a function of structure of two arguments.
 fn write_structural2(page: &mut Page, function: Primitive, text: &str) {
     if let Some((a, b)) = two(page, text) {
-        write_answer(page, structural2(page.alloc, function, None, &a, &b, 1));
+        let answer = structural2(page.alloc, function, None, &a, &b, Origin::One);
+        write_answer(page, answer);
     }
 }
 
@@ -216,7 +218,7 @@ fn write_indexed(page: &mut Page, text: &str) {
     let (first, text) = next_part(text);
     let slots = slots(page, text);
     if let Some(b) = page.array(first) {
-        write_answer(page, index(page.alloc, &b, &slots, 1));
+        write_answer(page, index(page.alloc, &b, &slots, Origin::One));
     }
 }
 
@@ -225,7 +227,7 @@ fn write_replaced(page: &mut Page, v: &Array, text: &str) {
     let (second, text) = next_part(text);
     let slots = slots(page, text);
     if let Some(b) = page.array(second) {
-        write_answer(page, index_assign(page.alloc, v, &slots, &b, 1));
+        write_answer(page, index_assign(page.alloc, v, &slots, &b, Origin::One));
     }
 }
 

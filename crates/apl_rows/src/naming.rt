@@ -10,7 +10,7 @@ use crate::lacks::Lack;
 use crate::page::Page;
 use crate::words::{count, element, next_word};
 use crate::writing::{write_class, write_objects, write_value};
-use apl_arrays::{Array, Cell};
+use apl_arrays::Array;
 use apl_names::{Binding, DefinedFunction, Names};
 use apl_symbols::Name;
 use apl_vectors::{MOST_LINES, Vectors};
@@ -80,11 +80,7 @@ fn enter(page: &mut Page, names: &mut Names, text: &str) {
 
 /// Gives a name a number.
 fn assign(page: &mut Page, names: &mut Names, name: &Name, text: &str) {
-    let answer = Array::scalar(page.alloc, Cell::Num(element(text)));
-    let Some(value) = page.kept(answer) else {
-        return;
-    };
-    if let Err(error) = names.assign(name, value) {
+    if let Err(error) = names.assign(name, Array::number(element(text))) {
         page.refuse(error);
     }
 }

@@ -70,7 +70,7 @@ fn write_pieces(page: &mut Page, parts: &Parts) {
         page.named("variable ", name.as_slice());
         write_value(page, Some(value));
     }
-    page.said("origin ", &parts.origin());
+    page.said("origin ", &parts.origin().number());
     page.end();
     write_contexts(page, parts.contexts());
 }

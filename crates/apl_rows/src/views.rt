@@ -14,7 +14,7 @@ use crate::lacks::Lack;
 use crate::page::Page;
 use crate::words::{next_half, next_part, next_word};
 use crate::writing::{write_answer, write_cells, write_found, write_value};
-use apl_arrays::{Along, Array, View};
+use apl_arrays::{Along, Array, Origin, View};
 use apl_operators::{inner, outer, reduce, scan};
 use apl_scalar::Dyadic;
 
@@ -170,8 +170,8 @@ enum Operation {
 /// Writes the value of an operator over a view.
 fn write_along(page: &mut Page, operation: Operation, along: Along<'_>, view: &View<'_>) {
     let answer = match operation {
-        Operation::Reduce(function) => reduce(page.alloc, function, along, view, 1),
-        Operation::Scan(function) => scan(page.alloc, function, along, view, 1),
+        Operation::Reduce(function) => reduce(page.alloc, function, along, view, Origin::One),
+        Operation::Scan(function) => scan(page.alloc, function, along, view, Origin::One),
     };
     write_answer(page, answer);
 }

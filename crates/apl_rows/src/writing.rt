@@ -1,7 +1,7 @@
 //! Arrays, operands, classes and lines of output, as they are written.
 
 use crate::page::Page;
-use apl_arrays::{Array, Cell, Ravel, Stop};
+use apl_arrays::{Array, Cell, Elements, Stop};
 use apl_machine::{Operand, OutLine, Slots};
 use apl_symbols::{Class, Name};
 
@@ -42,11 +42,11 @@ pub fn write_cells(page: &mut Page, cells: &[Cell]) {
 fn write_array(page: &mut Page, array: &Array) {
     page.numbers(array.shape());
     page.mark(':');
-    match array.ravel() {
-        Ravel::Nums(numbers) => page.numbers(numbers.as_slice()),
-        Ravel::Chars(text) => {
+    match array.items() {
+        Elements::Nums(numbers) => page.numbers(numbers),
+        Elements::Chars(text) => {
             page.mark('\'');
-            page.spell(text.as_slice());
+            page.spell(text);
         }
     }
 }

@@ -33,11 +33,14 @@ pub fn run_desk<R: Source, W: Sink>(
     writer: &mut W,
     steps: u64,
 ) -> Result<Desk, RunError>
-    ensures transcript { IsTrue R.tells → IsTrue W.tells → OnOk result (W.written writer.new ≡ W.written writer.old ++ transcript (rounds steps) (board desk) (R.left reader.old)) }
+    ensures transcript { IsTrue R.tells → IsTrue W.tells →
+        OnOk result (W.written writer.new ≡ W.written writer.old ++ transcript (rounds steps) (board desk) (R.left reader.old)) }
     ensures state { IsTrue R.tells → IfOk result (λ d. d ≡ (after_input (rounds steps) (board desk) (R.left reader.old)).sessions) }
     ensures read_to_end { IsTrue R.tells → OnOk result (R.left reader.new ≡ []) }
     ensures within { IsTrue R.tells → OnOk result (IsWithinLimits (R.left reader.old)) }
-    ensures stopped { IsTrue R.tells → IfErr result (λ e. StoppedAt e (rounds steps) (board desk) (R.left reader.old) (R.left reader.new) W.tells (W.written writer.old) (W.written writer.new)) }
+    ensures stopped { IsTrue R.tells →
+        IfErr result (λ e. StoppedAt e (rounds steps) (board desk) (R.left reader.old) (R.left reader.new)
+        W.tells (W.written writer.old) (W.written writer.new)) }
     ensures reader { R.failed reader.new ≡ reader_failed result (R.failed reader.old) }
     ensures writer { W.failed writer.new ≡ writer_failed result (W.failed writer.old) }
 {

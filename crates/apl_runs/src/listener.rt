@@ -26,7 +26,8 @@ pub trait Listener {
         writer: &mut W,
     ) -> Result<(), RunError>
         ensures state { OnOk result (on.new ≡ (way self.now).quiet ((way self.now).after_line on.old line.now)) }
-        ensures wrote { Writes result ((way self.now).unwritten ((way self.now).after_line on.old line.now)) W.tells (W.written writer.old) (W.written writer.new) }
+        ensures wrote { Writes result ((way self.now).unwritten ((way self.now).after_line on.old line.now))
+            W.tells (W.written writer.old) (W.written writer.new) }
         ensures writer { W.failed writer.new ≡ writer_failed result (W.failed writer.old) };
 
     /// Does what the end of the input asks for, and writes what stands to be written then. After an

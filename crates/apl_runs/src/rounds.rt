@@ -53,7 +53,8 @@ fn text_behind(line: &[u8], number: usize) -> Option<&[u8]>
 
 /// What a line says to one of so many sessions: a number and the text for it.
 fn spoken(line: &[u8], count: usize) -> Option<(usize, &[u8])>
-    ensures said { MatchOption result (model.spoken count line.now ≡ None) (λ said. model.spoken count line.now ≡ Some (record { number = said.0; text = said.1.now })) }
+    ensures said { MatchOption result (model.spoken count line.now ≡ None)
+        (λ said. model.spoken count line.now ≡ Some (record { number = said.0; text = said.1.now })) }
     ensures within { IfSome result (λ said. said.0 < count) }
 {
     for number in 0..count {
@@ -92,7 +93,8 @@ fn take_line<W: Sink>(
     writer: &mut W,
 ) -> Result<(), RunError>
     ensures state { OnOk result (sessions.new ≡ model.fed_by sessions.old (model.spoken (length sessions.old) line.now)) }
-    ensures wrote { Writes result (model.answer_to sessions.old (model.spoken (length sessions.old) line.now)) W.tells (W.written writer.old) (W.written writer.new) }
+    ensures wrote { Writes result (model.answer_to sessions.old (model.spoken (length sessions.old) line.now))
+        W.tells (W.written writer.old) (W.written writer.new) }
     ensures writer { W.failed writer.new ≡ writer_failed result (W.failed writer.old) }
 {
     let Some((number, text)) = spoken(line, sessions.len()) else {
@@ -115,7 +117,8 @@ fn serve<W: Sink>(
     writer: &mut W,
 ) -> Result<(), RunError>
     ensures state { OnOk result (session.new ≡ silent (after_event session.old (event_view event.now))) }
-    ensures wrote { Writes result (labelled (model.label number) (after_event session.old (event_view event.now)).output) W.tells (W.written writer.old) (W.written writer.new) }
+    ensures wrote { Writes result (labelled (model.label number) (after_event session.old (event_view event.now)).output)
+        W.tells (W.written writer.old) (W.written writer.new) }
     ensures writer { W.failed writer.new ≡ writer_failed result (W.failed writer.old) }
 {
     if session.apply(event).is_err() {
@@ -138,7 +141,8 @@ fn serve_all<W: Sink>(
     writer: &mut W,
 ) -> Result<(), RunError>
     ensures state { OnOk result (sessions.new ≡ map silent (map (λ s. after_event s (event_view event.now)) sessions.old)) }
-    ensures wrote { Writes result (model.outputs 0 (map (λ s. after_event s (event_view event.now)) sessions.old)) W.tells (W.written writer.old) (W.written writer.new) }
+    ensures wrote { Writes result (model.outputs 0 (map (λ s. after_event s (event_view event.now)) sessions.old))
+        W.tells (W.written writer.old) (W.written writer.new) }
     ensures writer { W.failed writer.new ≡ writer_failed result (W.failed writer.old) }
 {
     for number in 0..sessions.len() {
@@ -157,7 +161,8 @@ fn round<W: Sink>(
     writer: &mut W,
 ) -> Result<(), RunError>
     ensures state { OnOk result (sessions.new ≡ (model.after_round steps (model.board sessions.old) line.now).sessions) }
-    ensures wrote { Writes result (model.after_round steps (model.board sessions.old) line.now).unwritten W.tells (W.written writer.old) (W.written writer.new) }
+    ensures wrote { Writes result (model.after_round steps (model.board sessions.old) line.now).unwritten
+        W.tells (W.written writer.old) (W.written writer.new) }
     ensures writer { W.failed writer.new ≡ writer_failed result (W.failed writer.old) }
 {
     take_line(alloc, sessions, line, writer)?;

@@ -80,11 +80,13 @@ fn run_in<R: Source, W: Sink>(
 ) -> Result<Machine, RunError>
     requires idle { IsTrue (is_idle ws) }
     requires quiet { ws.output ≡ [] }
-    ensures transcript { IsTrue R.tells → IsTrue W.tells → OnOk result (W.written writer.new ≡ W.written writer.old ++ transcript (way manner) (closed ws) (R.left reader.old)) }
+    ensures transcript { IsTrue R.tells → IsTrue W.tells →
+        OnOk result (W.written writer.new ≡ W.written writer.old ++ transcript (way manner) (closed ws) (R.left reader.old)) }
     ensures state { IsTrue R.tells → IfOk result (λ m. m ≡ closed (silent (after_lines (way manner) (closed ws) (lines_of (R.left reader.old))))) }
     ensures read_to_end { IsTrue R.tells → OnOk result (R.left reader.new ≡ []) }
     ensures within { IsTrue R.tells → OnOk result (IsWithinLimits (R.left reader.old)) }
-    ensures stopped { IsTrue R.tells → IfErr result (λ e. StoppedAt e (way manner) (closed ws) (R.left reader.old) (R.left reader.new) W.tells (W.written writer.old) (W.written writer.new)) }
+    ensures stopped { IsTrue R.tells →
+        IfErr result (λ e. StoppedAt e (way manner) (closed ws) (R.left reader.old) (R.left reader.new) W.tells (W.written writer.old) (W.written writer.new)) }
     ensures reader { R.failed reader.new ≡ reader_failed result (R.failed reader.old) }
     ensures writer { W.failed writer.new ≡ writer_failed result (W.failed writer.old) }
 {
@@ -116,11 +118,14 @@ pub fn run<R: Source, W: Sink>(
 ) -> Result<Machine, RunError>
     requires idle { IsTrue (is_idle ws) }
     requires quiet { ws.output ≡ [] }
-    ensures transcript { IsTrue R.tells → IsTrue W.tells → OnOk result (W.written writer.new ≡ W.written writer.old ++ transcript (plain steps) (closed ws) (R.left reader.old)) }
+    ensures transcript { IsTrue R.tells → IsTrue W.tells →
+        OnOk result (W.written writer.new ≡ W.written writer.old ++ transcript (plain steps) (closed ws) (R.left reader.old)) }
     ensures state { IsTrue R.tells → IfOk result (λ m. m ≡ closed (silent (after_lines (plain steps) (closed ws) (lines_of (R.left reader.old))))) }
     ensures read_to_end { IsTrue R.tells → OnOk result (R.left reader.new ≡ []) }
     ensures within { IsTrue R.tells → OnOk result (IsWithinLimits (R.left reader.old)) }
-    ensures stopped { IsTrue R.tells → IfErr result (λ e. StoppedAt e (plain steps) (closed ws) (R.left reader.old) (R.left reader.new) W.tells (W.written writer.old) (W.written writer.new)) }
+    ensures stopped { IsTrue R.tells →
+        IfErr result (λ e. StoppedAt e (plain steps) (closed ws) (R.left reader.old) (R.left reader.new)
+        W.tells (W.written writer.old) (W.written writer.new)) }
     ensures reader { R.failed reader.new ≡ reader_failed result (R.failed reader.old) }
     ensures writer { W.failed writer.new ≡ writer_failed result (W.failed writer.old) }
 {
@@ -147,11 +152,14 @@ pub fn run_resumed<R: Source, W: Sink>(
 ) -> Result<Machine, RunError>
     requires idle { IsTrue (is_idle ws) }
     requires quiet { ws.output ≡ [] }
-    ensures transcript { IsTrue R.tells → IsTrue W.tells → OnOk result (W.written writer.new ≡ W.written writer.old ++ transcript (answered steps) (closed ws) (R.left reader.old)) }
+    ensures transcript { IsTrue R.tells → IsTrue W.tells →
+        OnOk result (W.written writer.new ≡ W.written writer.old ++ transcript (answered steps) (closed ws) (R.left reader.old)) }
     ensures state { IsTrue R.tells → IfOk result (λ m. m ≡ closed (silent (after_lines (answered steps) (closed ws) (lines_of (R.left reader.old))))) }
     ensures read_to_end { IsTrue R.tells → OnOk result (R.left reader.new ≡ []) }
     ensures within { IsTrue R.tells → OnOk result (IsWithinLimits (R.left reader.old)) }
-    ensures stopped { IsTrue R.tells → IfErr result (λ e. StoppedAt e (answered steps) (closed ws) (R.left reader.old) (R.left reader.new) W.tells (W.written writer.old) (W.written writer.new)) }
+    ensures stopped { IsTrue R.tells →
+        IfErr result (λ e. StoppedAt e (answered steps) (closed ws) (R.left reader.old) (R.left reader.new)
+        W.tells (W.written writer.old) (W.written writer.new)) }
     ensures reader { R.failed reader.new ≡ reader_failed result (R.failed reader.old) }
     ensures writer { W.failed writer.new ≡ writer_failed result (W.failed writer.old) }
 {

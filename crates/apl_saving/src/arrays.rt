@@ -1,27 +1,27 @@
 //! Arrays and operands.
 ghost use Rattle.std.specs.Prelude.{IfOk};
-ghost use Rattle.apl_arrays.specs.Ravels.{items_of};
+ghost use Rattle.apl_arrays.specs.Left.{listed};
 ghost use Rattle.apl_saved.specs.Spelled.{AreElements, IsArrayOf, IsOperandOf};
 
 use crate::saved::{Saved, list_field};
 use crate::texts::text_field;
-use apl_arrays::{Array, Ravel};
+use apl_arrays::{Array, Elements};
 use apl_machine_state::Operand;
-use apl_workspace_file::{ArrayField, Elements, ListField, OperandField};
+use apl_workspace_file::{ArrayField, Elements as Field, ListField, OperandField};
 use std::alloc::{AllocError, Global};
 
 /// Elements in ravel order, numbers or a text.
-fn elements_field(alloc: Global, ravel: &Ravel) -> Result<Elements, AllocError>
-    ensures { IfOk result (λ e. AreElements e (items_of ravel.now)) }
+fn elements_field(alloc: Global, items: Elements<'_>) -> Result<Field, AllocError>
+    ensures { IfOk result (λ e. AreElements e (listed items.entry)) }
 {
-    match ravel {
-        Ravel::Nums(numbers) => {
-            let numbers = Vec::from_slice(alloc, numbers.as_slice())?;
-            Ok(Elements::Numbers(ListField::new(numbers)))
+    match items {
+        Elements::Nums(numbers) => {
+            let numbers = Vec::from_slice(alloc, numbers)?;
+            Ok(Field::Numbers(ListField::new(numbers)))
         }
-        Ravel::Chars(characters) => {
-            let text = text_field(alloc, characters.as_slice())?;
-            Ok(Elements::Text(text))
+        Elements::Chars(characters) => {
+            let text = text_field(alloc, characters)?;
+            Ok(Field::Text(text))
         }
     }
 }
@@ -33,7 +33,7 @@ impl Saved for Array {
 
     fn field(&self, alloc: Global) -> Result<ArrayField, AllocError> {
         let shape = Vec::from_slice(alloc, self.shape())?;
-        let elements = elements_field(alloc, self.ravel())?;
+        let elements = elements_field(alloc, self.items())?;
         Ok(ArrayField {
             shape: ListField::new(shape),
             elements,

@@ -41,7 +41,7 @@ pub fn file_of(alloc: Global, parts: &Parts) -> Result<File, AllocError>
         version: Version::Two,
         functions,
         variables,
-        origin: parts.origin(),
+        origin: parts.origin().number(),
         contexts,
     })
 }

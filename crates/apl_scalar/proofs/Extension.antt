@@ -55,8 +55,8 @@ shown a s i (Many zs) full fits e w =
     ∙ ap (λ (t : Items). slice_get (cells_of t) (position_in s i)) e.0
     ∙ num_at zs.now (position_in s i) (omega (arith, position_in-lt s i w))
 
-pub shows_along : (x : Operand) (t : Items) (zs ws : List ℤ) → zs ≡ ws → t ≡ Numbers ws → Shows x (Numbers zs) → Shows x t
-shows_along x t zs ws e d h = let P : Items → Type 0 = λ t. Shows x t in subst P (ap Numbers e ∙ sym d) h
+pub shows_along : (x : Operand) (t : Items) (zs : List ℤ) → t ≡ Numbers zs → Shows x (Numbers zs) → Shows x t
+shows_along x t zs e h = let P : Items → Type 0 = λ t. Shows x t in subst P (sym e) h
 
 -- two operands of numbers
 pub by_operands : (f : Dyadic) (a b : Arr) (s : List ℕ) (x y : Operand) → length (cells_of a.items) ≡ size_of a.shape → length (cells_of b.items) ≡ size_of b.shape →

@@ -5,3 +5,4 @@ pub mod Whole
 pub mod Rests
 pub mod Growth
 pub mod Truths
+pub mod Scalars

@@ -44,6 +44,10 @@ dyadic_at f (Some (Char c)) (Some (Num y)) = compared f false
 dyadic_at f (Some (Char c)) (Some (Char d)) = compared f (nat_eq c d)
 dyadic_at f _ _ = Err Domain
 
+-- the value at each index list of a shape, or the first fault in ravel order
+abbrev pub values_in : Dyadic → Arr → Arr → List ℕ → Result (List ℤ) Fault
+values_in f a b s = all_ok (λ i. dyadic_at f (operand_at a i) (operand_at b i)) (indices s)
+
 -- numbers in a shape
 abbrev pub numbers_in : List ℕ → List ℤ → Arr
 numbers_in s zs = record { shape = s; items = Numbers zs }
@@ -55,4 +59,4 @@ monadic f b = ok_map (numbers_in b.shape) (all_ok (λ i. monadic_at f (cell_at b
 -- the shapes are looked at first, then the value at each index list or the first fault in ravel order
 abbrev pub dyadic : Dyadic → Arr → Arr → Result Arr Fault
 dyadic f a b =
-    and_then (extended a.shape b.shape) (λ s. ok_map (numbers_in s) (all_ok (λ i. dyadic_at f (operand_at a i) (operand_at b i)) (indices s)))
+    and_then (extended a.shape b.shape) (λ s. ok_map (numbers_in s) (values_in f a b s))

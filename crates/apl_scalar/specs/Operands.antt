@@ -1,6 +1,10 @@
 -- The elements of an operand by the places of the result.
-use Rattle.std.specs.Prelude.{◌≡◌, ◌≢◌, ◌≤◌, ℕ, ℤ, pos, Bool, cond, nat_eq, List, [], ◌∷◌, length, slice_index_or, replicate}
+use Rattle.std.specs.Prelude.{◌≡◌, ◌≢◌, ◌≤◌, ◌<◌, ℕ, ℤ, pos, Bool, cond, nat_eq, List, [], ◌∷◌, length, slice_index_or, replicate, Result, Ok}
+use Rattle.std.specs.List.{range_with_len}
+use Rattle.apl_faults.specs.declared.fault.Fault.{Fault}
 use Rattle.apl_arrays.specs.Cells.{Items, Numbers, Characters}
+use Rattle.apl_arrays.specs.Results.{all_ok}
+use Rattle.apl_scalar.specs.declared.characters.Verdicts.{Verdicts}
 use Rattle.apl_scalar.specs.declared.operand.Operand.{Operand}
 use Rattle.apl_scalar.specs.declared.operand.Operand.TheVariants.{One, Many}
 use Rattle.apl_scalar.specs.Functions.{number_of}
@@ -9,6 +13,15 @@ use Rattle.apl_scalar.specs.Functions.{number_of}
 abbrev pub number_at : Operand → ℕ → ℤ
 number_at (One x) k = x
 number_at (Many xs) k = slice_index_or xs.now k (pos 0)
+
+-- the value for each of so many places from one on, or the first fault
+abbrev pub values_from : (ℤ → ℤ → Result ℤ Fault) → Operand → Operand → ℕ → ℕ → Result (List ℤ) Fault
+values_from f a b from count = all_ok (λ k. f (number_at a k) (number_at b k)) (range_with_len from count)
+
+-- each number is the value for those at its place
+abbrev pub AreValues : (ℤ → ℤ → Result ℤ Fault) → List ℤ → List ℤ → List ℤ → Type 0
+AreValues f xs ys zs =
+    (k : ℕ) → k < length zs → f (slice_index_or xs k (pos 0)) (slice_index_or ys k (pos 0)) ≡ Ok (slice_index_or zs k (pos 0))
 
 -- there is a number for each place below n
 abbrev pub Covers : Operand → ℕ → Type 0
@@ -28,6 +41,14 @@ Shows (Many xs) items = (items ≡ Numbers xs.now) × (length xs.now ≢ 1)
 -- the character for a place, of which a single one serves at each
 abbrev pub character_at : List ℕ → ℕ → ℕ
 character_at cs k = slice_index_or cs (cond (nat_eq (length cs) 1) 0 k) 0
+
+-- what is answered for two elements by whether they are the same
+abbrev pub verdict : Verdicts → Bool → ℤ
+verdict v same = cond same v.same v.other
+
+-- the number at each place is the verdict there
+abbrev pub AreVerdicts : Verdicts → (ℕ → Bool) → List ℤ → Type 0
+AreVerdicts v same zs = (k : ℕ) → k < length zs → slice_index_or zs k (pos 0) ≡ verdict v (same k)
 
 -- an array's elements are characters
 abbrev pub AreCharacters : Items → Type 0

@@ -1,9 +1,7 @@
 // A scalar function at each place, block by block.
-ghost use Rattle.std.specs.Prelude.{◌≡◌, ◌<◌, ◌≤◌, ◌+◌, ◌-◌, ℕ, length, slice_index_or, pos, IsTrue, Ok};
-ghost use Rattle.std.specs.List.{range_with_len};
+ghost use Rattle.std.specs.Prelude.{◌≡◌, ◌≤◌, ◌+◌, ◌-◌, length, IsTrue};
 ghost use Rattle.apl_arrays.specs.Answers.{Answers, Appends};
-ghost use Rattle.apl_arrays.specs.Results.{all_ok};
-ghost use Rattle.apl_scalar.specs.Operands.{number_at, Covers};
+ghost use Rattle.apl_scalar.specs.Operands.{Covers, values_from, AreValues};
 
 use crate::function::Scalar;
 use crate::operand::{BLOCK, Blocks, Operand};
@@ -24,7 +22,7 @@ fn push_tested<F: Scalar>(
 ) -> Result<(), Stop>
     requires a { Covers a till }
     requires b { Covers b till }
-    ensures { Appends out.old.items out.new.items (all_ok (λ k. F.meaning (number_at a.entry k) (number_at b.entry k)) (range_with_len from (till - from))) result }
+    ensures { Appends out.old.items out.new.items (values_from F.meaning a.entry b.entry from (till - from)) result }
 {
     for k in from..till {
         match F::apply(a.at(k), b.at(k)) {
@@ -40,7 +38,7 @@ fn push_tested<F: Scalar>(
 fn fill<F: Scalar>(a: &[i64], b: &[i64], out: &mut [i64]) -> bool
     requires a { length a.now ≡ length out.old }
     requires b { length b.now ≡ length out.old }
-    ensures { IsTrue result → (j : ℕ) → j < length out.new → F.meaning (slice_index_or a.now j (pos 0)) (slice_index_or b.now j (pos 0)) ≡ Ok (slice_index_or out.new j (pos 0)) }
+    ensures { IsTrue result → AreValues F.meaning a.now b.now out.new }
 {
     let mut flags = 0i64;
     for i in 0..out.len() {
@@ -64,7 +62,7 @@ fn push_block<F: Scalar>(
     requires b { Covers b.now.operand till }
     requires order { from ≤ till }
     requires few { till ≤ from + BLOCK }
-    ensures { Appends out.old.items out.new.items (all_ok (λ k. F.meaning (number_at a.now.operand k) (number_at b.now.operand k)) (range_with_len from (till - from))) result }
+    ensures { Appends out.old.items out.new.items (values_from F.meaning a.now.operand b.now.operand from (till - from)) result }
 {
     let values = &mut room[..till - from];
     if fill::<F>(a.piece(from, till), b.piece(from, till), values) {
@@ -83,7 +81,7 @@ fn push_blocks<F: Scalar>(
 ) -> Result<(), Stop>
     requires a { Covers a count }
     requires b { Covers b count }
-    ensures { Appends out.old.items out.new.items (all_ok (λ k. F.meaning (number_at a.entry k) (number_at b.entry k)) (range_with_len 0 count)) result }
+    ensures { Appends out.old.items out.new.items (values_from F.meaning a.entry b.entry 0 count) result }
 {
     let a = Blocks::new(a);
     let b = Blocks::new(b);
@@ -106,7 +104,7 @@ pub(crate) fn apply_all<F: Scalar>(
 ) -> Result<Vec<i64>, Stop>
     requires a { Covers a count }
     requires b { Covers b count }
-    ensures { Answers (λ v. v.items) (all_ok (λ k. F.meaning (number_at a.entry k) (number_at b.entry k)) (range_with_len 0 count)) result }
+    ensures { Answers (λ v. v.items) (values_from F.meaning a.entry b.entry 0 count) result }
 {
     let mut out = Vec::with_capacity(alloc, count)?;
     if count < FEW {

@@ -1,10 +1,10 @@
 // The functions that take characters: whether two elements are the same.
-ghost use Rattle.std.specs.Prelude.{◌≡◌, ◌≢◌, ◌≤◌, ◌<◌, ℕ, Bool, true, false, cond, nat_eq, length, slice_index_or, pos, Ok, Err, MatchOption};
+ghost use Rattle.std.specs.Prelude.{◌≡◌, ◌≢◌, ◌≤◌, ◌<◌, Bool, false, nat_eq, length, slice_index_or, Ok, Err, MatchOption};
 ghost use Rattle.std.specs.List.{range_with_len};
 ghost use Rattle.apl_arrays.specs.Answers.{Answers};
 ghost use Rattle.apl_arrays.specs.Results.{all_ok};
 ghost use Rattle.apl_scalar.specs.Extension.{compared};
-ghost use Rattle.apl_scalar.specs.Operands.{character_at};
+ghost use Rattle.apl_scalar.specs.Operands.{character_at, verdict, AreVerdicts};
 
 use crate::function::Dyadic;
 use apl_arrays::Stop;
@@ -21,7 +21,8 @@ struct Verdicts {
 
 /// What a function answers for characters, if it takes them.
 fn verdicts_of(function: Dyadic) -> Option<Verdicts>
-    ensures { MatchOption result ((same : Bool) → compared function same ≡ Err Fault.Domain) (λ v. (same : Bool) → compared function same ≡ Ok (cond same v.same v.other)) }
+    ensures { MatchOption result ((same : Bool) → compared function same ≡ Err Fault.Domain)
+        (λ v. (same : Bool) → compared function same ≡ Ok (verdict v same)) }
 {
     match function {
         Dyadic::Equal => Some(Verdicts { same: 1, other: 0 }),
@@ -30,10 +31,23 @@ fn verdicts_of(function: Dyadic) -> Option<Verdicts>
     }
 }
 
+impl Dyadic {
+    /// What it answers for two elements that are not both numbers, by whether they are the same: [`Dyadic::Equal`] and [`Dyadic::NotEqual`]
+    /// tell that as 1 or 0, and any other function has a domain fault.
+    pub fn compared(self, same: bool) -> Result<i64, Fault>
+        ensures { result ≡ compared self same }
+    {
+        match verdicts_of(self) {
+            Some(verdicts) => Ok(if same { verdicts.same } else { verdicts.other }),
+            None => Err(Fault::Domain),
+        }
+    }
+}
+
 /// Writes for each character whether it is this one.
 fn compare_with(one: Ch, many: &[Ch], verdicts: Verdicts, out: &mut [i64])
     requires { length out.old ≤ length many.now }
-    ensures { (k : ℕ) → k < length out.new → slice_index_or out.new k (pos 0) ≡ cond (nat_eq one (slice_index_or many.now k 0)) verdicts.same verdicts.other }
+    ensures { AreVerdicts verdicts (λ k. nat_eq one (slice_index_or many.now k 0)) out.new }
 {
     for i in 0..out.len() {
         out[i] = if one == many[i] {
@@ -48,7 +62,7 @@ fn compare_with(one: Ch, many: &[Ch], verdicts: Verdicts, out: &mut [i64])
 fn compare_pairs(a: &[Ch], b: &[Ch], verdicts: Verdicts, out: &mut [i64])
     requires a { length out.old ≤ length a.now }
     requires b { length out.old ≤ length b.now }
-    ensures { (k : ℕ) → k < length out.new → slice_index_or out.new k (pos 0) ≡ cond (nat_eq (slice_index_or a.now k 0) (slice_index_or b.now k 0)) verdicts.same verdicts.other }
+    ensures { AreVerdicts verdicts (λ k. nat_eq (slice_index_or a.now k 0) (slice_index_or b.now k 0)) out.new }
 {
     for i in 0..out.len() {
         out[i] = if a[i] == b[i] {
@@ -75,7 +89,7 @@ fn compare(a: &[Ch], b: &[Ch], verdicts: Verdicts, out: &mut [i64])
     requires a { length a.now ≢ 1 → length a.now ≡ length out.old }
     requires b { length b.now ≢ 1 → length b.now ≡ length out.old }
     requires one { length a.now ≡ 1 → length b.now ≡ 1 → length out.old ≡ 1 }
-    ensures { (k : ℕ) → k < length out.new → slice_index_or out.new k (pos 0) ≡ cond (nat_eq (character_at a.now k) (character_at b.now k)) verdicts.same verdicts.other }
+    ensures { AreVerdicts verdicts (λ k. nat_eq (character_at a.now k) (character_at b.now k)) out.new }
 {
     if let [one] = a {
         compare_with(*one, b, verdicts, out);

@@ -26,8 +26,10 @@ pub fn worked_values()
 
 /// The law that these arrays give what they give by hand.
 pub fn worked_arrays()
-    ensures residues { dyadic Dyadic.Residue (simple (Numbers (pos 0 ∷ negsuc 2 ∷ pos 3 ∷ []))) (simple (Numbers (negsuc 6 ∷ []))) ≡ Ok (simple (Numbers (negsuc 6 ∷ negsuc 0 ∷ pos 2 ∷ []))) }
-    ensures characters { dyadic Dyadic.Equal (simple (Characters (codes "AB"))) (simple (Characters (codes "AC"))) ≡ Ok (simple (Numbers (pos 1 ∷ pos 0 ∷ []))) }
+    ensures residues { dyadic Dyadic.Residue (simple (Numbers (pos 0 ∷ negsuc 2 ∷ pos 3 ∷ []))) (simple (Numbers (negsuc 6 ∷ [])))
+        ≡ Ok (simple (Numbers (negsuc 6 ∷ negsuc 0 ∷ pos 2 ∷ []))) }
+    ensures characters { dyadic Dyadic.Equal (simple (Characters (codes "AB"))) (simple (Characters (codes "AC")))
+        ≡ Ok (simple (Numbers (pos 1 ∷ pos 0 ∷ []))) }
     ensures no_number { dyadic Dyadic.NotEqual (simple (Numbers (pos 2 ∷ []))) (simple (Characters (codes "A"))) ≡ Ok (simple (Numbers (pos 1 ∷ []))) }
     ensures no_characters { dyadic Dyadic.Plus (simple (Characters [])) (simple (Numbers (pos 5 ∷ []))) ≡ Ok (simple (Numbers [])) }
     ensures lengths { dyadic Dyadic.Plus (simple (Characters [])) (simple (Numbers (pos 1 ∷ pos 2 ∷ []))) ≡ Err Fault.Length }

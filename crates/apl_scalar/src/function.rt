@@ -3,6 +3,7 @@ ghost use Rattle.std.specs.Prelude.{◌≡◌, ◌≤ℤ◌, ℤ, Result, pos, O
 ghost use Rattle.apl_faults.specs.declared.fault.Fault.{Fault};
 
 use apl_faults::Fault;
+use std::marker::PhantomData;
 
 /// The scalar functions of one argument.
 #[derive(Clone, Copy, Debug, PartialEq, Eq)]
@@ -48,10 +49,13 @@ pub enum Dyadic {
     Residue,
     /// Whether the first argument is less, as 1 or 0.
     Less,
+    /// Whether the first argument is not greater.
     NotGreater,
     /// Whether the arguments are the same. They may be characters, and a character is no number.
     Equal,
+    /// Whether the first argument is not less.
     NotLess,
+    /// Whether the first argument is greater.
     Greater,
     /// Whether the arguments differ. They may be characters.
     NotEqual,
@@ -67,6 +71,7 @@ pub enum Dyadic {
 
 /// A scalar function that the compiler knows, so that a loop over it needs no dispatch. One of a single argument takes it on the right.
 pub trait Scalar {
+    /// The function of numbers without bounds.
     ghost meaning: { ℤ → ℤ → Result ℤ Fault };
 
     /// Its value, or its fault.
@@ -82,5 +87,22 @@ pub trait Scalar {
             Ok(value) => (value, 0),
             Err(_) => (0, -1),
         }
+    }
+}
+
+/// A scalar function with its first argument on the right and its second on the left.
+pub struct Swapped<F>(PhantomData<F>);
+
+impl<F: Scalar> Scalar for Swapped<F> {
+    ghost meaning = { λ x y. F.meaning y x };
+
+    #[inline(always)]
+    fn apply(x: i64, y: i64) -> Result<i64, Fault> {
+        F::apply(y, x)
+    }
+
+    #[inline(always)]
+    fn tried(x: i64, y: i64) -> (i64, i64) {
+        F::tried(y, x)
     }
 }

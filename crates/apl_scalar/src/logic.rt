@@ -1,7 +1,8 @@
 // Functions of the truth values 0 and 1.
 ghost use Rattle.std.specs.Prelude.{◌≡◌, ◌≤ℤ◌, ◌<ℤ◌, ℤ, Bool, not, ◌&&◌, ◌||◌, pos, Ok, Err};
 ghost use Rattle.apl_faults.specs.declared.fault.Fault.TheVariants.{Domain};
-ghost use Rattle.apl_scalar.specs.Functions.{logical, number_of};
+ghost use Rattle.apl_scalar.specs.declared.function.Monadic.TheVariants as one;
+ghost use Rattle.apl_scalar.specs.Functions.{logical, number_of, monadic_of};
 ghost use Rattle.apl_scalar.specs.Operands.{IsTruth};
 
 use crate::function::Scalar;
@@ -20,6 +21,7 @@ fn truth_flag(x: i64, y: i64) -> i64
 
 /// A function of two truth values.
 pub trait Connective {
+    /// The function of truth values.
     ghost meaning: { Bool → Bool → Bool };
 
     /// Its value by the bits of 0 and 1. What it gives for other numbers means nothing.
@@ -93,5 +95,23 @@ impl Connective for Nor {
     #[inline(always)]
     fn bits(x: i64, y: i64) -> i64 {
         1 ^ (x | y)
+    }
+}
+
+/// Whether the right argument is false, where there is none on the left.
+pub(crate) struct Not;
+
+impl Scalar for Not {
+    ghost meaning = { λ _ y. monadic_of one.Not y };
+
+    // 0 stands for the argument that is not there, and then neither is true where the right one is not.
+    #[inline(always)]
+    fn apply(_x: i64, y: i64) -> Result<i64, Fault> {
+        Logical::<Nor>::apply(0, y)
+    }
+
+    #[inline(always)]
+    fn tried(_x: i64, y: i64) -> (i64, i64) {
+        Logical::<Nor>::tried(0, y)
     }
 }

@@ -1,6 +1,6 @@
 // Arithmetic that tells where a value leaves 64 bits.
-ghost use Rattle.std.specs.Prelude.{◌≡◌, ◌+ℤ◌, ◌-ℤ◌, ◌*ℤ◌, SomeIff, FitsSigned, pos, ◌≤ℤ◌, ◌<ℤ◌};
-ghost use Rattle.std.specs.Int.{w64};
+ghost use Rattle.std.specs.Prelude.{◌≡◌, ◌≤◌, ◌+ℤ◌, ◌-ℤ◌, ◌*ℤ◌, SomeIff, FitsSigned, pos, ◌≤ℤ◌, ◌<ℤ◌, bit_or};
+ghost use Rattle.std.specs.Int.{w64, int_bit_or};
 ghost use Rattle.apl_faults.specs.declared.fault.Fault.TheVariants.{Limit};
 ghost use Rattle.apl_scalar.specs.Functions.{in_range};
 
@@ -40,10 +40,21 @@ pub(crate) fn product(x: i64, y: i64) -> Option<i64>
     }
 }
 
-/// Both flags in one, negative where either is.
+/// Both flags in one, which is negative where either is.
 #[inline(always)]
-pub(crate) fn either(x: i64, y: i64) -> i64
-    ensures { pos 0 ≤ℤ result → (pos 0 ≤ℤ x) × (pos 0 ≤ℤ y) }
+pub fn either(x: i64, y: i64) -> i64
+    ensures exact { result ≡ int_bit_or w64 x y }
+    ensures neither { pos 0 ≤ℤ result → (pos 0 ≤ℤ x) × (pos 0 ≤ℤ y) }
+{
+    x | y
+}
+
+/// Both numbers in one, which is no less than either, and below a power of two where both are.
+#[inline(always)]
+pub fn wider(x: u64, y: u64) -> u64
+    ensures exact { result ≡ bit_or x y }
+    ensures x { x ≤ result }
+    ensures y { y ≤ result }
 {
     x | y
 }

@@ -12,7 +12,7 @@ use Rattle.apl_arrays.specs.Checks.{vector_rank, numbers_of, count_of}
 use Rattle.apl_arrays.specs.Results.{and_then, ok_map, all_ok}
 use Rattle.apl_arrays.proofs.Order.{by_places}
 use Rattle.apl_search.specs.Decoded.{bases_and_digits, base_and_digit, decode, first_length, joined_count, served, shape_behind, valued}
-use Rattle.apl_search.specs.Flat.{pair_at}
+use Rattle.apl_search.specs.inside.Flat.{pair_at}
 
 parts : {A : Type 0} (r : Result A Fault) (s : Result ℕ Fault) (t u : Result (List ℤ) Fault) (p : List ℤ × List ℤ × ℕ) →
     and_then r (λ x. and_then s (λ n. and_then t (λ ws. ok_map (λ ds. (ws, ds, n)) u))) ≡ Ok p → (s ≡ Ok p.2) × (t ≡ Ok p.0) × (u ≡ Ok p.1)

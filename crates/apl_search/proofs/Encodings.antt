@@ -1,9 +1,6 @@
 -- What the checks of encoding leave.
-use Rattle.std.proofs.Common.{◌≡◌, ℕ, ℤ, ◌*◌, ◌<◌, ◌≤◌, ◌^◌, Bool, true, false, List, [], ◌∷◌, ◌++◌, length, Result, Ok, Err, refl, ap, sym, ◌∙◌, arith}
-use Rattle.std.specs.Prelude.{nat_le}
-use Rattle.std.proofs.lemmas.Bool.{leb-true}
+use Rattle.std.proofs.Common.{◌≡◌, ℕ, ℤ, ◌*◌, ◌<◌, ◌≤◌, ◌^◌, List, [], ◌∷◌, ◌++◌, length, Result, Ok, Err, ap, sym, ◌∙◌, arith}
 use Rattle.apl_faults.specs.declared.fault.Fault.{Fault}
-use Rattle.apl_faults.specs.declared.fault.Fault.TheVariants.{Limit}
 use Rattle.apl_arrays.specs.Index.{size_of, bound_of}
 use Rattle.apl_arrays.specs.Cells.{Arr, cells_of}
 use Rattle.apl_arrays.specs.Checks.{limited, vector_rank, numbers_of}
@@ -12,6 +9,7 @@ use Rattle.apl_arrays.proofs.Places.{size_le_bound}
 use Rattle.apl_search.specs.Encoded.{bases_and_numbers, digits_by, digits_in, encode}
 use Rattle.apl_search.proofs.Digits.{numbers_length}
 use Rattle.apl_search.proofs.LastFirst.{length-digits}
+use Rattle.apl_search.proofs.Shapes.{limits}
 
 parts : {A : Type 0} (r : Result A Fault) (t u : Result (List ℤ) Fault) (p : List ℤ × List ℤ) → and_then r (λ x. and_then t (λ ws. ok_map (λ rs. (ws, rs)) u)) ≡ Ok p → (t ≡ Ok p.0) × (u ≡ Ok p.1)
 parts (Ok x) (Ok ws) (Ok rs) p e =
@@ -37,21 +35,13 @@ count a b ws rs e full_a full_b =
     ∙ ap (λ (n : ℕ). size_of a.shape * n) (numbers_length b.items rs p.1 ∙ full_b)
     ∙ sym (size_of-append a.shape b.shape)
 
--- a shape that an array may have is small
-limits : (s t : List ℕ) → limited s ≡ Ok t → bound_of s ≤ 1000000
-limits s t e = each (nat_le (length s) 8) (nat_le (bound_of s) 1000000) refl refl
-  where
-    each : (p q : Bool) → nat_le (length s) 8 ≡ p → nat_le (bound_of s) 1000000 ≡ q → bound_of s ≤ 1000000
-    each p true ep eq = leb-true (bound_of s) 1000000 eq
-    each true false ep eq = absurd (let bad : Err Limit ≡ Ok t = sym (simp (ep, eq)) ∙ e in cc)
-    each false false ep eq = absurd (let bad : Err Limit ≡ Ok t = sym (simp ep) ∙ e in cc)
-
+-- there are few enough of them
 pub small : (a b : Arr) (ws rs : List ℤ) (s t : List ℕ) → bases_and_numbers a b ≡ Ok (ws, rs) → length (cells_of a.items) ≡ size_of a.shape → length (cells_of b.items) ≡ size_of b.shape →
     s ≡ a.shape ++ b.shape → limited s ≡ Ok t → length ws * length rs < 2 ^ 63
 small a b ws rs s t e full_a full_b m h =
     let n : length ws * length rs ≡ size_of s = count a b ws rs e full_a full_b ∙ ap size_of (sym m) in
     let l : size_of s ≤ bound_of s = size_le_bound s in
-    let k : bound_of s ≤ 1000000 = limits s t h in
+    let k : bound_of s ≤ 1000000 = (limits s t h).1 in
     omega arith
 
 pub filled : (a b : Arr) (ws rs digits : List ℤ) (s : List ℕ) → bases_and_numbers a b ≡ Ok (ws, rs) → length (cells_of a.items) ≡ size_of a.shape → length (cells_of b.items) ≡ size_of b.shape →

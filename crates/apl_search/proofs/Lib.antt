@@ -1,6 +1,7 @@
 pub mod Orders
 pub mod Rising
 pub mod Firsts
+pub mod Tables
 pub mod Products
 pub mod Values
 pub mod Digits

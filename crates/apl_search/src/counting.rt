@@ -1,11 +1,11 @@
 // The numbers up to a count.
-ghost use Rattle.std.specs.Prelude.{◌≡◌, ◌+◌, ◌≤◌, ◌^◌, ◌<◌, IfOk, map, pos};
+ghost use Rattle.std.specs.Prelude.{◌≡◌, ◌+◌, ◌^◌, ◌<◌, IfOk, map, pos};
 ghost use Rattle.std.specs.List.{range_with_len};
 ghost use Rattle.apl_arrays.specs.Answers.{Answers, FaultsFirst};
+ghost use Rattle.apl_arrays.specs.Origins.{origin_number};
 ghost use Rattle.apl_search.specs.Counted.{natural, count_named, iota};
 
-use crate::result::array_of;
-use apl_arrays::{Array, Ravel, Stop, numbers_in, within_limits};
+use apl_arrays::{Array, Origin, Ravel, Stop, numbers_in, within_limits};
 use apl_faults::Fault;
 use std::alloc::{AllocError, Global};
 
@@ -27,10 +27,10 @@ fn count_in(b: &Array) -> Result<usize, Fault>
     if b.rank() > 1 {
         return Err(Fault::Rank);
     }
-    if b.ravel().len() != 1 {
+    if b.items().len() != 1 {
         return Err(Fault::Length);
     }
-    match numbers_in(b.ravel()) {
+    match numbers_in(b.items()) {
         Ok([number]) => as_count(*number),
         Ok(_) => Err(Fault::Length),
         Err(fault) => Err(fault),
@@ -53,13 +53,12 @@ fn numbers_from(alloc: Global, first: usize, count: usize) -> Result<Vec<i64>, A
 ///
 /// More than one axis is a rank fault, then another count of elements a length fault, then a character or a negative number a domain
 /// fault, then a vector over the limits a limit fault. Every fault is found before memory is asked for.
-pub fn iota(alloc: Global, b: &Array, origin: usize) -> Result<Array, Stop>
-    requires { origin ≤ 1 }
-    ensures value { Answers (λ r. r) (iota b.now origin) result }
-    ensures at_once { FaultsFirst (iota b.now origin) result }
+pub fn iota(alloc: Global, b: &Array, origin: Origin) -> Result<Array, Stop>
+    ensures value { Answers (λ r. r) (iota b.now (origin_number origin)) result }
+    ensures at_once { FaultsFirst (iota b.now (origin_number origin)) result }
 {
     let count = count_in(b)?;
     within_limits(&[count])?;
-    let numbers = numbers_from(alloc, origin, count)?;
-    array_of(&[count], Ravel::Nums(numbers))
+    let numbers = numbers_from(alloc, origin.number(), count)?;
+    Ok(Array::vector(Ravel::Nums(numbers)))
 }

@@ -5,9 +5,8 @@ ghost use Rattle.apl_arrays.specs.Answers.{Answers, FaultsFirst};
 ghost use Rattle.apl_arrays.specs.Results.{all_ok, ok_map};
 ghost use Rattle.apl_scalar.specs.Functions.{in_range};
 ghost use Rattle.apl_search.specs.Decoded.{bases_and_digits, decode, first_length, joined_count, served, shape_behind, valued};
-ghost use Rattle.apl_search.specs.Flat.{pair_at};
+ghost use Rattle.apl_search.specs.inside.Flat.{pair_at, value_by};
 
-use crate::result::array_of;
 use apl_arrays::{Array, Ravel, Stop, numbers_in, size};
 use apl_faults::Fault;
 use std::alloc::Global;
@@ -87,7 +86,7 @@ fn value_at(
 ) -> Result<i64, Fault>
     requires bases { (k : ℕ) → k < count → served (length bases.now) k < length bases.now }
     requires digits { (k : ℕ) → k < count → served along k * width + place < length digits.now }
-    ensures { result ≡ valued (pos 0) (map (pair_at bases.now digits.now along width place) (range_with_len 0 count)) }
+    ensures { result ≡ value_by bases.now digits.now along width place count }
 {
     let mut value = 0i64;
     for k in 0..count {
@@ -110,7 +109,7 @@ fn values(
 ) -> Result<Vec<i64>, Stop>
     requires bases { (k : ℕ) → k < count → served (length bases.now) k < length bases.now }
     requires digits { (k p : ℕ) → k < count → p < width → served along k * width + p < length digits.now }
-    ensures { Answers (λ v. v.items) (all_ok (λ p. valued (pos 0) (map (pair_at bases.now digits.now along width p) (range_with_len 0 count))) (range_with_len 0 width)) result }
+    ensures { Answers (λ v. v.items) (all_ok (λ p. value_by bases.now digits.now along width p count) (range_with_len 0 width)) result }
 {
     let mut out = Vec::with_capacity(alloc, width)?;
     for place in 0..width {
@@ -149,9 +148,9 @@ fn operands<'a>(a: &'a Array, b: &'a Array) -> Result<(&'a [i64], &'a [i64], usi
     if a.rank() > 1 {
         return Err(Fault::Rank);
     }
-    let count = count_for(a.ravel().len(), length_along(b.shape()))?;
-    let bases = numbers_in(a.ravel())?;
-    let digits = numbers_in(b.ravel())?;
+    let count = count_for(a.items().len(), length_along(b.shape()))?;
+    let bases = numbers_in(a.items())?;
+    let digits = numbers_in(b.items())?;
     Ok((bases, digits, count))
 }
 
@@ -176,5 +175,5 @@ pub fn decode(alloc: Global, a: &Array, b: &Array) -> Result<Array, Stop>
         size(shape),
         count,
     )?;
-    array_of(shape, Ravel::Nums(values))
+    Ok(Array::in_shape(shape, Ravel::Nums(values)))
 }

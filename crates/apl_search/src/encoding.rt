@@ -4,12 +4,11 @@ ghost use Rattle.std.specs.List.{All, range_with_len};
 ghost use Rattle.apl_arrays.specs.Answers.{Answers, FaultsFirst};
 ghost use Rattle.apl_arrays.specs.Results.{all_ok, and_then, ok_map};
 ghost use Rattle.apl_scalar.specs.Functions.{in_range, residue};
-ghost use Rattle.apl_search.specs.Encoded.{bases_and_numbers, digits_by, encode, encoded_shape, left_of, IsNear};
+ghost use Rattle.apl_search.specs.Encoded.{bases_and_numbers, digits_by, encode, encoded_shape, left_of, nth_from_last, IsNear};
 
 use crate::decoding::narrowed;
 use crate::dividing::divided;
-use crate::result::{array_of, joined_shape};
-use apl_arrays::{Array, Ravel, Stop, numbers_in, within_limits};
+use apl_arrays::{Array, Ravel, Stop, joined_shape, numbers_in, within_limits};
 use apl_faults::Fault;
 use std::alloc::{AllocError, Global};
 
@@ -70,14 +69,14 @@ fn digits_back(alloc: Global, bases: &[i64], numbers: &mut [i128]) -> Result<Vec
 #[inline(always)]
 fn narrowed_from_last(numbers: &[i128], place: usize) -> Result<i64, Fault>
     requires { place < length numbers.now }
-    ensures { result ≡ in_range (slice_index_or (reverse numbers.now) place (pos 0)) }
+    ensures { result ≡ in_range (nth_from_last numbers.now place) }
 {
     narrowed(numbers[numbers.len() - 1 - place])
 }
 
 /// These numbers from the last on in 64 bits, or a limit fault where one doesn't fit.
 fn narrowed_back(alloc: Global, numbers: &[i128]) -> Result<Vec<i64>, Stop>
-    ensures { Answers (λ v. v.items) (all_ok (λ k. in_range (slice_index_or (reverse numbers.now) k (pos 0))) (range_with_len 0 (length numbers.now))) result }
+    ensures { Answers (λ v. v.items) (all_ok (λ k. in_range (nth_from_last numbers.now k)) (range_with_len 0 (length numbers.now))) result }
 {
     let mut out = Vec::with_capacity(alloc, numbers.len())?;
     for place in 0..numbers.len() {
@@ -106,8 +105,8 @@ fn operands<'a>(a: &'a Array, b: &'a Array) -> Result<(&'a [i64], &'a [i64]), Fa
     if a.rank() > 1 {
         return Err(Fault::Rank);
     }
-    let bases = numbers_in(a.ravel())?;
-    let numbers = numbers_in(b.ravel())?;
+    let bases = numbers_in(a.items())?;
+    let numbers = numbers_in(b.items())?;
     Ok((bases, numbers))
 }
 
@@ -127,5 +126,5 @@ pub fn encode(alloc: Global, a: &Array, b: &Array) -> Result<Array, Stop>
     let shape = joined.as_slice();
     within_limits(shape)?;
     let digits = digits_of(alloc, bases, numbers)?;
-    array_of(shape, Ravel::Nums(digits))
+    Ok(Array::in_shape(shape, Ravel::Nums(digits)))
 }

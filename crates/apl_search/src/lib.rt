@@ -6,11 +6,12 @@ mod decoding;
 mod dividing;
 mod encoding;
 mod grading;
+mod index;
 mod listing;
 mod lookup;
 mod membership;
 mod places;
-mod result;
+mod table;
 
 pub use counting::iota;
 pub use decoding::decode;

@@ -1,12 +1,13 @@
 // Items looked for among others.
-ghost use Rattle.std.specs.Prelude.{◌≡◌, ◌+◌, ◌≤◌, length, map, pos, replicate, IfOk};
+ghost use Rattle.std.specs.Prelude.{◌≡◌, ◌+◌, ◌<◌, ◌≤◌, ◌^◌, length, map, pos, replicate, IfOk};
 ghost use Rattle.std.specs.Ordering.{int_eq};
 ghost use Rattle.std.specs.List.{list_any, position_or_len};
+ghost use Rattle.apl_arrays.specs.Origins.{origin_number};
 ghost use Rattle.apl_scalar.specs.Functions.{number_of};
-ghost use Rattle.apl_search.specs.Ordered.{Lists};
+ghost use Rattle.apl_search.specs.inside.Tables.{IsIndexOf};
 
-use crate::listing::{first_place, listed};
-use apl_arrays::MAX_ELEMENTS;
+use crate::index::Index;
+use apl_arrays::{MAX_ELEMENTS, Origin};
 use apl_charset::Ch;
 use std::alloc::{AllocError, Global};
 
@@ -34,16 +35,30 @@ pub(crate) fn places_among(
     alloc: Global,
     sought: &[i64],
     among: &[i64],
-    origin: usize,
+    origin: Origin,
 ) -> Result<Vec<i64>, AllocError>
-    requires origin { origin ≤ 1 }
-    requires small { length among.now ≤ MAX_ELEMENTS }
-    ensures { IfOk result (λ v. v.items ≡ map (λ y. pos (origin + position_or_len (int_eq y) among.now)) sought.now) }
+    requires { length among.now ≤ MAX_ELEMENTS }
+    ensures { IfOk result (λ v. v.items ≡ map (λ y. pos (origin_number origin + position_or_len (int_eq y) among.now)) sought.now) }
 {
-    let entries = listed(alloc, among)?;
+    let index = Index::of(alloc, among, sought.len())?;
+    places_by(alloc, &index, sought, among, origin.number())
+}
+
+/// The same by the others' index, counted from a number on.
+fn places_by(
+    alloc: Global,
+    index: &Index,
+    sought: &[i64],
+    among: &[i64],
+    first: usize,
+) -> Result<Vec<i64>, AllocError>
+    requires index { IsIndexOf index.now among.now }
+    requires small { first + length among.now < 2 ^ 63 }
+    ensures { IfOk result (λ v. v.items ≡ map (λ y. pos (first + position_or_len (int_eq y) among.now)) sought.now) }
+{
     let mut places = Vec::with_capacity(alloc, sought.len())?;
     for number in sought {
-        places.push((origin + first_place(among, entries.as_slice(), *number)) as i64)?;
+        places.push((first + index.first_place(among, *number)) as i64)?;
     }
     Ok(places)
 }
@@ -56,20 +71,34 @@ pub(crate) fn standing_among(
 ) -> Result<Vec<i64>, AllocError>
     ensures { IfOk result (λ v. v.items ≡ map (λ x. number_of (list_any (int_eq x) among.now)) sought.now) }
 {
-    let entries = listed(alloc, among)?;
+    let index = Index::of(alloc, among, sought.len())?;
+    standing_by(alloc, &index, sought, among)
+}
+
+/// The same by the others' index.
+fn standing_by(
+    alloc: Global,
+    index: &Index,
+    sought: &[i64],
+    among: &[i64],
+) -> Result<Vec<i64>, AllocError>
+    requires { IsIndexOf index.now among.now }
+    ensures { IfOk result (λ v. v.items ≡ map (λ x. number_of (list_any (int_eq x) among.now)) sought.now) }
+{
     let mut verdicts = Vec::with_capacity(alloc, sought.len())?;
     for number in sought {
-        verdicts.push(verdict(among, entries.as_slice(), *number))?;
+        verdicts.push(verdict(index, among, *number))?;
     }
     Ok(verdicts)
 }
 
-/// 1 where a number stands among these, which the entries list, else 0.
-fn verdict(numbers: &[i64], entries: &[(i64, usize)], number: i64) -> i64
-    requires { Lists numbers.now entries.now }
+/// 1 where a number stands among these, by their index, else 0.
+#[inline(always)]
+fn verdict(index: &Index, numbers: &[i64], number: i64) -> i64
+    requires { IsIndexOf index.now numbers.now }
     ensures { result ≡ number_of (list_any (int_eq number) numbers.now) }
 {
-    if first_place(numbers, entries, number) < numbers.len() {
+    if index.first_place(numbers, number) < numbers.len() {
         1
     } else {
         0

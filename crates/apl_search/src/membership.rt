@@ -1,26 +1,29 @@
 // Whether items stand among others.
-ghost use Rattle.std.specs.Prelude.{◌≡◌, Ok, map, IfOk};
+ghost use Rattle.std.specs.Prelude.{◌≡◌, Ok, IfOk};
 ghost use Rattle.apl_arrays.specs.Answers.{Answers};
 ghost use Rattle.apl_arrays.specs.Cells.{Numbers, Characters};
-ghost use Rattle.apl_arrays.specs.Ravels.{items_of};
-ghost use Rattle.apl_scalar.specs.Functions.{number_of};
-ghost use Rattle.apl_search.specs.Found.{membership, stand_in};
+ghost use Rattle.apl_arrays.specs.Left.{listed};
+ghost use Rattle.apl_search.specs.Found.{membership, verdicts_in};
 
 use crate::lookup::{codes_of, repeated, standing_among};
-use apl_arrays::{Array, Ravel, Stop};
+use apl_arrays::{Array, Elements, Ravel, Stop};
 use apl_charset::Ch;
 use std::alloc::{AllocError, Global};
 
 /// For each item 1 where it stands among numbers, else 0.
-fn standing_in_numbers(alloc: Global, sought: &Ravel, among: &[i64]) -> Result<Vec<i64>, AllocError>
-    ensures { IfOk result (λ v. v.items ≡ map number_of (stand_in (items_of sought.now) (Numbers among.now))) }
+fn standing_in_numbers(
+    alloc: Global,
+    sought: Elements<'_>,
+    among: &[i64],
+) -> Result<Vec<i64>, AllocError>
+    ensures { IfOk result (λ v. v.items ≡ verdicts_in (listed sought.entry) (Numbers among.now)) }
 {
     match sought {
-        Ravel::Nums(numbers) => {
-            let verdicts = standing_among(alloc, numbers.as_slice(), among)?;
+        Elements::Nums(numbers) => {
+            let verdicts = standing_among(alloc, numbers, among)?;
             Ok(verdicts)
         }
-        Ravel::Chars(characters) => {
+        Elements::Chars(characters) => {
             let verdicts = repeated(alloc, 0, characters.len())?;
             Ok(verdicts)
         }
@@ -30,19 +33,19 @@ fn standing_in_numbers(alloc: Global, sought: &Ravel, among: &[i64]) -> Result<V
 /// For each item 1 where it stands among characters, else 0.
 fn standing_in_characters(
     alloc: Global,
-    sought: &Ravel,
+    sought: Elements<'_>,
     among: &[Ch],
 ) -> Result<Vec<i64>, AllocError>
-    ensures { IfOk result (λ v. v.items ≡ map number_of (stand_in (items_of sought.now) (Characters among.now))) }
+    ensures { IfOk result (λ v. v.items ≡ verdicts_in (listed sought.entry) (Characters among.now)) }
 {
     match sought {
-        Ravel::Nums(numbers) => {
+        Elements::Nums(numbers) => {
             let verdicts = repeated(alloc, 0, numbers.len())?;
             Ok(verdicts)
         }
-        Ravel::Chars(characters) => {
+        Elements::Chars(characters) => {
             let codes = codes_of(alloc, among)?;
-            let wanted = codes_of(alloc, characters.as_slice())?;
+            let wanted = codes_of(alloc, characters)?;
             let verdicts = standing_among(alloc, wanted.as_slice(), codes.as_slice())?;
             Ok(verdicts)
         }
@@ -50,16 +53,20 @@ fn standing_in_characters(
 }
 
 /// For each item 1 where it stands among others, else 0.
-fn standing_in_ravel(alloc: Global, sought: &Ravel, among: &Ravel) -> Result<Vec<i64>, AllocError>
-    ensures { IfOk result (λ v. v.items ≡ map number_of (stand_in (items_of sought.now) (items_of among.now))) }
+fn standing_in(
+    alloc: Global,
+    sought: Elements<'_>,
+    among: Elements<'_>,
+) -> Result<Vec<i64>, AllocError>
+    ensures { IfOk result (λ v. v.items ≡ verdicts_in (listed sought.entry) (listed among.entry)) }
 {
     match among {
-        Ravel::Nums(numbers) => {
-            let verdicts = standing_in_numbers(alloc, sought, numbers.as_slice())?;
+        Elements::Nums(numbers) => {
+            let verdicts = standing_in_numbers(alloc, sought, numbers)?;
             Ok(verdicts)
         }
-        Ravel::Chars(characters) => {
-            let verdicts = standing_in_characters(alloc, sought, characters.as_slice())?;
+        Elements::Chars(characters) => {
+            let verdicts = standing_in_characters(alloc, sought, characters)?;
             Ok(verdicts)
         }
     }
@@ -69,6 +76,6 @@ fn standing_in_ravel(alloc: Global, sought: &Ravel, among: &Ravel) -> Result<Vec
 pub fn member(alloc: Global, a: &Array, b: &Array) -> Result<Array, Stop>
     ensures { Answers (λ r. r) (Ok (membership a.now b.now)) result }
 {
-    let verdicts = standing_in_ravel(alloc, a.ravel(), b.ravel())?;
+    let verdicts = standing_in(alloc, a.items(), b.items())?;
     Ok(a.with_ravel(Ravel::Nums(verdicts))?)
 }

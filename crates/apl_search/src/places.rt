@@ -1,13 +1,14 @@
 // First places of items among others.
-ghost use Rattle.std.specs.Prelude.{◌≡◌, ◌==◌, ◌+◌, ◌≤◌, length, map, pos, IfOk};
+ghost use Rattle.std.specs.Prelude.{◌≡◌, ◌==◌, ◌≤◌, length, IfOk};
 ghost use Rattle.apl_arrays.specs.Answers.{Answers, FaultsFirst};
 ghost use Rattle.apl_arrays.specs.Cells.{cells_of, Numbers, Characters};
 ghost use Rattle.apl_arrays.specs.Checks.{demand};
-ghost use Rattle.apl_arrays.specs.Ravels.{items_of};
-ghost use Rattle.apl_search.specs.Found.{index_of, places_in};
+ghost use Rattle.apl_arrays.specs.Left.{listed};
+ghost use Rattle.apl_arrays.specs.Origins.{origin_number};
+ghost use Rattle.apl_search.specs.Found.{index_of, places_from};
 
 use crate::lookup::{codes_of, places_among, repeated};
-use apl_arrays::{Array, MAX_ELEMENTS, Ravel, Stop};
+use apl_arrays::{Array, Elements, MAX_ELEMENTS, Origin, Ravel, Stop};
 use apl_charset::Ch;
 use apl_faults::Fault;
 use std::alloc::{AllocError, Global};
@@ -15,21 +16,20 @@ use std::alloc::{AllocError, Global};
 /// For each item its first place among numbers, or how many these are, counted from the index origin.
 fn places_in_numbers(
     alloc: Global,
-    sought: &Ravel,
+    sought: Elements<'_>,
     among: &[i64],
-    origin: usize,
+    origin: Origin,
 ) -> Result<Vec<i64>, AllocError>
-    requires origin { origin ≤ 1 }
-    requires small { length among.now ≤ MAX_ELEMENTS }
-    ensures { IfOk result (λ v. v.items ≡ map (λ place. pos (origin + place)) (places_in (Numbers among.now) (items_of sought.now))) }
+    requires { length among.now ≤ MAX_ELEMENTS }
+    ensures { IfOk result (λ v. v.items ≡ places_from (origin_number origin) (Numbers among.now) (listed sought.entry)) }
 {
     match sought {
-        Ravel::Nums(numbers) => {
-            let places = places_among(alloc, numbers.as_slice(), among, origin)?;
+        Elements::Nums(numbers) => {
+            let places = places_among(alloc, numbers, among, origin)?;
             Ok(places)
         }
-        Ravel::Chars(characters) => {
-            let none = (origin + among.len()) as i64;
+        Elements::Chars(characters) => {
+            let none = (origin.number() + among.len()) as i64;
             let places = repeated(alloc, none, characters.len())?;
             Ok(places)
         }
@@ -39,23 +39,22 @@ fn places_in_numbers(
 /// For each item its first place among characters, or how many these are, counted from the index origin.
 fn places_in_characters(
     alloc: Global,
-    sought: &Ravel,
+    sought: Elements<'_>,
     among: &[Ch],
-    origin: usize,
+    origin: Origin,
 ) -> Result<Vec<i64>, AllocError>
-    requires origin { origin ≤ 1 }
-    requires small { length among.now ≤ MAX_ELEMENTS }
-    ensures { IfOk result (λ v. v.items ≡ map (λ place. pos (origin + place)) (places_in (Characters among.now) (items_of sought.now))) }
+    requires { length among.now ≤ MAX_ELEMENTS }
+    ensures { IfOk result (λ v. v.items ≡ places_from (origin_number origin) (Characters among.now) (listed sought.entry)) }
 {
     match sought {
-        Ravel::Nums(numbers) => {
-            let none = (origin + among.len()) as i64;
+        Elements::Nums(numbers) => {
+            let none = (origin.number() + among.len()) as i64;
             let places = repeated(alloc, none, numbers.len())?;
             Ok(places)
         }
-        Ravel::Chars(characters) => {
+        Elements::Chars(characters) => {
             let codes = codes_of(alloc, among)?;
-            let wanted = codes_of(alloc, characters.as_slice())?;
+            let wanted = codes_of(alloc, characters)?;
             let places = places_among(alloc, wanted.as_slice(), codes.as_slice(), origin)?;
             Ok(places)
         }
@@ -63,23 +62,22 @@ fn places_in_characters(
 }
 
 /// For each item its first place among others, or how many these are, counted from the index origin.
-fn places_in_ravel(
+fn places_in(
     alloc: Global,
-    sought: &Ravel,
-    among: &Ravel,
-    origin: usize,
+    sought: Elements<'_>,
+    among: Elements<'_>,
+    origin: Origin,
 ) -> Result<Vec<i64>, AllocError>
-    requires origin { origin ≤ 1 }
-    requires small { length (cells_of (items_of among.now)) ≤ MAX_ELEMENTS }
-    ensures { IfOk result (λ v. v.items ≡ map (λ place. pos (origin + place)) (places_in (items_of among.now) (items_of sought.now))) }
+    requires { length (cells_of (listed among)) ≤ MAX_ELEMENTS }
+    ensures { IfOk result (λ v. v.items ≡ places_from (origin_number origin) (listed among.entry) (listed sought.entry)) }
 {
     match among {
-        Ravel::Nums(numbers) => {
-            let places = places_in_numbers(alloc, sought, numbers.as_slice(), origin)?;
+        Elements::Nums(numbers) => {
+            let places = places_in_numbers(alloc, sought, numbers, origin)?;
             Ok(places)
         }
-        Ravel::Chars(characters) => {
-            let places = places_in_characters(alloc, sought, characters.as_slice(), origin)?;
+        Elements::Chars(characters) => {
+            let places = places_in_characters(alloc, sought, characters, origin)?;
             Ok(places)
         }
     }
@@ -100,12 +98,11 @@ fn one_axis(a: &Array) -> Result<(), Fault>
 /// A character is never equal to a number.
 ///
 /// Another count of axes of `a` than 1 is a rank fault, before memory is asked for.
-pub fn index_of(alloc: Global, a: &Array, b: &Array, origin: usize) -> Result<Array, Stop>
-    requires { origin ≤ 1 }
-    ensures value { Answers (λ r. r) (index_of a.now b.now origin) result }
-    ensures at_once { FaultsFirst (index_of a.now b.now origin) result }
+pub fn index_of(alloc: Global, a: &Array, b: &Array, origin: Origin) -> Result<Array, Stop>
+    ensures value { Answers (λ r. r) (index_of a.now b.now (origin_number origin)) result }
+    ensures at_once { FaultsFirst (index_of a.now b.now (origin_number origin)) result }
 {
     one_axis(a)?;
-    let places = places_in_ravel(alloc, b.ravel(), a.ravel(), origin)?;
+    let places = places_in(alloc, b.items(), a.items(), origin)?;
     Ok(b.with_ravel(Ravel::Nums(places))?)
 }

@@ -12,8 +12,8 @@ use Rattle.apl_arrays.specs.Cells.{Items, Numbers, Characters}
 use Rattle.apl_arrays.specs.Checks.{demand}
 use Rattle.apl_arrays.specs.Results.{ok_map}
 use Rattle.apl_arrays.proofs.InTurn.{range_below}
-use Rattle.apl_select.specs.Compress.{is_one, is_bit, bits_of, ones, common_count, kept, spread}
-use Rattle.apl_select.specs.Laying.{IsBelow}
+use Rattle.apl_select.specs.Compress.{is_one, is_bit, bits_of, ones, common_count, kept, spread, spread_at}
+use Rattle.apl_select.specs.inside.Laying.{IsBelow}
 use Rattle.apl_select.specs.Lined.{extended}
 use Rattle.apl_select.proofs.Lists.{range_more, all_mapped}
 
@@ -93,7 +93,7 @@ ones_of (Characters (c ∷ cs)) bits e = absurd (cc)
 
 pub spread_below : (items : Items) (bits : List ℤ) (n : ℕ) (places : List (Option ℕ)) → places ≡ spread bits n → bits_of items ≡ Ok bits → demand (n == 1 || ones items == n) Length ≡ Ok tt → All (IsBelow n) places
 spread_below items bits n places e f h =
-    rw e (all_mapped (IsBelow n) (λ k. k < length bits) (λ k. cond (is_one (get_or bits k (pos 0))) (Some (extended n (count_by is_one (take k bits)))) None)
+    rw e (all_mapped (IsBelow n) (λ k. k < length bits) (spread_at bits n)
     (λ k l. each k (is_one (get_or bits k (pos 0))) (λ t. count_before bits k l t)) (range_with_len 0 (length bits)) (range_below 0 (length bits) (length bits) (omega arith)))
   where
     as_many : (a b : Bool) → (b ≡ true → ones items ≡ n) → demand (a || b) Length ≡ Ok tt → a ≡ false → ones items ≡ n
@@ -115,10 +115,6 @@ kept_more_no bits n k places e h = e ∙ sym (append-nil (kept bits n k)) ∙ sy
 
 pub kept_more_yes : (bits : List ℤ) (n k : ℕ) (places news : List (Option ℕ)) → places ≡ kept bits n k → news ≡ places ++ Some (extended n k) ∷ [] → is_one (get_or bits (extended (length bits) k) (pos 0)) ≡ true → news ≡ kept bits n (k + 1)
 kept_more_yes bits n k places news e g h = g ∙ ap (λ l. l ++ Some (extended n k) ∷ []) e ∙ sym (kept_more bits n k true h)
-
--- what stands for the bit at k
-abbrev pub spread_at : List ℤ → ℕ → ℕ → Option ℕ
-spread_at bits n k = cond (is_one (get_or bits k (pos 0))) (Some (extended n (count_by is_one (take k bits)))) None
 
 pub spread_no : (bits : List ℤ) (n k : ℕ) (places news : List (Option ℕ)) → places ≡ map (spread_at bits n) (range_with_len 0 k) → news ≡ places ++ None ∷ [] → is_one (get_or bits k (pos 0)) ≡ false →
     news ≡ map (spread_at bits n) (range_with_len 0 (k + 1))

@@ -9,7 +9,7 @@ use Rattle.apl_arrays.specs.Index.{bound_of}
 use Rattle.apl_arrays.proofs.Places.{rest_of, room_step, room_so_far, size_le_bound, bound_of-pos, mul_low}
 use Rattle.apl_arrays.proofs.Order.{map_map}
 use Rattle.apl_select.specs.Indexing.{Places, joined_shape}
-use Rattle.apl_select.specs.Reached.{crossed, reached, AreOnAxes}
+use Rattle.apl_select.specs.inside.Reached.{crossed, reached, AreOnAxes}
 use Rattle.apl_select.proofs.Lists.{all_imply, all_flat, all_mapped, rest_from}
 use Rattle.apl_select.proofs.Laying.{length_small}
 use Rattle.apl_select.proofs.Reaching.{on_axis_at, length_on_axes, bound-append}

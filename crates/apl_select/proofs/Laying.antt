@@ -16,7 +16,7 @@ use Rattle.apl_arrays.specs.Views.{on_axis}
 use Rattle.apl_arrays.proofs.Order.{map_map, map_by_places, places_in_order}
 use Rattle.std.specs.Prelude.{slice_set}
 use Rattle.apl_select.specs.Lined.{item_or, filled}
-use Rattle.apl_select.specs.Laying.{block_of, plane_of, planes_of, IsBelow}
+use Rattle.apl_select.specs.inside.Laying.{block_of, plane_of, planes_of, IsBelow}
 use Rattle.apl_select.proofs.Lists.{flat_map_flat_map, map_flat_map, flat_map_equal, map_equal, all_read, all_imply}
 
 -- where an index list within the laid shape comes from
@@ -196,21 +196,20 @@ pub layout_size : (s : List ℕ) (axis planes len block : ℕ) → axis < length
 layout_size s axis planes len block l e f g = rw (e, f, g, add-one) (size_around s axis l)
 
 -- what is laid, as a layout has it
-pub layout_laid : {A : Type 0} (fill : A) (xs ys : List A) (s : List ℕ) (axis planes len block : ℕ) (places : List (Option ℕ)) → axis < length s → xs ≡ ys →
+pub layout_laid : {A : Type 0} (fill : A) (xs : List A) (s : List ℕ) (axis planes len block : ℕ) (places : List (Option ℕ)) → axis < length s →
     planes ≡ size_of (take axis s) → len ≡ get_or s axis 0 → block ≡ size_of (drop (axis + 1) s) →
-    planes_of (item_or fill xs) len block places planes ≡ map (λ i. item_or fill ys (source_of s axis places i)) (indices (on_axis axis (λ n. length places) s))
-layout_laid fill xs ys s axis planes len block places l d e f g =
-    ap (λ zs. planes_of (item_or fill zs) len block places planes) d
-    ∙ ap (λ n. planes_of (item_or fill ys) len block places n) e
-    ∙ ap (λ n. planes_of (item_or fill ys) n block places (size_of (take axis s))) f
-    ∙ ap (λ n. planes_of (item_or fill ys) (get_or s axis 0) n places (size_of (take axis s))) (g ∙ ap (λ k. size_of (drop k s)) (add-one axis))
-    ∙ sym (laid_out (item_or fill ys) axis s places l)
+    planes_of (item_or fill xs) len block places planes ≡ map (λ i. item_or fill xs (source_of s axis places i)) (indices (on_axis axis (λ n. length places) s))
+layout_laid fill xs s axis planes len block places l e f g =
+    ap (λ n. planes_of (item_or fill xs) len block places n) e
+    ∙ ap (λ n. planes_of (item_or fill xs) n block places (size_of (take axis s))) f
+    ∙ ap (λ n. planes_of (item_or fill xs) (get_or s axis 0) n places (size_of (take axis s))) (g ∙ ap (λ k. size_of (drop k s)) (add-one axis))
+    ∙ sym (laid_out (item_or fill xs) axis s places l)
 
-pub numbers_count : (items : Items) (zs ws : List ℤ) (n : ℕ) → length (cells_of items) ≡ n → items ≡ Numbers zs → ws ≡ zs → length ws ≡ n
-numbers_count items zs ws n full e f = ap length f ∙ sym (length-map zs Num) ∙ sym (ap (λ (t : Items). length (cells_of t)) e) ∙ full
+pub numbers_count : (items : Items) (zs : List ℤ) (n : ℕ) → length (cells_of items) ≡ n → items ≡ Numbers zs → length zs ≡ n
+numbers_count items zs n full e = sym (length-map zs Num) ∙ sym (ap (λ (t : Items). length (cells_of t)) e) ∙ full
 
-pub characters_count : (items : Items) (cs ds : List ℕ) (n : ℕ) → length (cells_of items) ≡ n → items ≡ Characters cs → ds ≡ cs → length ds ≡ n
-characters_count items cs ds n full e f = ap length f ∙ sym (length-map cs Char) ∙ sym (ap (λ (t : Items). length (cells_of t)) e) ∙ full
+pub characters_count : (items : Items) (cs : List ℕ) (n : ℕ) → length (cells_of items) ≡ n → items ≡ Characters cs → length cs ≡ n
+characters_count items cs n full e = sym (length-map cs Char) ∙ sym (ap (λ (t : Items). length (cells_of t)) e) ∙ full
 
 -- one length changed
 pub set_axis : (s : List ℕ) (axis m : ℕ) → slice_set s axis m ≡ on_axis axis (λ n. m) s

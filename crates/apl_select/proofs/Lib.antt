@@ -10,3 +10,4 @@ pub mod Choosing
 pub mod Writing
 pub mod Fits
 pub mod Assigned
+pub mod SinglePlace

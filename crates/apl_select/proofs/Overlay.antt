@@ -13,9 +13,9 @@ use Rattle.apl_arrays.proofs.AtPlace.{at_place}
 use Rattle.apl_select.specs.Lined.{extended, item_or}
 use Rattle.apl_select.specs.Indexing.{Places, joined_shape, led_to}
 use Rattle.apl_select.specs.Assignment.{either_of, last_where, last_to, overlaid}
-use Rattle.apl_select.specs.Reached.{AreOnAxes}
-use Rattle.apl_select.specs.Written.{put_at}
-use Rattle.apl_select.proofs.Reaching.{led, led_within}
+use Rattle.apl_select.specs.inside.Reached.{led, AreOnAxes}
+use Rattle.apl_select.specs.inside.Written.{put_at}
+use Rattle.apl_select.proofs.Reaching.{led_within}
 
 either_none : {A : Type 0} (o : Option A) → either_of o None ≡ o
 either_none None = refl

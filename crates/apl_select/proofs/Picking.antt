@@ -15,10 +15,10 @@ use Rattle.apl_arrays.specs.Results.{and_then, ok_map, all_ok}
 use Rattle.apl_arrays.proofs.InTurn.{after, after_one, all_ok-map, range_below}
 use Rattle.apl_arrays.proofs.Places.{both, rest_of}
 use Rattle.apl_select.specs.Indexing.{Places, place_numbered, picked_by, all_picked}
-use Rattle.apl_select.specs.Reached.{AreOnAxes}
+use Rattle.apl_select.specs.inside.Reached.{AreOnAxes}
 use Rattle.apl_select.proofs.Lists.{all_read, all_from, rest_from}
 
-numbered_below : (n origin : ℕ) (z : ℤ) (p : ℕ) → place_numbered n origin z ≡ Ok p → p < n
+pub numbered_below : (n origin : ℕ) (z : ℤ) (p : ℕ) → place_numbered n origin z ≡ Ok p → p < n
 numbered_below n origin (pos z) p e = at (nat_le origin z && nat_lt (z - origin) n) (λ h. ltb-true (z - origin) n (both (nat_le origin z) (nat_lt (z - origin) n) h).1) e
   where
     at : (b : Bool) → (b ≡ true → z - origin < n) → cond b (Ok (z - origin)) (Err Index) ≡ Ok p → p < n

@@ -8,7 +8,7 @@ use Rattle.apl_arrays.specs.Index.{size_of, bound_of, indices, is_within, positi
 use Rattle.apl_arrays.proofs.Places.{both, position_in-lt, within_head}
 use Rattle.apl_arrays.proofs.Order.{map_map, places_in_order, all_within, within_cons}
 use Rattle.apl_select.specs.Indexing.{Places, joined_shape, led_to}
-use Rattle.apl_select.specs.Reached.{crossed, reached, AreOnAxes}
+use Rattle.apl_select.specs.inside.Reached.{crossed, led, reached, AreOnAxes}
 use Rattle.apl_select.proofs.Lists.{flat_map_flat_map, map_flat_map, flat_map_same, flat_map_equal, map_equal, all_read, all_mapped}
 
 -- the index lists of two shapes one after the other
@@ -82,10 +82,6 @@ reached_onward starts (n ∷ ns) (p ∷ ps) f =
     ∙ flat_map_equal (λ s. flat_map (onward ns ps) (map (λ k. s * n + k) p.places)) (onward (n ∷ ns) (p ∷ ps))
     (λ s. flat_map-map (onward ns ps) (λ k. s * n + k) p.places ∙ sym (onward_step n ns p ps s f.0)) starts
 
--- the places to which the index lists of what is joined lead
-abbrev pub led : List ℕ → List Places → List ℕ
-led shape ps = map (λ i. position_in shape (led_to ps i)) (indices (joined_shape ps))
-
 pub reached_led : (shape : List ℕ) (ps : List Places) → AreOnAxes shape ps → reached (0 ∷ []) shape ps ≡ led shape ps
 reached_led shape ps f =
     reached_onward (0 ∷ []) shape ps f ∙ append-nil (onward shape ps 0)
@@ -145,9 +141,8 @@ bound-append (n ∷ ns) t = ap (λ b. max n 1 * b) (bound-append ns t) ∙ turn 
     turn a b c = omega arith
 
 -- what is read at all places that are reached
-pub read_led : {A : Type 0} (xs ys : List A) (d : A) (shape : List ℕ) (ps : List Places) → AreOnAxes shape ps → xs ≡ ys →
-    map (λ q. get_or xs q d) (reached (0 ∷ []) shape ps) ≡ map (λ i. get_or ys (position_in shape (led_to ps i)) d) (indices (joined_shape ps))
-read_led xs ys d shape ps f e =
-    ap (λ z. map (λ q. get_or z q d) (reached (0 ∷ []) shape ps)) e
-    ∙ ap (map (λ q. get_or ys q d)) (reached_led shape ps f)
-    ∙ map_map (λ q. get_or ys q d) (λ i. position_in shape (led_to ps i)) (indices (joined_shape ps))
+pub read_led : {A : Type 0} (xs : List A) (d : A) (shape : List ℕ) (ps : List Places) → AreOnAxes shape ps →
+    map (λ q. get_or xs q d) (reached (0 ∷ []) shape ps) ≡ map (λ i. get_or xs (position_in shape (led_to ps i)) d) (indices (joined_shape ps))
+read_led xs d shape ps f =
+    ap (map (λ q. get_or xs q d)) (reached_led shape ps f)
+    ∙ map_map (λ q. get_or xs q d) (λ i. position_in shape (led_to ps i)) (indices (joined_shape ps))

@@ -1,10 +1,10 @@
 -- Writes to places one after another, as loops have them, and what they make of an array.
-use Rattle.std.proofs.Common.{◌≡◌, ℕ, ℤ, pos, ◌+◌, ◌<◌, ◌≤◌, Bool, true, false, cond, List, [], ◌∷◌, map, set, drop, length, get_or, refl, ap, sym, ◌∙◌, arith, add-one, subst, Option, None, Some, get_or-set_same, get_or-set_other}
+use Rattle.std.proofs.Common.{◌≡◌, ℕ, ℤ, pos, ◌+◌, ◌<◌, Bool, true, false, cond, List, map, set, length, get_or, refl, ap, sym, ◌∙◌, arith, add-one, subst, Option, None, Some, get_or-set_same, get_or-set_other}
 use Rattle.std.specs.Prelude.{nat_eq}
 use Rattle.std.specs.Option.{option_map}
 use Rattle.std.specs.List.{range_with_len, All}
 use Rattle.std.proofs.lemmas.Bool.{eqb-true, eqb-false}
-use Rattle.std.proofs.lemmas.List.{get_or_read, length-map, drop_all}
+use Rattle.std.proofs.lemmas.List.{get_or_read, length-map}
 use Rattle.std.proofs.lemmas.List.FromFn.{fill_by_all, length-range_with_len}
 use Rattle.apl_arrays.specs.declared.cell.Cell.TheVariants.{Num, Char}
 use Rattle.apl_arrays.specs.Index.{size_of, indices, position_in}
@@ -13,10 +13,10 @@ use Rattle.apl_arrays.proofs.Order.{length-indices}
 use Rattle.apl_select.specs.Lined.{extended, item_or}
 use Rattle.apl_select.specs.Indexing.{Places, joined_shape, led_to}
 use Rattle.apl_select.specs.Assignment.{either_of, last_where, last_to, overlaid, overlaid_items, written}
-use Rattle.apl_select.specs.Reached.{reached, AreOnAxes}
-use Rattle.apl_select.specs.Written.{put_at, put_all, put_items, AreEnough}
+use Rattle.apl_select.specs.inside.Reached.{led, AreOnAxes}
+use Rattle.apl_select.specs.inside.Written.{put_at, put_all, put_items, overwritten, AreEnough}
 use Rattle.apl_select.proofs.Lists.{range_more}
-use Rattle.apl_select.proofs.Reaching.{led, reached_led, led_below}
+use Rattle.apl_select.proofs.Reaching.{led_below}
 use Rattle.apl_select.proofs.Overlay.{last_where_more, overlaid_put}
 
 -- one write more
@@ -92,29 +92,17 @@ length-put_items (Characters xs) (Numbers ys) places = refl
 length-put_items (Characters xs) (Characters ys) places = length-map (put_all 0 xs ys places) Char ∙ length-put_all 0 xs ys places ∙ sym (length-map xs Char)
 
 -- the array that they make
-pub written_is : (v b : Arr) (ps : List Places) (to from items : Items) (places : List ℕ) (r : Arr) → AreOnAxes v.shape ps → length (cells_of v.items) ≡ size_of v.shape → to ≡ v.items → from ≡ b.items →
-    places ≡ led v.shape ps → items ≡ put_items to from places → r ≡ record { shape = v.shape; items = items } → written v ps b ≡ r
-written_is v b ps to from items places r f full d e p g h =
-    sym (h ∙ ap made (g ∙ ap (λ (t : Items). put_items t from places) d ∙ ap (λ (t : Items). put_items v.items t places) e ∙ put_items_led v.items b.items v.shape ps places f full p))
-  where
-    made : Items → Arr
-    made t = record { shape = v.shape; items = t }
+pub written_is : (v b : Arr) (ps : List Places) (places : List ℕ) → AreOnAxes v.shape ps → length (cells_of v.items) ≡ size_of v.shape → places ≡ led v.shape ps → written v ps b ≡ overwritten v b places
+written_is v b ps places f full p = sym (ap (λ (t : Items). record { shape = v.shape; items = t }) (put_items_led v.items b.items v.shape ps places f full p))
 
--- the places after all axes
-pub all_led : (shape s : List ℕ) (ps : List Places) (axes : ℕ) (starts places : List ℕ) → AreOnAxes shape ps → s ≡ shape → length s ≤ axes → reached starts (drop axes s) (drop axes ps) ≡ reached (0 ∷ []) s ps → places ≡ starts →
-    places ≡ led shape ps
-all_led shape s ps axes starts places f d l g e =
-    e ∙ sym (ap (λ (z : List ℕ). reached starts z (drop axes ps)) (drop_all axes s l)) ∙ g ∙ ap (λ (z : List ℕ). reached (0 ∷ []) z ps) d ∙ reached_led shape ps f
-
--- they lie within, and are so many
+-- the places to which picks lead lie within, and are so many
 pub led_inside : (shape : List ℕ) (ps : List Places) (places : List ℕ) (n : ℕ) → AreOnAxes shape ps → places ≡ led shape ps → n ≡ size_of shape → All (λ q. q < n) places
 led_inside shape ps places n f e h =
     let P : List ℕ → Type 0 = λ l. All (λ q. q < n) l in
     let Q : ℕ → Type 0 = λ m. All (λ q. q < m) (led shape ps) in
     subst P (sym e) (subst Q (sym h) (led_below shape ps f))
 
-pub enough_led : (shape : List ℕ) (ps : List Places) (places : List ℕ) (n m : ℕ) → places ≡ led shape ps → m ≡ n → AreEnough n (size_of (joined_shape ps)) → AreEnough m (length places)
-enough_led shape ps places n m e g h =
-    let P : ℕ → Type 0 = λ k. AreEnough k (length places) in
+pub enough_led : (shape : List ℕ) (ps : List Places) (places : List ℕ) (n : ℕ) → places ≡ led shape ps → AreEnough n (size_of (joined_shape ps)) → AreEnough n (length places)
+enough_led shape ps places n e h =
     let Q : ℕ → Type 0 = λ k. AreEnough n k in
-    subst P (sym g) (subst Q (sym (ap length e ∙ length-led shape ps)) h)
+    subst Q (sym (ap length e ∙ length-led shape ps)) h

@@ -1,5 +1,6 @@
 -- Indexed assignment.
-use Rattle.std.specs.Prelude.{ℕ, pos, ◌==◌, ◌||◌, Bool, true, false, not, cond, List, [], ◌∷◌, map, length, slice_index_or, Option, None, Some, Result, Ok}
+use Rattle.std.specs.Prelude.{ℕ, pos, ◌==◌, ◌||◌, Bool, true, false, not, cond, List, [], ◌∷◌}
+use Rattle.std.specs.Prelude.{map, length, slice_index_or, Option, None, Some, Result, Ok}
 use Rattle.std.specs.Option.{option_map}
 use Rattle.std.specs.List.{filter}
 use Rattle.apl_faults.specs.declared.fault.Fault.{Fault}
@@ -58,10 +59,14 @@ overlaid_items (Characters xs) (Characters ys) shape source = Characters (overla
 abbrev pub written : Arr → List Places → Arr → Arr
 written v ps b = record { shape = v.shape; items = overlaid_items v.items b.items v.shape (last_to ps) }
 
--- indexed assignment: the slots, LIMIT of what they pick, RANK and LENGTH, and DOMAIN for another type unless nothing is picked
+-- elements of one type may be written to so many places
+abbrev pub typed : ℕ → Items → Items → Result (Unit {0}) Fault
+typed count to from = demand (count == 0 || same_type to from) Domain
+
+-- what comes after the slots and the limits of what they pick: RANK and LENGTH, and DOMAIN for another type unless nothing is picked
+abbrev pub assigned_at : Arr → List Places → List ℕ → Arr → Result Arr Fault
+assigned_at v ps shape b = and_then (fits_over shape b) (λ u. ok_map (λ u. written v ps b) (typed (size_of shape) v.items b.items))
+
+-- indexed assignment: the slots, LIMIT of what they pick, and what comes after
 abbrev pub assigned : Arr → List (Option Arr) → Arr → ℕ → Result Arr Fault
-assigned v slots b origin =
-    and_then (slots_of v origin slots) (λ ps.
-    and_then (limited (joined_shape ps)) (λ shape.
-    and_then (fits_over shape b) (λ u.
-    ok_map (λ u. written v ps b) (demand (size_of shape == 0 || same_type v.items b.items) Domain))))
+assigned v slots b origin = and_then (slots_of v origin slots) (λ ps. and_then (limited (joined_shape ps)) (λ shape. assigned_at v ps shape b))

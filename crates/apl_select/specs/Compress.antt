@@ -1,5 +1,6 @@
 -- Compression and expansion: a vector of zeros and ones along an axis.
-use Rattle.std.specs.Prelude.{ℕ, ℤ, pos, negsuc, ◌==◌, ◌||◌, nat_lt, Bool, false, cond, List, map, take, length, slice_index_or, count_by, Option, None, Some, Result, Ok, Err}
+use Rattle.std.specs.Prelude.{ℕ, ℤ, pos, negsuc, ◌==◌, ◌||◌, nat_lt, Bool, false, cond}
+use Rattle.std.specs.Prelude.{List, map, take, length, slice_index_or, count_by, Option, None, Some, Result, Ok, Err}
 use Rattle.std.specs.List.{filter, list_all, range_with_len}
 use Rattle.apl_faults.specs.declared.fault.Fault.{Fault}
 use Rattle.apl_faults.specs.declared.fault.Fault.TheVariants.{Domain, Length}
@@ -37,9 +38,13 @@ common_count m n = cond (m == 1) (Ok n) (cond (n == 1) (Ok m) (cond (m == n) (Ok
 abbrev pub kept : List ℤ → ℕ → ℕ → List (Option ℕ)
 kept bits n count = map (λ k. Some (extended n k)) (filter (λ k. is_one (slice_index_or bits (extended (length bits) k) (pos 0))) (range_with_len 0 count))
 
--- at each 1 the next place on an axis of length n, at each 0 none
+-- the place on an axis of length n for the bit at k: at a 1 the next one, at a 0 none
+abbrev pub spread_at : List ℤ → ℕ → ℕ → Option ℕ
+spread_at bits n k = cond (is_one (slice_index_or bits k (pos 0))) (Some (extended n (count_by is_one (take k bits)))) None
+
+-- the same of all bits
 abbrev pub spread : List ℤ → ℕ → List (Option ℕ)
-spread bits n = map (λ k. cond (is_one (slice_index_or bits k (pos 0))) (Some (extended n (count_by is_one (take k bits)))) None) (range_with_len 0 (length bits))
+spread bits n = map (spread_at bits n) (range_with_len 0 (length bits))
 
 -- the axis along which a mask goes: a given axis first, then RANK where the mask has more than one axis
 abbrev pub mask_axis : Along → Arr → Arr → ℕ → Result ℕ Fault
@@ -55,6 +60,14 @@ abbrev pub places_spread : Arr → ℕ → Arr → Result (List (Option ℕ)) Fa
 places_spread a axis b =
     and_then (demand (length_of b axis == 1 || ones a.items == length_of b axis) Length) (λ u.
     ok_map (λ bits. spread bits (length_of b axis)) (bits_of a.items))
+
+-- what compression checks before it asks for memory: the axis and the mask, then their lengths
+abbrev pub compression_checks : Along → Arr → Arr → ℕ → Result (List (Option ℕ)) Fault
+compression_checks along a b origin = and_then (mask_axis along a b origin) (λ axis. places_kept a axis (lined b))
+
+-- the same of expansion
+abbrev pub expansion_checks : Along → Arr → Arr → ℕ → Result (List (Option ℕ)) Fault
+expansion_checks along a b origin = and_then (mask_axis along a b origin) (λ axis. places_spread a axis (lined b))
 
 -- the places at ones are kept, the result's limits last
 abbrev pub compressed_along : Arr → ℕ → Arr → Result Arr Fault

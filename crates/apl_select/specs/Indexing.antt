@@ -1,12 +1,13 @@
 -- Elements by index lists: for each axis a slot, which holds numbers of places on it or is empty.
-use Rattle.std.specs.Prelude.{ℕ, ℤ, pos, negsuc, ◌-◌, ◌==◌, ◌&&◌, nat_lt, nat_le, cond, List, [], ◌∷◌, drop, length, slice_index_or, Option, None, Some, Result, Ok, Err}
+use Rattle.std.specs.Prelude.{ℕ, ℤ, pos, negsuc, ◌-◌, ◌==◌, ◌&&◌, nat_lt, nat_le, cond}
+use Rattle.std.specs.Prelude.{List, [], ◌∷◌, drop, length, slice_index_or, Option, None, Some, Result, Ok, Err}
 use Rattle.std.specs.List.{flat_map, range_with_len}
 use Rattle.apl_faults.specs.declared.fault.Fault.{Fault}
 use Rattle.apl_faults.specs.declared.fault.Fault.TheVariants.{Index, Rank}
-use Rattle.apl_arrays.specs.Index.{position_in}
-use Rattle.apl_arrays.specs.Cells.{Arr}
+use Rattle.apl_arrays.specs.Index.{indices, position_in}
+use Rattle.apl_arrays.specs.Cells.{Arr, Items}
 use Rattle.apl_arrays.specs.Results.{and_then, ok_map, all_ok}
-use Rattle.apl_arrays.specs.Views.{selected}
+use Rattle.apl_arrays.specs.Views.{picked, selected}
 use Rattle.apl_arrays.specs.Checks.{demand, limited, numbers_of}
 
 -- a number that counts places from the index origin, as a place below n
@@ -22,7 +23,8 @@ pub record Places : Type 0 where
 -- what a slot picks of an axis of length n: an empty one the whole axis, DOMAIN before INDEX
 abbrev pub picked_by : ℕ → ℕ → Option Arr → Result Places Fault
 picked_by n origin None = Ok (record { shape = n ∷ []; places = range_with_len 0 n })
-picked_by n origin (Some a) = and_then (numbers_of a.items) (λ zs. ok_map (λ ps. record { shape = a.shape; places = ps }) (all_ok (place_numbered n origin) zs))
+picked_by n origin (Some a) =
+    and_then (numbers_of a.items) (λ zs. ok_map (λ ps. record { shape = a.shape; places = ps }) (all_ok (place_numbered n origin) zs))
 
 -- the same of each axis, from left to right
 abbrev pub all_picked : List ℕ → ℕ → List (Option Arr) → Result (List Places) Fault
@@ -46,6 +48,10 @@ joined_shape ps = flat_map (λ p. p.shape) ps
 abbrev pub led_to : List Places → List ℕ → List ℕ
 led_to [] i = []
 led_to (p ∷ ps) i = slice_index_or p.places (position_in p.shape i) 0 ∷ led_to ps (drop (length p.shape) i)
+
+-- the elements to which the index lists within the joined shape lead
+abbrev pub items_led_to : Items → List ℕ → List Places → Items
+items_led_to items shape ps = picked items (λ i. position_in shape (led_to ps i)) (indices (joined_shape ps))
 
 -- indexing: the slots, then LIMIT of the joined shape; at each index list the element to which it leads
 abbrev pub indexed : Arr → List (Option Arr) → ℕ → Result Arr Fault

@@ -2,6 +2,4 @@ pub mod Lined
 pub mod Compress
 pub mod Indexing
 pub mod Assignment
-pub mod Reached
-pub mod Laying
-pub mod Written
+pub mod inside

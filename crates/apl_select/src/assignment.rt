@@ -1,50 +1,86 @@
 // Indexed assignment.
-ghost use Rattle.std.specs.Prelude.{◌≡◌, ◌≤◌, ◌==◌, ◌||◌, Ok};
-ghost use Rattle.apl_faults.specs.declared.fault.Fault.TheVariants.{Domain};
+ghost use Rattle.std.specs.Prelude.{◌≡◌, ◌<◌, ◌≤◌, length, IfOk, MatchBool, Ok, OnErr};
+ghost use Rattle.std.specs.List.{All};
 ghost use Rattle.apl_arrays.specs.Answers.{Answers, FaultsFirst};
-ghost use Rattle.apl_arrays.specs.Checks.{count_of, demand};
-ghost use Rattle.apl_arrays.specs.Index.{bound_of, size_of};
-ghost use Rattle.apl_arrays.specs.Results.{and_then, ok_map};
-ghost use Rattle.apl_select.specs.Assignment.{assigned, fits_over, same_type, written};
+ghost use Rattle.apl_arrays.specs.Checks.{count_of};
+ghost use Rattle.apl_arrays.specs.Index.{bound_of};
+ghost use Rattle.apl_arrays.specs.Origins.{origin_number};
+ghost use Rattle.apl_select.specs.Assignment.{assigned, assigned_at};
 ghost use Rattle.apl_select.specs.Indexing.{joined_shape, slots_fit};
-ghost use Rattle.apl_select.specs.Reached.{AreOnAxes};
-ghost use Rattle.apl_select.specs.Written.{AreEnough};
+ghost use Rattle.apl_select.specs.inside.Reached.{AreOnAxes};
+ghost use Rattle.apl_select.specs.inside.Written.{overwritten, AreEnough};
 
 use crate::fitting::{fits_over, of_one_type};
-use crate::overwrite::overwrite_ravel;
-use crate::reach::starts_of;
+use crate::overwrite::overwrite_items;
+use crate::reach::places_led;
+use crate::single::place_picked;
 use crate::slots::{Picked, joined_shape, picks_of};
-use apl_arrays::{Array, MAX_ELEMENTS, Stop, size, within_limits};
-use std::alloc::Global;
+use apl_arrays::{Array, Elements, MAX_ELEMENTS, Origin, Stop, size, within_limits};
+use std::alloc::{AllocError, Global};
 
-/// An array with the elements of `b`, which are enough, written where index lists within what is joined lead.
-fn written(alloc: Global, v: &Array, picks: &[Picked], b: &Array) -> Result<Array, Stop>
-    requires on_axes { AreOnAxes v.now.shape picks.now }
-    requires room { bound_of (joined_shape picks.now) ≤ MAX_ELEMENTS }
-    requires enough { AreEnough (count_of b.now) (size_of (joined_shape picks.now)) }
-    ensures { Answers (λ r. r) (Ok (written v.now picks.now b.now)) result }
-{
-    let places = starts_of(alloc, v.shape(), picks, v.rank())?;
-    let ravel = overwrite_ravel(alloc, v.ravel(), b.ravel(), places.as_slice())?;
-    Ok(v.with_ravel(ravel)?)
-}
-
-/// The same, where it is asked whether `b` fits the joined shape: its shape first and then its type.
-fn assign(
+/// The places to which index lists within what is joined lead, where `b` fits the joined shape: its shape is asked first and then its type.
+fn places_at(
     alloc: Global,
     v: &Array,
     picks: &[Picked],
     shape: &[usize],
     b: &Array,
-) -> Result<Array, Stop>
+) -> Result<Vec<usize>, Stop>
     requires on_axes { AreOnAxes v.now.shape picks.now }
     requires joined { shape.now ≡ joined_shape picks.now }
     requires room { bound_of shape.now ≤ MAX_ELEMENTS }
-    ensures { Answers (λ r. r) (and_then (fits_over shape.now b.now) (λ u. ok_map (λ u. written v.now picks.now b.now) (demand (size_of shape.now == 0 || same_type v.now.items b.now.items) Domain))) result }
+    ensures value { Answers (λ places. overwritten v.now b.now places.items) (assigned_at v.now picks.now shape.now b.now) result }
+    ensures within { IfOk result (λ places. All (λ q. q < count_of v.now) places.items) }
+    ensures enough { IfOk result (λ places. AreEnough (count_of b.now) (length places.items)) }
 {
     fits_over(alloc, shape, b)?;
-    of_one_type(size(shape), v.ravel(), b.ravel())?;
-    written(alloc, v, picks, b)
+    of_one_type(size(shape), v.items(), b.items())?;
+    let places = places_led(alloc, v.shape(), picks)?;
+    Ok(places)
+}
+
+/// The places that an indexed assignment writes one after another, where everything fits.
+fn places_assigned(
+    alloc: Global,
+    v: &Array,
+    slots: &[Option<Array>],
+    b: &Array,
+    origin: usize,
+) -> Result<Vec<usize>, Stop>
+    ensures value { Answers (λ places. overwritten v.now b.now places.items) (assigned v.now slots.now b.now origin) result }
+    ensures at_once { FaultsFirst (slots_fit v.now slots.now) result }
+    ensures within { IfOk result (λ places. All (λ q. q < count_of v.now) places.items) }
+    ensures enough { IfOk result (λ places. AreEnough (count_of b.now) (length places.items)) }
+{
+    let picks = picks_of(alloc, v, slots, origin)?;
+    let shape = joined_shape(alloc, picks.as_slice())?;
+    within_limits(shape.as_slice())?;
+    places_at(alloc, v, picks.as_slice(), shape.as_slice(), b)
+}
+
+/// The array `v` with the elements of `b`, which are enough, written to places one after another.
+fn overwritten(alloc: Global, v: &Array, b: &Array, places: &[usize]) -> Result<Array, AllocError>
+    requires within { All (λ q. q < count_of v.now) places.now }
+    requires enough { AreEnough (count_of b.now) (length places.now) }
+    ensures { IfOk result (λ array. array ≡ overwritten v.now b.now places.now) }
+{
+    let ravel = overwrite_items(alloc, v.items(), b.items(), places)?;
+    v.with_ravel(ravel)
+}
+
+/// Writes a number in place of the one element that slots pick, and says whether it did. It did not where anything is at fault, where more
+/// is written than a number, or where a copy shares the elements.
+#[inline]
+fn number_assigned(array: &mut Array, slots: &[Option<Array>], value: &Array, origin: usize) -> bool
+    ensures { MatchBool result (assigned array.old slots.now value.now origin ≡ Ok array.new) (array.new ≡ array.old) }
+{
+    let Some(place) = place_picked(array, slots, origin) else {
+        return false;
+    };
+    match value.items() {
+        Elements::Nums([number]) => array.set_number(place, *number),
+        _ => false,
+    }
 }
 
 /// The array `v` with the elements of `b` where slots pick, one slot for each axis, in ravel order of the slots' shapes one after another:
@@ -60,13 +96,34 @@ pub fn index_assign(
     v: &Array,
     slots: &[Option<Array>],
     b: &Array,
-    origin: usize,
+    origin: Origin,
 ) -> Result<Array, Stop>
-    ensures value { Answers (λ r. r) (assigned v.now slots.now b.now origin) result }
+    ensures value { Answers (λ r. r) (assigned v.now slots.now b.now (origin_number origin)) result }
     ensures at_once { FaultsFirst (slots_fit v.now slots.now) result }
 {
-    let picks = picks_of(alloc, v, slots, origin)?;
-    let shape = joined_shape(alloc, picks.as_slice())?;
-    within_limits(shape.as_slice())?;
-    assign(alloc, v, picks.as_slice(), shape.as_slice(), b)
+    let places = places_assigned(alloc, v, slots, b, origin.number())?;
+    Ok(overwritten(alloc, v, b, places.as_slice())?)
+}
+
+/// The same in place of the array, which stays as it was after each error.
+///
+/// One number for slots of one number each takes no memory, unless a copy of the array shares its elements.
+pub fn index_assign_into(
+    alloc: Global,
+    array: &mut Array,
+    slots: &[Option<Array>],
+    value: &Array,
+    origin: Origin,
+) -> Result<(), Stop>
+    ensures value { Answers (λ u. array.new) (assigned array.old slots.now value.now (origin_number origin)) result }
+    ensures at_once { FaultsFirst (slots_fit array.old slots.now) result }
+    ensures err { OnErr result (array.new ≡ array.old) }
+{
+    let first = origin.number();
+    if number_assigned(array, slots, value, first) {
+        return Ok(());
+    }
+    let places = places_assigned(alloc, array, slots, value, first)?;
+    *array = overwritten(alloc, array, value, places.as_slice())?;
+    Ok(())
 }

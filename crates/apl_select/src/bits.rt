@@ -2,12 +2,12 @@
 ghost use Rattle.std.specs.Prelude.{◌≡◌, ◌≢◌, ◌+◌, ◌<◌, ◌≤◌, ◌==◌, ◌||◌, length, pos, slice_index_or, count_by, IfOk, Ok};
 ghost use Rattle.std.specs.List.{list_all};
 ghost use Rattle.apl_arrays.specs.Checks.{demand};
-ghost use Rattle.apl_arrays.specs.Ravels.{items_of};
+ghost use Rattle.apl_arrays.specs.Left.{listed};
 ghost use Rattle.apl_arrays.specs.Results.{ok_map};
 ghost use Rattle.apl_select.specs.Compress.{bits_of, common_count, is_bit, is_one, kept, ones, spread};
 ghost use Rattle.apl_select.specs.Lined.{extended};
 
-use apl_arrays::{Ravel, numbers_in};
+use apl_arrays::{Elements, numbers_in};
 use apl_faults::Fault;
 use std::alloc::{AllocError, Global};
 
@@ -43,11 +43,11 @@ fn are_bits(numbers: &[i64]) -> bool
     numbers.iter().all(|number| is_bit(*number))
 }
 
-/// The numbers of a ravel, which are 0 or 1 each. Anything else is a domain fault.
-pub(crate) fn bits_in(ravel: &Ravel) -> Result<&[i64], Fault>
-    ensures { bits_of (items_of ravel.now) ≡ ok_map (λ bits. bits.now) result }
+/// The elements, which are 0 or 1 each. Anything else is a domain fault.
+pub(crate) fn bits_in(items: Elements<'_>) -> Result<&[i64], Fault>
+    ensures { bits_of (listed items.entry) ≡ ok_map (λ bits. bits.now) result }
 {
-    let numbers = numbers_in(ravel)?;
+    let numbers = numbers_in(items)?;
     if are_bits(numbers) {
         Ok(numbers)
     } else {
@@ -63,12 +63,12 @@ fn count_ones(numbers: &[i64]) -> usize
 }
 
 /// How many elements are 1. No character is.
-pub(crate) fn ones(ravel: &Ravel) -> usize
-    ensures { result ≡ ones (items_of ravel.now) }
+pub(crate) fn ones(items: Elements<'_>) -> usize
+    ensures { result ≡ ones (listed items.entry) }
 {
-    match ravel {
-        Ravel::Nums(numbers) => count_ones(numbers.as_slice()),
-        Ravel::Chars(_) => 0,
+    match items {
+        Elements::Nums(numbers) => count_ones(numbers),
+        Elements::Chars(_) => 0,
     }
 }
 

@@ -4,14 +4,14 @@ ghost use Rattle.apl_arrays.specs.Answers.{Answers, FaultsFirst};
 ghost use Rattle.apl_arrays.specs.Cells.{cells_of};
 ghost use Rattle.apl_arrays.specs.Checks.{vector_rank};
 ghost use Rattle.apl_arrays.specs.Index.{bound_of, size_of};
-ghost use Rattle.apl_arrays.specs.Ravels.{items_of};
-ghost use Rattle.apl_arrays.specs.Results.{and_then};
-ghost use Rattle.apl_select.specs.Compress.{compressed, compressed_along, expanded, expanded_along, mask_axis, places_kept, places_spread};
-ghost use Rattle.apl_select.specs.Lined.{lined};
+ghost use Rattle.apl_arrays.specs.Left.{listed};
+ghost use Rattle.apl_arrays.specs.Origins.{origin_number};
+ghost use Rattle.apl_select.specs.Compress.{compressed, compressed_along, compression_checks, places_kept};
+ghost use Rattle.apl_select.specs.Compress.{expanded, expanded_along, expansion_checks, places_spread};
 
 use crate::bits::{bits_in, common_count, fits_ones, kept, ones, spread};
 use crate::lines::{axis_in, laid, lined_shape};
-use apl_arrays::{Along, Array, MAX_ELEMENTS, Ravel, Stop};
+use apl_arrays::{Along, Array, Elements, MAX_ELEMENTS, Origin, Stop};
 use apl_faults::Fault;
 use std::alloc::Global;
 
@@ -32,18 +32,18 @@ fn compress_along(
     a: &Array,
     axis: usize,
     shape: &[usize],
-    ravel: &Ravel,
+    items: Elements<'_>,
 ) -> Result<Array, Stop>
     requires axis { axis < length shape.now }
-    requires full { length (cells_of (items_of ravel.now)) ≡ size_of shape.now }
+    requires full { length (cells_of (listed items)) ≡ size_of shape.now }
     requires small { bound_of shape.now ≤ MAX_ELEMENTS }
-    ensures value { Answers (λ r. r) (compressed_along a.now axis (record { shape = shape.now; items = items_of ravel.now })) result }
-    ensures at_once { FaultsFirst (places_kept a.now axis (record { shape = shape.now; items = items_of ravel.now })) result }
+    ensures value { Answers (λ r. r) (compressed_along a.now axis (record { shape = shape.now; items = listed items.entry })) result }
+    ensures at_once { FaultsFirst (places_kept a.now axis (record { shape = shape.now; items = listed items.entry })) result }
 {
-    let count = common_count(a.ravel().len(), shape[axis])?;
-    let bits = bits_in(a.ravel())?;
+    let count = common_count(a.items().len(), shape[axis])?;
+    let bits = bits_in(a.items())?;
     let places = kept(alloc, bits, shape[axis], count)?;
-    laid(alloc, ravel, shape, axis, places.as_slice())
+    laid(alloc, items, shape, axis, places.as_slice())
 }
 
 /// The expansion of elements in a shape, along an axis.
@@ -52,18 +52,18 @@ fn expand_along(
     a: &Array,
     axis: usize,
     shape: &[usize],
-    ravel: &Ravel,
+    items: Elements<'_>,
 ) -> Result<Array, Stop>
     requires axis { axis < length shape.now }
-    requires full { length (cells_of (items_of ravel.now)) ≡ size_of shape.now }
+    requires full { length (cells_of (listed items)) ≡ size_of shape.now }
     requires small { bound_of shape.now ≤ MAX_ELEMENTS }
-    ensures value { Answers (λ r. r) (expanded_along a.now axis (record { shape = shape.now; items = items_of ravel.now })) result }
-    ensures at_once { FaultsFirst (places_spread a.now axis (record { shape = shape.now; items = items_of ravel.now })) result }
+    ensures value { Answers (λ r. r) (expanded_along a.now axis (record { shape = shape.now; items = listed items.entry })) result }
+    ensures at_once { FaultsFirst (places_spread a.now axis (record { shape = shape.now; items = listed items.entry })) result }
 {
-    fits_ones(ones(a.ravel()), shape[axis])?;
-    let bits = bits_in(a.ravel())?;
+    fits_ones(ones(a.items()), shape[axis])?;
+    let bits = bits_in(a.items())?;
     let places = spread(alloc, bits, shape[axis])?;
-    laid(alloc, ravel, shape, axis, places.as_slice())
+    laid(alloc, items, shape, axis, places.as_slice())
 }
 
 /// The elements of `b` along an axis where `a` has a 1. A single element of either extends over the other, and a scalar `b` is a vector.
@@ -76,14 +76,14 @@ pub fn compress(
     along: Along,
     a: &Array,
     b: &Array,
-    origin: usize,
+    origin: Origin,
 ) -> Result<Array, Stop>
-    ensures value { Answers (λ r. r) (compressed along.entry a.now b.now origin) result }
-    ensures at_once { FaultsFirst (and_then (mask_axis along.entry a.now b.now origin) (λ axis. places_kept a.now axis (lined b.now))) result }
+    ensures value { Answers (λ r. r) (compressed along.entry a.now b.now (origin_number origin)) result }
+    ensures at_once { FaultsFirst (compression_checks along.entry a.now b.now (origin_number origin)) result }
 {
     let axis = axis_in(along, b.rank(), origin)?;
     within_a_vector(a)?;
-    compress_along(alloc, a, axis, lined_shape(b.shape()), b.ravel())
+    compress_along(alloc, a, axis, lined_shape(b.shape()), b.items())
 }
 
 /// The elements of `b` along an axis at the ones of `a`, and fills, 0 or blank, at its zeros. A single place of `b` serves at each one, and
@@ -97,12 +97,12 @@ pub fn expand(
     along: Along,
     a: &Array,
     b: &Array,
-    origin: usize,
+    origin: Origin,
 ) -> Result<Array, Stop>
-    ensures value { Answers (λ r. r) (expanded along.entry a.now b.now origin) result }
-    ensures at_once { FaultsFirst (and_then (mask_axis along.entry a.now b.now origin) (λ axis. places_spread a.now axis (lined b.now))) result }
+    ensures value { Answers (λ r. r) (expanded along.entry a.now b.now (origin_number origin)) result }
+    ensures at_once { FaultsFirst (expansion_checks along.entry a.now b.now (origin_number origin)) result }
 {
     let axis = axis_in(along, b.rank(), origin)?;
     within_a_vector(a)?;
-    expand_along(alloc, a, axis, lined_shape(b.shape()), b.ravel())
+    expand_along(alloc, a, axis, lined_shape(b.shape()), b.items())
 }

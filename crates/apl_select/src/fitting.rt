@@ -2,11 +2,11 @@
 ghost use Rattle.std.specs.Prelude.{◌≡◌, ◌==◌, ◌||◌, length, IfOk};
 ghost use Rattle.apl_arrays.specs.Answers.{Answers};
 ghost use Rattle.apl_arrays.specs.Checks.{demand, same};
-ghost use Rattle.apl_arrays.specs.Ravels.{items_of};
+ghost use Rattle.apl_arrays.specs.Left.{listed};
 ghost use Rattle.apl_arrays.specs.Results.{and_then};
 ghost use Rattle.apl_select.specs.Assignment.{fits_over, proper, same_type};
 
-use apl_arrays::{Array, Ravel, Stop};
+use apl_arrays::{Array, Elements, Stop};
 use apl_faults::Fault;
 use std::alloc::{AllocError, Global};
 
@@ -35,7 +35,7 @@ fn same_lengths(found: &[usize], wanted: &[usize]) -> Result<(), Fault>
 pub(crate) fn fits_over(alloc: Global, shape: &[usize], b: &Array) -> Result<(), Stop>
     ensures { Answers (λ u. u) (fits_over shape.now b.now) result }
 {
-    if b.ravel().len() == 1 {
+    if b.items().len() == 1 {
         return Ok(());
     }
     let found = proper(alloc, b.shape())?;
@@ -45,15 +45,15 @@ pub(crate) fn fits_over(alloc: Global, shape: &[usize], b: &Array) -> Result<(),
 }
 
 /// Whether both are numbers, or both are characters.
-fn same_type(to: &Ravel, from: &Ravel) -> bool
-    ensures { result ≡ same_type (items_of to.now) (items_of from.now) }
+fn same_type(to: Elements<'_>, from: Elements<'_>) -> bool
+    ensures { result ≡ same_type (listed to.entry) (listed from.entry) }
 {
     to.is_numeric() == from.is_numeric()
 }
 
 /// It is a domain fault where there are places for elements of another type.
-pub(crate) fn of_one_type(count: usize, to: &Ravel, from: &Ravel) -> Result<(), Fault>
-    ensures { result ≡ demand (count == 0 || same_type (items_of to.now) (items_of from.now)) Fault.Domain }
+pub(crate) fn of_one_type(count: usize, to: Elements<'_>, from: Elements<'_>) -> Result<(), Fault>
+    ensures { result ≡ demand (count == 0 || same_type (listed to.entry) (listed from.entry)) Fault.Domain }
 {
     if count == 0 {
         Ok(())

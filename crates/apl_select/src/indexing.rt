@@ -1,47 +1,55 @@
 // Indexing.
-ghost use Rattle.std.specs.Prelude.{◌≡◌, ◌≤◌, length, IfOk};
+ghost use Rattle.std.specs.Prelude.{◌≡◌, ◌≤◌, length, IfOk, IfSome, Ok};
 ghost use Rattle.apl_arrays.specs.Answers.{Answers, FaultsFirst};
 ghost use Rattle.apl_arrays.specs.Cells.{cells_of};
-ghost use Rattle.apl_arrays.specs.Index.{bound_of, indices, position_in, size_of};
+ghost use Rattle.apl_arrays.specs.Index.{bound_of, size_of};
+ghost use Rattle.apl_arrays.specs.Left.{listed};
+ghost use Rattle.apl_arrays.specs.Origins.{origin_number};
 ghost use Rattle.apl_arrays.specs.Ravels.{items_of};
-ghost use Rattle.apl_arrays.specs.Views.{picked};
-ghost use Rattle.apl_select.specs.Indexing.{indexed, joined_shape, led_to, slots_fit};
-ghost use Rattle.apl_select.specs.Reached.{AreOnAxes};
+ghost use Rattle.apl_arrays.specs.Simple.{single};
+ghost use Rattle.apl_select.specs.Indexing.{indexed, items_led_to, joined_shape, slots_fit};
+ghost use Rattle.apl_select.specs.inside.Reached.{AreOnAxes};
 
-use crate::lines::shaped;
 use crate::reach::read;
+use crate::single::place_picked;
 use crate::slots::{Picked, joined_shape, picks_of};
-use apl_arrays::{Array, MAX_ELEMENTS, MAX_RANK, Ravel, Stop, size, within_limits};
+use apl_arrays::{
+    Array, Cell, Elements, MAX_ELEMENTS, MAX_RANK, Origin, Ravel, Stop, size, within_limits,
+};
 use std::alloc::{AllocError, Global};
 
-/// The elements of a ravel to which index lists within what is joined lead, with room for so many.
-fn read_ravel(
+/// The elements to which index lists within what is joined lead, with room for so many.
+fn read_items(
     alloc: Global,
     room: usize,
-    ravel: &Ravel,
+    items: Elements<'_>,
     shape: &[usize],
     picks: &[Picked],
 ) -> Result<Ravel, AllocError>
-    requires full { length (cells_of (items_of ravel.now)) ≡ size_of shape.now }
+    requires full { length (cells_of (listed items)) ≡ size_of shape.now }
     requires on_axes { AreOnAxes shape.now picks.now }
     requires small { bound_of shape.now ≤ MAX_ELEMENTS }
     requires few { length shape.now ≤ MAX_RANK }
     requires room { bound_of (joined_shape picks.now) ≤ MAX_ELEMENTS }
-    ensures { IfOk result (λ r. items_of r ≡ picked (items_of ravel.now) (λ i. position_in shape.now (led_to picks.now i)) (indices (joined_shape picks.now))) }
+    ensures { IfOk result (λ r. items_of r ≡ items_led_to (listed items.entry) shape.now picks.now) }
 {
-    match ravel {
-        Ravel::Nums(raw) => Ok(Ravel::Nums(read(alloc, room, raw.as_slice(), shape, picks)?)),
-        Ravel::Chars(raw) => Ok(Ravel::Chars(read(alloc, room, raw.as_slice(), shape, picks)?)),
+    match items {
+        Elements::Nums(raw) => Ok(Ravel::Nums(read(alloc, room, raw, shape, picks)?)),
+        Elements::Chars(raw) => Ok(Ravel::Chars(read(alloc, room, raw, shape, picks)?)),
     }
 }
 
-/// The elements of `b` that slots pick, one slot for each axis, in the slots' shapes one after another. An empty slot picks the whole axis.
-/// Numbers count places from the index origin.
-///
-/// Another count of slots than of axes is a rank fault, before memory is asked for. Then of the slots from left to right characters are a
-/// domain fault, but where there are none, and a number that counts no place of its axis is an index fault. A result beyond the limits of
-/// an array is a limit fault.
-pub fn index(
+/// The element at the one place that slots pick, where each is a number that counts a place.
+#[inline]
+fn element_picked(b: &Array, slots: &[Option<Array>], origin: usize) -> Option<Cell>
+    ensures { IfSome result (λ cell. indexed b.now slots.now origin ≡ Ok (single cell)) }
+{
+    let place = place_picked(b, slots, origin)?;
+    b.items().cell(place)
+}
+
+/// The elements that slots pick, axis by axis.
+fn elements_picked(
     alloc: Global,
     b: &Array,
     slots: &[Option<Array>],
@@ -54,6 +62,30 @@ pub fn index(
     let shape = joined_shape(alloc, picks.as_slice())?;
     within_limits(shape.as_slice())?;
     let room = size(shape.as_slice());
-    let ravel = read_ravel(alloc, room, b.ravel(), b.shape(), picks.as_slice())?;
-    shaped(shape.as_slice(), ravel)
+    let ravel = read_items(alloc, room, b.items(), b.shape(), picks.as_slice())?;
+    Ok(Array::in_shape(shape.as_slice(), ravel))
+}
+
+/// The elements of `b` that slots pick, one slot for each axis, in the slots' shapes one after another. An empty slot picks the whole axis.
+/// Numbers count places from the index origin.
+///
+/// Another count of slots than of axes is a rank fault, before memory is asked for. Then of the slots from left to right characters are a
+/// domain fault, but where there are none, and a number that counts no place of its axis is an index fault. A result beyond the limits of
+/// an array is a limit fault.
+///
+/// Slots of one number each take no memory.
+pub fn index(
+    alloc: Global,
+    b: &Array,
+    slots: &[Option<Array>],
+    origin: Origin,
+) -> Result<Array, Stop>
+    ensures value { Answers (λ r. r) (indexed b.now slots.now (origin_number origin)) result }
+    ensures at_once { FaultsFirst (slots_fit b.now slots.now) result }
+{
+    let first = origin.number();
+    match element_picked(b, slots, first) {
+        Some(cell) => Ok(Array::scalar(cell)),
+        None => elements_picked(alloc, b, slots, first),
+    }
 }

@@ -2,7 +2,7 @@
 ghost use Rattle.std.specs.Prelude.{◌≡◌, ◌+◌, ◌*◌, ◌^◌, ◌<◌, ◌≤◌, ◌++◌, length, map, replicate, IfOk, OnOk};
 ghost use Rattle.std.specs.Option.{option_map};
 ghost use Rattle.std.specs.List.{All};
-ghost use Rattle.apl_select.specs.Laying.{block_of, plane_of, planes_of, IsBelow};
+ghost use Rattle.apl_select.specs.inside.Laying.{block_of, plane_of, planes_of, IsBelow};
 ghost use Rattle.apl_select.specs.Lined.{item_or};
 
 use std::alloc::{AllocError, Global};

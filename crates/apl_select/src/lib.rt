@@ -10,8 +10,9 @@ mod lay;
 mod lines;
 mod overwrite;
 mod reach;
+mod single;
 mod slots;
 
-pub use assignment::index_assign;
+pub use assignment::{index_assign, index_assign_into};
 pub use compression::{compress, expand};
 pub use indexing::index;

@@ -4,16 +4,17 @@ ghost use Rattle.std.specs.List.{All};
 ghost use Rattle.apl_arrays.specs.Along.{axis_along};
 ghost use Rattle.apl_arrays.specs.Answers.{Answers};
 ghost use Rattle.apl_arrays.specs.Cells.{cells_of};
-ghost use Rattle.apl_arrays.specs.Checks.{limited};
 ghost use Rattle.apl_arrays.specs.Index.{bound_of, size_of};
+ghost use Rattle.apl_arrays.specs.Left.{listed};
+ghost use Rattle.apl_arrays.specs.Origins.{origin_number};
 ghost use Rattle.apl_arrays.specs.Ravels.{items_of};
 ghost use Rattle.apl_arrays.specs.Results.{ok_map};
 ghost use Rattle.apl_arrays.specs.Views.{on_axis};
-ghost use Rattle.apl_select.specs.Laying.{IsBelow};
+ghost use Rattle.apl_select.specs.inside.Laying.{IsBelow};
 ghost use Rattle.apl_select.specs.Lined.{laid, laid_within, lined_shape, or_first};
 
 use crate::lay::{Layout, lay_planes};
-use apl_arrays::{Along, Array, MAX_ELEMENTS, Ravel, Stop, size, within_limits};
+use apl_arrays::{Along, Array, Elements, MAX_ELEMENTS, Origin, Ravel, Stop, size, within_limits};
 use apl_charset::Ch;
 use apl_faults::Fault;
 use std::alloc::{AllocError, Global};
@@ -26,8 +27,8 @@ pub(crate) fn lined_shape(shape: &[usize]) -> &[usize]
 }
 
 /// The axis to go along, from 0. That of a scalar is its only one.
-pub(crate) fn axis_in(along: Along, rank: usize, origin: usize) -> Result<usize, Fault>
-    ensures value { result ≡ ok_map or_first (axis_along along.entry rank origin) }
+pub(crate) fn axis_in(along: Along, rank: usize, origin: Origin) -> Result<usize, Fault>
+    ensures value { result ≡ ok_map or_first (axis_along along.entry rank (origin_number origin)) }
     ensures within { IfOk result (λ axis. axis < max rank 1) }
 {
     match along.axis(rank, origin)? {
@@ -67,45 +68,27 @@ fn layout_of(shape: &[usize], axis: usize) -> Layout
     }
 }
 
-/// The array of this shape with these elements. It is a limit fault where there is no such array.
-pub(crate) fn shaped(shape: &[usize], ravel: Ravel) -> Result<Array, Stop>
-    requires { length (cells_of (items_of ravel)) ≡ size_of shape.now }
-    ensures { Answers (λ r. r) (ok_map (λ s. record { shape = s; items = items_of ravel }) (limited shape.now)) result }
-{
-    match Array::from_shape(shape, ravel) {
-        Ok(array) => Ok(array),
-        Err(fault) => Err(Stop::Fault(fault)),
-    }
-}
-
 /// The elements at places along an axis, with fills where there is no place and with room for so many.
-fn lay_ravel(
+fn lay_items(
     alloc: Global,
     room: usize,
-    ravel: &Ravel,
+    items: Elements<'_>,
     shape: &[usize],
     axis: usize,
     places: &[Option<usize>],
 ) -> Result<Ravel, AllocError>
     requires axis { axis < length shape.now }
-    requires full { length (cells_of (items_of ravel.now)) ≡ size_of shape.now }
+    requires full { length (cells_of (listed items)) ≡ size_of shape.now }
     requires small { bound_of shape.now ≤ MAX_ELEMENTS }
     requires places { All (IsBelow (slice_index_or shape.now axis 0)) places.now }
-    ensures { IfOk result (λ r. items_of r ≡ (laid axis places.now (record { shape = shape.now; items = items_of ravel.now })).items) }
+    ensures { IfOk result (λ r. items_of r ≡ (laid axis places.now (record { shape = shape.now; items = listed items.entry })).items) }
 {
     let layout = layout_of(shape, axis);
-    match ravel {
-        Ravel::Nums(raw) => Ok(Ravel::Nums(lay_planes(
-            alloc,
-            room,
-            raw.as_slice(),
-            0,
-            layout,
-            places,
-        )?)),
-        Ravel::Chars(raw) => {
+    match items {
+        Elements::Nums(raw) => Ok(Ravel::Nums(lay_planes(alloc, room, raw, 0, layout, places)?)),
+        Elements::Chars(raw) => {
             let blank = Ch::ascii(b' ');
-            Ok(Ravel::Chars(lay_planes(alloc, room, raw.as_slice(), blank, layout, places)?))
+            Ok(Ravel::Chars(lay_planes(alloc, room, raw, blank, layout, places)?))
         }
     }
 }
@@ -113,20 +96,20 @@ fn lay_ravel(
 /// The array of the elements at places along an axis, with fills where there is no place. It is a limit fault where there is no such array.
 pub(crate) fn laid(
     alloc: Global,
-    ravel: &Ravel,
+    items: Elements<'_>,
     shape: &[usize],
     axis: usize,
     places: &[Option<usize>],
 ) -> Result<Array, Stop>
     requires axis { axis < length shape.now }
-    requires full { length (cells_of (items_of ravel.now)) ≡ size_of shape.now }
+    requires full { length (cells_of (listed items)) ≡ size_of shape.now }
     requires small { bound_of shape.now ≤ MAX_ELEMENTS }
     requires places { All (IsBelow (slice_index_or shape.now axis 0)) places.now }
-    ensures { Answers (λ r. r) (laid_within axis places.now (record { shape = shape.now; items = items_of ravel.now })) result }
+    ensures { Answers (λ r. r) (laid_within axis places.now (record { shape = shape.now; items = listed items.entry })) result }
 {
     let lengths = with_length(alloc, shape, axis, places.len())?;
     within_limits(lengths.as_slice())?;
     let room = size(lengths.as_slice());
-    let laid = lay_ravel(alloc, room, ravel, shape, axis, places)?;
-    shaped(lengths.as_slice(), laid)
+    let ravel = lay_items(alloc, room, items, shape, axis, places)?;
+    Ok(Array::in_shape(lengths.as_slice(), ravel))
 }

@@ -2,11 +2,12 @@
 ghost use Rattle.std.specs.Prelude.{◌≡◌, ◌<◌, length, IfOk};
 ghost use Rattle.std.specs.List.{All};
 ghost use Rattle.apl_arrays.specs.Cells.{Numbers, Characters, cells_of};
+ghost use Rattle.apl_arrays.specs.Left.{listed};
 ghost use Rattle.apl_arrays.specs.Ravels.{items_of};
-ghost use Rattle.apl_select.specs.Written.{put_all, put_items, AreEnough};
+ghost use Rattle.apl_select.specs.inside.Written.{put_all, put_items, AreEnough};
 
 use crate::bits::extended;
-use apl_arrays::Ravel;
+use apl_arrays::{Elements, Ravel};
 use apl_charset::Ch;
 use std::alloc::{AllocError, Global};
 
@@ -29,53 +30,53 @@ fn overwrite<T: Copy>(
     Ok(out)
 }
 
-/// Numbers with those of a ravel written to places. Of characters none is taken.
+/// Numbers with others written to places. Of characters none is taken.
 fn overwrite_numbers(
     alloc: Global,
     xs: &[i64],
-    from: &Ravel,
+    from: Elements<'_>,
     places: &[usize],
 ) -> Result<Ravel, AllocError>
     requires within { All (λ q. q < length xs.now) places.now }
-    requires enough { AreEnough (length (cells_of (items_of from.now))) (length places.now) }
-    ensures { IfOk result (λ r. items_of r ≡ put_items (Numbers xs.now) (items_of from.now) places.now) }
+    requires enough { AreEnough (length (cells_of (listed from))) (length places.now) }
+    ensures { IfOk result (λ r. items_of r ≡ put_items (Numbers xs.now) (listed from.entry) places.now) }
 {
     match from {
-        Ravel::Nums(ys) => Ok(Ravel::Nums(overwrite(alloc, xs, ys.as_slice(), places)?)),
-        Ravel::Chars(_) => Ok(Ravel::Nums(Vec::from_slice(alloc, xs)?)),
+        Elements::Nums(ys) => Ok(Ravel::Nums(overwrite(alloc, xs, ys, places)?)),
+        Elements::Chars(_) => Ok(Ravel::Nums(Vec::from_slice(alloc, xs)?)),
     }
 }
 
-/// Characters with those of a ravel written to places. Of numbers none is taken.
+/// Characters with others written to places. Of numbers none is taken.
 fn overwrite_characters(
     alloc: Global,
     xs: &[Ch],
-    from: &Ravel,
+    from: Elements<'_>,
     places: &[usize],
 ) -> Result<Ravel, AllocError>
     requires within { All (λ q. q < length xs.now) places.now }
-    requires enough { AreEnough (length (cells_of (items_of from.now))) (length places.now) }
-    ensures { IfOk result (λ r. items_of r ≡ put_items (Characters xs.now) (items_of from.now) places.now) }
+    requires enough { AreEnough (length (cells_of (listed from))) (length places.now) }
+    ensures { IfOk result (λ r. items_of r ≡ put_items (Characters xs.now) (listed from.entry) places.now) }
 {
     match from {
-        Ravel::Nums(_) => Ok(Ravel::Chars(Vec::from_slice(alloc, xs)?)),
-        Ravel::Chars(ys) => Ok(Ravel::Chars(overwrite(alloc, xs, ys.as_slice(), places)?)),
+        Elements::Nums(_) => Ok(Ravel::Chars(Vec::from_slice(alloc, xs)?)),
+        Elements::Chars(ys) => Ok(Ravel::Chars(overwrite(alloc, xs, ys, places)?)),
     }
 }
 
-/// The elements of a ravel with those of another written to places. Elements of another type are not taken.
-pub(crate) fn overwrite_ravel(
+/// Elements with others written to places. Elements of another type are not taken.
+pub(crate) fn overwrite_items(
     alloc: Global,
-    to: &Ravel,
-    from: &Ravel,
+    to: Elements<'_>,
+    from: Elements<'_>,
     places: &[usize],
 ) -> Result<Ravel, AllocError>
-    requires within { All (λ q. q < length (cells_of (items_of to.now))) places.now }
-    requires enough { AreEnough (length (cells_of (items_of from.now))) (length places.now) }
-    ensures { IfOk result (λ r. items_of r ≡ put_items (items_of to.now) (items_of from.now) places.now) }
+    requires within { All (λ q. q < length (cells_of (listed to))) places.now }
+    requires enough { AreEnough (length (cells_of (listed from))) (length places.now) }
+    ensures { IfOk result (λ r. items_of r ≡ put_items (listed to.entry) (listed from.entry) places.now) }
 {
     match to {
-        Ravel::Nums(xs) => overwrite_numbers(alloc, xs.as_slice(), from, places),
-        Ravel::Chars(xs) => overwrite_characters(alloc, xs.as_slice(), from, places),
+        Elements::Nums(xs) => overwrite_numbers(alloc, xs, from, places),
+        Elements::Chars(xs) => overwrite_characters(alloc, xs, from, places),
     }
 }

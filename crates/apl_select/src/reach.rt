@@ -1,9 +1,10 @@
 // Places in a ravel that slots lead to, and the elements there.
-ghost use Rattle.std.specs.Prelude.{◌≡◌, ℕ, ◌+◌, ◌*◌, ◌^◌, ◌<◌, ◌≤◌, [], ◌∷◌, ◌++◌, drop, length, map, slice_index_or, IfOk, OnOk};
+ghost use Rattle.std.specs.Prelude.{◌≡◌, ℕ, ◌+◌, ◌*◌, ◌^◌, ◌<◌, ◌≤◌, [], ◌∷◌, ◌++◌};
+ghost use Rattle.std.specs.Prelude.{drop, length, map, slice_index_or, IfOk, OnOk};
 ghost use Rattle.std.specs.List.{All};
 ghost use Rattle.apl_arrays.specs.Index.{bound_of, size_of};
 ghost use Rattle.apl_select.specs.Indexing.{joined_shape};
-ghost use Rattle.apl_select.specs.Reached.{crossed, reached, AreOnAxes};
+ghost use Rattle.apl_select.specs.inside.Reached.{crossed, led, reached, AreOnAxes};
 
 use crate::slots::Picked;
 use apl_arrays::{MAX_ELEMENTS, MAX_RANK};
@@ -41,7 +42,7 @@ fn cross(
 }
 
 /// The places that are reached along the first so many axes.
-pub(crate) fn starts_of(
+fn starts_of(
     alloc: Global,
     shape: &[usize],
     picks: &[Picked],
@@ -62,6 +63,21 @@ pub(crate) fn starts_of(
         starts = crossed;
     }
     Ok(starts)
+}
+
+/// The places that are reached along all axes, in the order of the index lists that lead there.
+pub(crate) fn places_led(
+    alloc: Global,
+    shape: &[usize],
+    picks: &[Picked],
+) -> Result<Vec<usize>, AllocError>
+    requires on_axes { AreOnAxes shape.now picks.now }
+    requires small { bound_of shape.now ≤ MAX_ELEMENTS }
+    requires room { bound_of (joined_shape picks.now) ≤ MAX_ELEMENTS }
+    requires few { length shape.now ≤ MAX_RANK }
+    ensures { IfOk result (λ places. places.items ≡ led shape.now picks.now) }
+{
+    starts_of(alloc, shape, picks, shape.len())
 }
 
 /// Appends the elements at the places of an axis, counted from one on.

@@ -5,7 +5,7 @@ ghost use Rattle.apl_arrays.specs.Answers.{Answers, FaultsFirst};
 ghost use Rattle.apl_arrays.specs.Index.{size_of};
 ghost use Rattle.apl_arrays.specs.Results.{all_ok};
 ghost use Rattle.apl_select.specs.Indexing.{all_picked, joined_shape, picked_by, place_numbered, slots_fit, slots_of};
-ghost use Rattle.apl_select.specs.Reached.{AreOnAxes};
+ghost use Rattle.apl_select.specs.inside.Reached.{AreOnAxes};
 
 use apl_arrays::{Array, Stop, numbers_in};
 use apl_faults::Fault;
@@ -44,7 +44,7 @@ impl Picked {
 }
 
 /// The place that a number counts from the index origin. It is an index fault where the axis has no such place.
-fn numbered(number: i64, len: usize, origin: usize) -> Result<usize, Fault>
+pub(crate) fn numbered(number: i64, len: usize, origin: usize) -> Result<usize, Fault>
     ensures { result ≡ place_numbered len origin number }
 {
     if number < 0 {
@@ -108,7 +108,7 @@ fn pick_by(alloc: Global, len: usize, origin: usize, array: &Array) -> Result<Pi
     ensures full { IfOk result (λ p. length p.places ≡ size_of p.shape) }
     ensures within { IfOk result (λ p. All (λ k. k < len) p.places) }
 {
-    let numbers = numbers_in(array.ravel())?;
+    let numbers = numbers_in(array.items())?;
     let places = places_in(alloc, numbers, len, origin)?;
     let shape = Vec::from_slice(alloc, array.shape())?;
     Ok(Picked { shape, places })

@@ -16,7 +16,9 @@ first_mark text = find (λ c. not (c == 32)) text
 -- A text with this first mark is typed outside a definition: ) begins a command; ∇ shows a function or opens a definition; every other text is a statement.
 abbrev pub typed_behind : State → Text → Option ℕ → State
 typed_behind s text None = begun s text
-typed_behind s text (Some mark) = if mark == 41 then commanded s (behind_mark text) else (if mark == 0x2207 then typed_behind_del s (behind_mark text) else begun s text)
+typed_behind s text (Some mark) =
+    if mark == 41 then commanded s (behind_mark text)
+    else (if mark == 0x2207 then typed_behind_del s (behind_mark text) else begun s text)
 
 -- a text is typed, where these are the lines of the open definition, if one is open
 abbrev pub typed_in : State → Option (List Text) → Text → State

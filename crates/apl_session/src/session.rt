@@ -32,12 +32,14 @@ impl Model for Bytes {
 }
 
 impl Bytes {
+    /// The list of these bytes.
     pub fn new(bytes: Vec<u8>) -> Bytes
         ensures { result ≡ bytes.items }
     {
         Bytes { bytes }
     }
 
+    /// The bytes, first to last.
     pub fn as_slice(&self) -> &[u8]
         ensures { result.now ≡ self.now }
     {

@@ -1,9 +1,10 @@
 // Functions of two arrays.
-ghost use Rattle.std.specs.Prelude.{◌≡◌, ◌≤◌, option_copied};
+ghost use Rattle.std.specs.Prelude.{◌≡◌, option_copied};
 ghost use Rattle.apl_arrays.specs.Answers.{Answers};
+ghost use Rattle.apl_arrays.specs.Origins.{origin_number};
 ghost use Rattle.apl_struct.specs.Structure.{along2, plain2, structural2};
 
-use apl_arrays::{Along, Array, Stop};
+use apl_arrays::{Along, Array, Origin, Stop};
 use apl_faults::Fault;
 use apl_reshape::{catenate, drop_items, reshape, take_items};
 use apl_search::{decode, encode, index_of, member};
@@ -18,10 +19,9 @@ fn plain2(
     function: Primitive,
     a: &Array,
     b: &Array,
-    origin: usize,
+    origin: Origin,
 ) -> Result<Array, Stop>
-    requires { origin ≤ 1 }
-    ensures { Answers (λ r. r) (plain2 function a.now b.now origin) result }
+    ensures { Answers (λ r. r) (plain2 function a.now b.now (origin_number origin)) result }
 {
     match function {
         Primitive::Rho => reshape(alloc, a, b),
@@ -50,10 +50,9 @@ fn along2(
     slots: &[Option<Array>],
     a: &Array,
     b: &Array,
-    origin: usize,
+    origin: Origin,
 ) -> Result<Array, Stop>
-    requires { origin ≤ 1 }
-    ensures { Answers (λ r. r) (along2 function slots.now a.now b.now origin) result }
+    ensures { Answers (λ r. r) (along2 function slots.now a.now b.now (origin_number origin)) result }
 {
     match function {
         Primitive::Comma => catenate(alloc, Along::Named(slots), a, b, origin),
@@ -70,7 +69,7 @@ fn along2(
 /// A function of structure or selection of two arrays, along the axis that index slots name if there are any:
 /// `⍴ , ⌽ ⊖ ⍉ ↑ ↓ / ⌿ \ ⍀ ⍳ ∊ ⊥ ⊤`.
 ///
-/// Indices, axes and places count from the origin, 0 or 1. Another function is a syntax fault, and so is an axis but for
+/// Indices, axes and places count from the index origin. Another function is a syntax fault, and so is an axis but for
 /// `, ⌽ ⊖ / ⌿ \ ⍀`. Every other fault is the function's own.
 pub fn structural2(
     alloc: Global,
@@ -78,10 +77,9 @@ pub fn structural2(
     axis: Option<&[Option<Array>]>,
     a: &Array,
     b: &Array,
-    origin: usize,
+    origin: Origin,
 ) -> Result<Array, Stop>
-    requires { origin ≤ 1 }
-    ensures { Answers (λ r. r) (structural2 function (option_copied axis.entry) a.now b.now origin) result }
+    ensures { Answers (λ r. r) (structural2 function (option_copied axis.entry) a.now b.now (origin_number origin)) result }
 {
     match axis {
         Some(slots) => along2(alloc, function, slots, a, b, origin),

@@ -1,9 +1,10 @@
 // Functions of one array.
-ghost use Rattle.std.specs.Prelude.{◌≡◌, ◌≤◌, option_copied};
+ghost use Rattle.std.specs.Prelude.{◌≡◌, option_copied};
 ghost use Rattle.apl_arrays.specs.Answers.{Answers};
+ghost use Rattle.apl_arrays.specs.Origins.{origin_number};
 ghost use Rattle.apl_struct.specs.Structure.{along1, plain1, structural1};
 
-use apl_arrays::{Along, Array, Stop};
+use apl_arrays::{Along, Array, Origin, Stop};
 use apl_faults::Fault;
 use apl_reshape::{ravel, shape};
 use apl_search::{grade_down, grade_up, iota};
@@ -12,9 +13,8 @@ use apl_turns::{reverse, transpose};
 use std::alloc::Global;
 
 /// `F B`.
-fn plain1(alloc: Global, function: Primitive, b: &Array, origin: usize) -> Result<Array, Stop>
-    requires { origin ≤ 1 }
-    ensures { Answers (λ r. r) (plain1 function b.now origin) result }
+fn plain1(alloc: Global, function: Primitive, b: &Array, origin: Origin) -> Result<Array, Stop>
+    ensures { Answers (λ r. r) (plain1 function b.now (origin_number origin)) result }
 {
     match function {
         Primitive::Rho => shape(alloc, b),
@@ -35,10 +35,9 @@ fn along1(
     function: Primitive,
     slots: &[Option<Array>],
     b: &Array,
-    origin: usize,
+    origin: Origin,
 ) -> Result<Array, Stop>
-    requires { origin ≤ 1 }
-    ensures { Answers (λ r. r) (along1 function slots.now b.now origin) result }
+    ensures { Answers (λ r. r) (along1 function slots.now b.now (origin_number origin)) result }
 {
     match function {
         Primitive::CircleStile => reverse(alloc, Along::Named(slots), b, origin),
@@ -49,17 +48,16 @@ fn along1(
 
 /// A function of structure of one array, along the axis that index slots name if there are any: `⍴ , ⍳ ⌽ ⊖ ⍉ ⍋ ⍒`.
 ///
-/// Indices, axes and places count from the origin, 0 or 1. Another function is a syntax fault, and so is an axis but for `⌽` and `⊖`.
+/// Indices, axes and places count from the index origin. Another function is a syntax fault, and so is an axis but for `⌽` and `⊖`.
 /// Every other fault is the function's own.
 pub fn structural1(
     alloc: Global,
     function: Primitive,
     axis: Option<&[Option<Array>]>,
     b: &Array,
-    origin: usize,
+    origin: Origin,
 ) -> Result<Array, Stop>
-    requires { origin ≤ 1 }
-    ensures { Answers (λ r. r) (structural1 function (option_copied axis.entry) b.now origin) result }
+    ensures { Answers (λ r. r) (structural1 function (option_copied axis.entry) b.now (origin_number origin)) result }
 {
     match axis {
         Some(slots) => along1(alloc, function, slots, b, origin),

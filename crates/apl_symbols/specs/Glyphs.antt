@@ -65,11 +65,17 @@ glyph_of s.Colon = 0x3A
 
 -- every primitive function
 abbrev pub primitives : List Primitive
-primitives = p.Plus ∷ p.Minus ∷ p.Times ∷ p.Divide ∷ p.Star ∷ p.Upstile ∷ p.Downstile ∷ p.Stile ∷ p.Tilde ∷ p.Bang ∷ p.Less ∷ p.NotGreater ∷ p.Equal ∷ p.NotLess ∷ p.Greater ∷ p.NotEqual ∷ p.And ∷ p.Or ∷ p.Nand ∷ p.Nor ∷ p.Rho ∷ p.Iota ∷ p.Comma ∷ p.CircleStile ∷ p.CircleBar ∷ p.CircleSlope ∷ p.UpArrow ∷ p.DownArrow ∷ p.Slash ∷ p.SlashBar ∷ p.Slope ∷ p.SlopeBar ∷ p.Epsilon ∷ p.GradeUp ∷ p.GradeDown ∷ p.UpTack ∷ p.DownTack ∷ p.Format ∷ p.Execute ∷ []
+primitives =
+    p.Plus ∷ p.Minus ∷ p.Times ∷ p.Divide ∷ p.Star ∷ p.Upstile ∷ p.Downstile ∷ p.Stile ∷ p.Tilde ∷ p.Bang ∷ p.Less ∷
+    p.NotGreater ∷ p.Equal ∷ p.NotLess ∷ p.Greater ∷ p.NotEqual ∷ p.And ∷ p.Or ∷ p.Nand ∷ p.Nor ∷ p.Rho ∷ p.Iota ∷
+    p.Comma ∷ p.CircleStile ∷ p.CircleBar ∷ p.CircleSlope ∷ p.UpArrow ∷ p.DownArrow ∷ p.Slash ∷ p.SlashBar ∷ p.Slope ∷
+    p.SlopeBar ∷ p.Epsilon ∷ p.GradeUp ∷ p.GradeDown ∷ p.UpTack ∷ p.DownTack ∷ p.Format ∷ p.Execute ∷ []
 
 -- the symbols that are no primitive functions
 abbrev pub marks : List Symbol
-marks = s.Dot ∷ s.Jot ∷ s.LeftArrow ∷ s.RightArrow ∷ s.OpenParenthesis ∷ s.CloseParenthesis ∷ s.OpenBracket ∷ s.CloseBracket ∷ s.Semicolon ∷ s.Quad ∷ s.Colon ∷ []
+marks =
+    s.Dot ∷ s.Jot ∷ s.LeftArrow ∷ s.RightArrow ∷ s.OpenParenthesis ∷ s.CloseParenthesis ∷ s.OpenBracket ∷
+    s.CloseBracket ∷ s.Semicolon ∷ s.Quad ∷ s.Colon ∷ []
 
 -- every symbol
 abbrev pub symbols : List Symbol

@@ -8,3 +8,4 @@ pub mod Lines
 pub mod Tokens
 pub mod Plain
 pub mod Faults
+pub mod Worked

@@ -44,7 +44,9 @@ abbrev pub number_of_len : Bool → List ℕ → ℕ → Reading
 number_of_len negative rest n =
     if n == 0 then Err (Stray, 0)
     else (if in_range negative (digits_value 10 (take n rest))
-    then (if ends_number (class_at (drop n rest)) then Ok (kind.Constant (number_of negative (take n rest) ∷ []), sign_len negative + n) else Err (Stray, sign_len negative + n))
+    then (if ends_number (class_at (drop n rest))
+    then Ok (kind.Constant (number_of negative (take n rest) ∷ []), sign_len negative + n)
+    else Err (Stray, sign_len negative + n))
     else Err (Limit, 0))
 
 -- a number, where rest is what comes after its sign

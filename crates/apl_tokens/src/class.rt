@@ -20,6 +20,7 @@ pub enum Class {
     Other,
 }
 
+/// What a character may begin or belong to.
 #[tactic(auto, unfolding(crate::specs::Characters::class_of))]
 pub fn class_of(c: Ch) -> Class
     ensures { result ≡ class_of c }
@@ -39,18 +40,21 @@ pub fn class_of(c: Ch) -> Class
 }
 
 impl Class {
+    /// Whether it is a blank.
     pub fn is_blank(self) -> bool
         ensures { result ≡ is_blank self }
     {
         matches!(self, Class::Blank)
     }
 
+    /// Whether it is one of `0` to `9`.
     pub fn is_digit(self) -> bool
         ensures { result ≡ is_digit self }
     {
         matches!(self, Class::Digit)
     }
 
+    /// Whether it is a letter, `∆`, `⍙` or `_`, with which a name begins.
     pub fn is_letter(self) -> bool
         ensures { result ≡ is_letter self }
     {
@@ -71,6 +75,7 @@ impl Class {
         !matches!(self, Class::Digit | Class::Letter | Class::Minus)
     }
 
+    /// Whether it is the quote, `'`, which begins and ends characters.
     pub fn is_quote(self) -> bool
         ensures { result ≡ is_quote self }
     {

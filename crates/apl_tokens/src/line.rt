@@ -1,14 +1,13 @@
 // The tokens of a line.
-ghost use Rattle.std.specs.Prelude.{◌≡◌, ◌≢◌, ℕ, List, All, ◌<◌, ◌≤◌, length, true, IfOk, IfErr, IfSome, OnOk, MatchOption, ◌∷◌, [], pos, Ok, Err, replicate, ◌++◌};
+ghost use Rattle.std.specs.Prelude.{◌≡◌, ◌≢◌, ℕ, List, All, ◌<◌, ◌≤◌, length, true, IfOk, IfErr, IfSome, OnOk, MatchOption, ◌∷◌, [], Ok, Err, replicate, ◌++◌};
 ghost use Rattle.apl_tokens.specs.Spelling.{all_blank, Step, Row};
 ghost use Rattle.apl_tokens.specs.Lines.{error_at, error_number, IsSmall, IsBreak, Joins, Breaks, Spells, IsFault, Ascend, Fits};
 ghost use Rattle.apl_tokens.specs.Joined.{push_joined};
 ghost use Rattle.apl_tokens.specs.declared.token.Kind.TheVariants.{Constant};
-ghost use Rattle.apl_tokens.specs.Tokens.{tokens_of, Reads, AreTokens, IsPlaced, token};
+ghost use Rattle.apl_tokens.specs.Tokens.{tokens_of, Reads, AreTokens, IsPlaced};
+ghost use Rattle.apl_tokens.specs.Worked.{sum_and_product, vector_and_number};
 ghost use Rattle.apl_tokens.specs.Faults.{faults_of, Leads};
 ghost use Rattle.apl_tokens.specs.declared.reading.Fault.TheVariants as Fault;
-ghost use Rattle.apl_symbols.specs.declared.symbol.Symbol.TheVariants.{Primitive};
-ghost use Rattle.apl_symbols.specs.declared.primitive.Primitive.TheVariants.{Plus, Times};
 ghost use Rattle.apl_tokens.specs.declared.token.Token.{Token};
 ghost use Rattle.apl_tokens.specs.declared.line.TokenError.{TokenError};
 ghost use Rattle.apl_tokens.specs.declared.line.TokenError.TheVariants.{Memory};
@@ -246,9 +245,9 @@ pub fn one_reading()
 /// The law that the answer computes, at four texts.
 pub fn worked_readings()
     // 2+3×4
-    ensures numbers { tokens_of (50 ∷ 43 ∷ 51 ∷ 0xD7 ∷ 52 ∷ []) ≡ Ok (token (Kind.Constant (pos 2 ∷ [])) 1 ∷ token (Kind.Symbol (Primitive Plus)) 2 ∷ token (Kind.Constant (pos 3 ∷ [])) 3 ∷ token (Kind.Symbol (Primitive Times)) 4 ∷ token (Kind.Constant (pos 4 ∷ [])) 5 ∷ []) }
+    ensures numbers { tokens_of (50 ∷ 43 ∷ 51 ∷ 0xD7 ∷ 52 ∷ []) ≡ Ok sum_and_product }
     // 1 2+3
-    ensures constant { tokens_of (49 ∷ 32 ∷ 50 ∷ 43 ∷ 51 ∷ []) ≡ Ok (token (Kind.Constant (pos 1 ∷ pos 2 ∷ [])) 1 ∷ token (Kind.Symbol (Primitive Plus)) 4 ∷ token (Kind.Constant (pos 3 ∷ [])) 5 ∷ []) }
+    ensures constant { tokens_of (49 ∷ 32 ∷ 50 ∷ 43 ∷ 51 ∷ []) ≡ Ok vector_and_number }
     // (2+3
     ensures bracket { tokens_of (40 ∷ 50 ∷ 43 ∷ 51 ∷ []) ≡ Err (TokenError.Unbalanced 1) }
     // 1 3A

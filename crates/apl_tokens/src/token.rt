@@ -47,6 +47,7 @@ impl Numbers {
         Ok(self)
     }
 
+    /// The numbers, first to last.
     pub fn as_slice(&self) -> &[i64]
         ensures value { result.now ≡ self.now }
         ensures fits { All (λ n. FitsSigned w64 n) self.now }

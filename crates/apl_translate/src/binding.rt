@@ -2,7 +2,9 @@
 ghost use Rattle.std.specs.Prelude.{◌≡◌, ◌≤◌, ◌<◌, ◌++◌, All, Some, ◌+◌, length, vec_len, vec_capacity, IfOk, OnOk};
 ghost use Rattle.std.specs.List.{flat_map};
 ghost use Rattle.apl_symbols.specs.Primitives.{operator_of};
-ghost use Rattle.apl_translate.specs.Binding.{without_label, nothing_left, class_at, name_word, system_word, primitive_word, closing, symbol_word, word_of, form_of, neighbour_of, placed, takes_axis, axes_after, with_item, items_from, constant_in, bound_of, elements_in, HasName};
+ghost use Rattle.apl_translate.specs.Binding.{without_label, nothing_left, class_at, name_word, system_word, primitive_word, closing};
+ghost use Rattle.apl_translate.specs.Binding.{symbol_word, word_of, form_of, neighbour_of, placed, takes_axis, axes_after};
+ghost use Rattle.apl_translate.specs.Binding.{with_item, items_from, constant_in, bound_of, elements_in, HasName};
 
 use crate::form::{Bound, Form, Placed, Word};
 use apl_arrays::Array;
@@ -251,7 +253,7 @@ fn items_of(alloc: Global, tokens: &[Token], classes: &[Class]) -> Result<Vec<Pl
     Ok(items)
 }
 
-/// The arrays of the constants and texts.
+/// The arrays of the constants and texts, shared, so that a phrase takes one without memory.
 fn constants_of(alloc: Global, tokens: &[Token]) -> Result<Vec<Array>, AllocError>
     requires { All (λ t. elements_in t.kind ≤ 1000000) tokens.now }
     ensures { IfOk result (λ v. v.items ≡ flat_map (λ t. constant_in t.kind) tokens.now) }
@@ -261,11 +263,11 @@ fn constants_of(alloc: Global, tokens: &[Token]) -> Result<Vec<Array>, AllocErro
         match &token.kind {
             Kind::Constant(numbers) => {
                 let numbers = Vec::from_slice(alloc, numbers.as_slice())?;
-                constants.push(Array::from_nums(numbers))?;
+                constants.push(Array::from_nums(numbers).shared(alloc)?)?;
             }
             Kind::Text(text) => {
                 let characters = Vec::from_slice(alloc, text.as_slice())?;
-                constants.push(Array::from_chars(characters))?;
+                constants.push(Array::from_chars(characters).shared(alloc)?)?;
             }
             _ => {}
         }

@@ -1,6 +1,7 @@
 //! The phrase table.
 ghost use Rattle.std.specs.Prelude.{◌≡◌, ◌≤◌, ◌+◌, ◌&&◌, length, IfSome, Option, Some, None, option_copied, map, List, [], ◌∷◌};
-ghost use Rattle.apl_translate.specs.Phrase.{when, K, W, is_scalar, ends, value_ends, opens, slots_width, at_value, at_variable, at_niladic, at_function, at_open, at_quad, row};
+ghost use Rattle.apl_translate.specs.Phrase.{when, K, W, is_scalar, ends, value_ends, opens, slots_width};
+ghost use Rattle.apl_translate.specs.Phrase.{at_value, at_variable, at_niladic, at_function, at_open, at_quad, row};
 ghost use Rattle.apl_translate.specs.Scan.{kind_before};
 ghost use Rattle.apl_translate.specs.Translation.{kinds, kind_of, is_value};
 
@@ -18,6 +19,7 @@ fn is_scalar(f: Function) -> bool
     }
 }
 
+/// Whether an item is a value.
 pub fn is_value(form: Form) -> bool
     ensures { result ≡ is_value (kind_of form) }
 {

@@ -6,7 +6,7 @@ use Rattle.std.proofs.lemmas.List.FromFn.{map-range_with_len_more, fill_by_all}
 use Rattle.std.proofs.lemmas.Bool.{cases_lt, eqb-true, eq-eqb}
 use Rattle.std.proofs.lemmas.Nat.{div-mul-add, mod-mul-add, div-add-mod', mod_below, mul-add-lt}
 use Rattle.std.proofs.Math.Nat.{mul-le-mul_right}
-use Rattle.apl_turns.specs.Lines.{source, source_in, shift_at}
+use Rattle.apl_turns.specs.inside.Lines.{source, source_in, shift_at}
 
 -- what goes on with g
 pub grown : {A : Type 0} (f g : ℕ → A) (a m : ℕ) → ((t : ℕ) → t < m → f t ≡ g (a + t)) → map g (range_with_len 0 a) ++ map f (range_with_len 0 m) ≡ map g (range_with_len 0 (a + m))

@@ -3,3 +3,4 @@ pub mod Rounds
 pub mod Blocks
 pub mod Rotated
 pub mod Numbered
+pub mod Named

@@ -19,7 +19,7 @@ use Rattle.apl_arrays.proofs.InOrder.{map_same}
 use Rattle.apl_arrays.proofs.Order.{map_by_places, all_within}
 use Rattle.apl_arrays.proofs.Places.{both}
 use Rattle.apl_turns.specs.Turns.{round_index, turn_at, turned_round, fits_lines, rotated}
-use Rattle.apl_turns.specs.Lines.{shift_at, shift_of, source, sourced, turned_lines}
+use Rattle.apl_turns.specs.inside.Lines.{shift_at, shift_of, source, sourced, turned_lines}
 use Rattle.apl_turns.proofs.Parts.{position_parts, position_on, position_without, within_at_axis, behind_below, without_below}
 use Rattle.apl_turns.proofs.Rounds.{round_is}
 use Rattle.apl_turns.proofs.Blocks.{source_at, source_in_at, in_plane}

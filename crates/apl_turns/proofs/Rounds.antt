@@ -5,7 +5,7 @@ use Rattle.std.proofs.lemmas.Int.{ints, int_rem_euclid_is}
 use Rattle.std.proofs.Math.Nat.{add-mod-mod}
 use Rattle.std.proofs.lemmas.Nat.{mod_below}
 use Rattle.apl_turns.specs.Turns.{round_index}
-use Rattle.apl_turns.specs.Lines.{shift_of, shift_at}
+use Rattle.apl_turns.specs.inside.Lines.{shift_of, shift_at}
 
 -- a number with some lengths more is not negative
 round_by : (n : ℕ) (z : ℤ) (k c m : ℕ) → 0 < n → z +ℤ pos (c * n) ≡ pos m → round_index n z k ≡ (k + shift_of n z) % n

@@ -1,5 +1,6 @@
 -- Axes in another order, and axes taken the other way or round.
-use Rattle.std.specs.Prelude.{ℕ, ℤ, pos, negsuc, ◌+◌, ◌-◌, ◌==◌, ◌+ℤ◌, ◌&&◌, ◌||◌, nat_le, nat_lt, unsigned_abs, Bool, if◌then◌else◌, List, map, length, slice_index_or, Option, None, Some, Result, Ok, Err}
+use Rattle.std.specs.Prelude.{ℕ, ℤ, pos, negsuc, ◌+◌, ◌-◌, ◌==◌, ◌+ℤ◌, ◌&&◌, ◌||◌, nat_le, nat_lt, unsigned_abs}
+use Rattle.std.specs.Prelude.{Bool, if◌then◌else◌, List, map, length, slice_index_or, Option, None, Some, Result, Ok, Err}
 use Rattle.std.specs.Int.{int_rem_euclid}
 use Rattle.std.specs.List.{list_all, list_any, range_with_len}
 use Rattle.apl_faults.specs.declared.fault.Fault.{Fault}
@@ -52,13 +53,14 @@ reversed_on b (Some axis) = reversed axis b
 abbrev pub reversed_along : Along → ℕ → Arr → Result Arr Fault
 reversed_along along origin b = ok_map (reversed_on b) (axis_along along (length b.shape) origin)
 
+-- a shape is another one without the axis
+abbrev pub fits_axis : List ℕ → ℕ → List ℕ → Result (Unit {0}) Fault
+fits_axis shape axis whole = and_then (demand (length shape + 1 == length whole) Rank) (λ ok. demand (same shape (without axis whole)) Length)
+
 -- one number serves for all lines along the axis; else there is one for each index list of the other axes. A scalar has no line
 abbrev pub fits_lines : Arr → Arr → Option ℕ → Result (Unit {0}) Fault
 fits_lines a b None = demand (is_single a.shape) Rank
-fits_lines a b (Some axis) =
-    if is_single a.shape then Ok tt else
-    and_then (demand (length a.shape + 1 == length b.shape) Rank) (λ ok.
-    demand (same a.shape (without axis b.shape)) Length)
+fits_lines a b (Some axis) = if is_single a.shape then Ok tt else fits_axis a.shape axis b.shape
 
 -- by how much the line of an index list is turned round
 abbrev pub turn_at : Arr → List ℤ → ℕ → List ℕ → ℤ

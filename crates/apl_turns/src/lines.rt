@@ -1,8 +1,8 @@
 // Lines along an axis, each turned round in a ravel.
-ghost use Rattle.std.specs.Prelude.{◌≡◌, ◌≢◌, ◌+◌, ◌*◌, ◌%◌, ◌<◌, ◌≤◌, ◌++◌, ℕ, length, map, take, drop, slice_index_or, IfOk, OnOk};
-ghost use Rattle.std.specs.List.{range_with_len};
+ghost use Rattle.std.specs.Prelude.{◌≡◌, ◌≢◌, ◌+◌, ◌*◌, ◌%◌, ◌<◌, ◌≤◌, ◌++◌};
+ghost use Rattle.std.specs.Prelude.{ℕ, length, take, drop, slice_index_or, IfOk, OnOk};
 ghost use Rattle.apl_arrays.specs.Index.{bound_of, size_of};
-ghost use Rattle.apl_turns.specs.Lines.{shift_at, source, source_in};
+ghost use Rattle.apl_turns.specs.inside.Lines.{shift_at, sourced_list, turned_plane, turned_row};
 
 use apl_arrays::{MAX_ELEMENTS, size};
 use std::alloc::{AllocError, Global};
@@ -87,7 +87,7 @@ fn turn_planes<T: Copy>(
     requires known { length shifts.now ≢ 1 → length shifts.now ≡ extent.planes }
     requires below { (line : ℕ) → shift_at shifts.now line < extent.rows }
     requires as_one { (plane line : ℕ) → line < extent.width → shift_at shifts.now (plane * extent.width + line) ≡ shift_at shifts.now plane }
-    ensures { IfOk result (λ v. (d : T) → v.items ≡ map (λ place. slice_index_or raw.now (source extent.rows extent.width shifts.now place) d) (range_with_len 0 (length raw.now))) }
+    ensures { IfOk result (λ v. (d : T) → v.items ≡ sourced_list extent.rows extent.width shifts.now raw.now d) }
 {
     let mut out = Vec::with_capacity(alloc, raw.len())?;
     let size = extent.rows * extent.width;
@@ -110,7 +110,7 @@ fn push_row<T: Copy>(
     requires small { length plane.now ≤ MAX_ELEMENTS }
     requires below { (line : ℕ) → line < length shifts.now → slice_index_or shifts.now line 0 < rows }
     requires within { row < rows }
-    ensures { OnOk result ((d : T) → out.new.items ≡ out.old.items ++ map (λ line. slice_index_or plane.now ((row + slice_index_or shifts.now line 0) % rows * length shifts.now + line) d) (range_with_len 0 (length shifts.now))) }
+    ensures { OnOk result ((d : T) → out.new.items ≡ out.old.items ++ turned_row plane.now shifts.now rows row d) }
 {
     let width = shifts.len();
     for line in 0..width {
@@ -130,7 +130,7 @@ fn push_plane<T: Copy>(
     requires whole { length plane.now ≡ rows * length shifts.now }
     requires small { length plane.now ≤ MAX_ELEMENTS }
     requires below { (line : ℕ) → line < length shifts.now → slice_index_or shifts.now line 0 < rows }
-    ensures { OnOk result ((d : T) → out.new.items ≡ out.old.items ++ map (λ place. slice_index_or plane.now (source_in rows (length shifts.now) (λ line. slice_index_or shifts.now line 0) place) d) (range_with_len 0 (length plane.now))) }
+    ensures { OnOk result ((d : T) → out.new.items ≡ out.old.items ++ turned_plane plane.now shifts.now rows d) }
 {
     for row in 0..rows {
         push_row(out, plane, shifts, rows, row)?;
@@ -150,7 +150,7 @@ fn turn_lines<T: Copy>(
     requires small { length raw.now ≤ MAX_ELEMENTS }
     requires each { length shifts.now ≡ extent.planes * extent.width }
     requires below { (line : ℕ) → shift_at shifts.now line < extent.rows }
-    ensures { IfOk result (λ v. (d : T) → v.items ≡ map (λ place. slice_index_or raw.now (source extent.rows extent.width shifts.now place) d) (range_with_len 0 (length raw.now))) }
+    ensures { IfOk result (λ v. (d : T) → v.items ≡ sourced_list extent.rows extent.width shifts.now raw.now d) }
 {
     let mut out = Vec::with_capacity(alloc, raw.len())?;
     let size = extent.rows * extent.width;
@@ -177,7 +177,7 @@ pub(crate) fn turn<T: Copy>(
     requires small { length raw.now ≤ MAX_ELEMENTS }
     requires known { length shifts.now ≢ 1 → length shifts.now ≡ extent.planes * extent.width }
     requires below { (line : ℕ) → shift_at shifts.now line < extent.rows }
-    ensures { IfOk result (λ v. (d : T) → v.items ≡ map (λ place. slice_index_or raw.now (source extent.rows extent.width shifts.now place) d) (range_with_len 0 (length raw.now))) }
+    ensures { IfOk result (λ v. (d : T) → v.items ≡ sourced_list extent.rows extent.width shifts.now raw.now d) }
 {
     if shifts.len() == 1 {
         return turn_planes(alloc, raw, extent, shifts);

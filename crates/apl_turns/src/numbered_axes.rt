@@ -81,10 +81,10 @@ pub(crate) fn named_axes(
     if a.rank() > 1 {
         return Err(Fault::Rank);
     }
-    if a.ravel().len() != rank {
+    if a.items().len() != rank {
         return Err(Fault::Length);
     }
-    let numbers = numbers_in(a.ravel())?;
+    let numbers = numbers_in(a.items())?;
     let axes = axes_from(origin, numbers)?;
     if have_no_gap(axes.as_slice()) {
         Ok(axes)

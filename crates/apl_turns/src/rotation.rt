@@ -1,17 +1,18 @@
 // Lines of arrays turned round.
-ghost use Rattle.std.specs.Prelude.{◌≡◌, ◌≢◌, ◌*◌, ◌<◌, ◌≤◌, ℕ, length, map, IfOk, IfSome, ◌+◌, ◌==◌, slice_index_or};
+ghost use Rattle.std.specs.Prelude.{◌≡◌, ◌≢◌, ◌*◌, ◌<◌, ◌≤◌, ℕ, length, map, IfOk, IfSome, ◌+◌, slice_index_or};
 ghost use Rattle.apl_arrays.specs.Answers.{Answers, FaultsFirst};
 ghost use Rattle.apl_arrays.specs.Axes.{without};
 ghost use Rattle.apl_arrays.specs.Cells.{cells_of};
-ghost use Rattle.apl_arrays.specs.Checks.{demand, same};
+ghost use Rattle.apl_arrays.specs.Checks.{same};
 ghost use Rattle.apl_arrays.specs.Index.{size_of};
+ghost use Rattle.apl_arrays.specs.Left.{listed};
+ghost use Rattle.apl_arrays.specs.Origins.{origin_number};
 ghost use Rattle.apl_arrays.specs.Ravels.{items_of};
-ghost use Rattle.apl_arrays.specs.Results.{and_then};
-ghost use Rattle.apl_turns.specs.Lines.{shift_at, shift_of, sourced, turned_lines};
-ghost use Rattle.apl_turns.specs.Turns.{fits_lines, rotated};
+ghost use Rattle.apl_turns.specs.inside.Lines.{shift_at, shift_of, sourced, turned_lines};
+ghost use Rattle.apl_turns.specs.Turns.{fits_axis, fits_lines, rotated};
 
 use crate::lines::{Extent, extent_along, turn};
-use apl_arrays::{Along, Array, MAX_ELEMENTS, Ravel, Stop, numbers_in};
+use apl_arrays::{Along, Array, Elements, MAX_ELEMENTS, Origin, Ravel, Stop, numbers_in};
 use apl_faults::Fault;
 use std::alloc::{AllocError, Global};
 
@@ -38,23 +39,23 @@ fn shifts_of(alloc: Global, numbers: &[i64], rows: usize) -> Result<Vec<usize>, 
     Ok(shifts)
 }
 
-/// The elements of a ravel, each line along an axis turned by its number. A single number serves for all lines.
-fn turned_ravel(
+/// Elements, each line of which along an axis is turned by its number. A single number serves for all lines.
+fn turned_items(
     alloc: Global,
-    ravel: &Ravel,
+    items: Elements<'_>,
     extent: Extent,
     shifts: &[usize],
 ) -> Result<Ravel, AllocError>
-    requires whole { length (cells_of (items_of ravel.now)) ≡ extent.planes * (extent.rows * extent.width) }
-    requires some { 0 < length (cells_of (items_of ravel.now)) }
-    requires small { length (cells_of (items_of ravel.now)) ≤ MAX_ELEMENTS }
+    requires whole { length (cells_of (listed items)) ≡ extent.planes * (extent.rows * extent.width) }
+    requires some { 0 < length (cells_of (listed items)) }
+    requires small { length (cells_of (listed items)) ≤ MAX_ELEMENTS }
     requires known { length shifts.now ≢ 1 → length shifts.now ≡ extent.planes * extent.width }
     requires below { (line : ℕ) → shift_at shifts.now line < extent.rows }
-    ensures { IfOk result (λ turned. items_of turned ≡ sourced extent.rows extent.width shifts.now (items_of ravel.now)) }
+    ensures { IfOk result (λ turned. items_of turned ≡ sourced extent.rows extent.width shifts.now (listed items.entry)) }
 {
-    match ravel {
-        Ravel::Nums(raw) => Ok(Ravel::Nums(turn(alloc, raw.as_slice(), extent, shifts)?)),
-        Ravel::Chars(raw) => Ok(Ravel::Chars(turn(alloc, raw.as_slice(), extent, shifts)?)),
+    match items {
+        Elements::Nums(raw) => Ok(Ravel::Nums(turn(alloc, raw, extent, shifts)?)),
+        Elements::Chars(raw) => Ok(Ravel::Chars(turn(alloc, raw, extent, shifts)?)),
     }
 }
 
@@ -65,13 +66,14 @@ fn turn_array(alloc: Global, b: &Array, numbers: &[i64], axis: usize) -> Result<
     ensures turned { IfOk result (λ turned. turned ≡ turned_lines axis numbers.now b.now) }
     ensures full { length (cells_of b.now.items) ≡ size_of b.now.shape }
 {
-    if b.ravel().is_empty() {
+    let items = b.items();
+    if items.is_empty() {
         return b.copy();
     }
     let extent = extent_along(b.shape(), axis);
     let shifts = shifts_of(alloc, numbers, extent.rows)?;
-    let ravel = turned_ravel(alloc, b.ravel(), extent, shifts.as_slice())?;
-    b.with_ravel(ravel)
+    let turned = turned_items(alloc, items, extent, shifts.as_slice())?;
+    b.with_ravel(turned)
 }
 
 /// The length of an axis beside one that is taken out.
@@ -104,7 +106,7 @@ fn is_without(shape: &[usize], axis: usize, whole: &[usize]) -> bool
 /// It is a fault where there is neither one number for all lines nor one for each.
 fn fits_axis(shape: &[usize], axis: usize, whole: &[usize]) -> Result<(), Fault>
     requires { axis < length whole.now }
-    ensures { result ≡ and_then (demand (length shape.now + 1 == length whole.now) Fault.Rank) (λ ok. demand (same shape.now (without axis whole.now)) Fault.Length) }
+    ensures { result ≡ fits_axis shape.now axis whole.now }
 {
     if shape.len() + 1 != whole.len() {
         return Err(Fault::Rank);
@@ -121,7 +123,7 @@ fn fits_lines(a: &Array, b: &Array, axis: Option<usize>) -> Result<(), Fault>
     requires { IfSome axis (λ k. k < length b.now.shape) }
     ensures { result ≡ fits_lines a.now b.now axis }
 {
-    if a.ravel().len() == 1 {
+    if a.items().len() == 1 {
         return Ok(());
     }
     match axis {
@@ -140,14 +142,14 @@ pub fn rotate(
     along: Along<'_>,
     a: &Array,
     b: &Array,
-    origin: usize,
+    origin: Origin,
 ) -> Result<Array, Stop>
-    ensures value { Answers (λ r. r) (rotated along.entry origin a.now b.now) result }
-    ensures at_once { FaultsFirst (rotated along.entry origin a.now b.now) result }
+    ensures value { Answers (λ r. r) (rotated along.entry (origin_number origin) a.now b.now) result }
+    ensures at_once { FaultsFirst (rotated along.entry (origin_number origin) a.now b.now) result }
 {
     let axis = along.axis(b.rank(), origin)?;
     fits_lines(a, b, axis)?;
-    let numbers = numbers_in(a.ravel())?;
+    let numbers = numbers_in(a.items())?;
     match axis {
         Some(axis) => Ok(turn_array(alloc, b, numbers, axis)?),
         None => Ok(b.copy()?),

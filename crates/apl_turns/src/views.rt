@@ -2,10 +2,11 @@
 ghost use Rattle.std.specs.Prelude.{◌≡◌, ◌-◌, ◌≤◌, map, Ok};
 ghost use Rattle.std.specs.List.{range_with_len};
 ghost use Rattle.apl_arrays.specs.Answers.{Answers, FaultsFirst};
+ghost use Rattle.apl_arrays.specs.Origins.{origin_number};
 ghost use Rattle.apl_turns.specs.Turns.{transposed, transposed_by, reversed_along};
 
 use crate::numbered_axes::named_axes;
-use apl_arrays::{Along, Array, MAX_RANK, Stop, View};
+use apl_arrays::{Along, Array, MAX_RANK, Origin, Stop, View};
 use arrayvec::ArrayVec;
 use std::alloc::Global;
 
@@ -34,24 +35,23 @@ pub fn transpose(alloc: Global, b: &Array) -> Result<Array, Stop>
 ///
 /// More than one axis of `a` is a rank fault, another count than that of the axes of `b` a length fault. A character is a domain fault, and
 /// so is a number below the origin, or a gap between the numbers. Every fault is found before memory is asked for.
-pub fn transpose_by(alloc: Global, a: &Array, b: &Array, origin: usize) -> Result<Array, Stop>
-    ensures value { Answers (λ r. r) (transposed_by origin a.now b.now) result }
-    ensures at_once { FaultsFirst (transposed_by origin a.now b.now) result }
+pub fn transpose_by(alloc: Global, a: &Array, b: &Array, origin: Origin) -> Result<Array, Stop>
+    ensures value { Answers (λ r. r) (transposed_by (origin_number origin) a.now b.now) result }
+    ensures at_once { FaultsFirst (transposed_by (origin_number origin) a.now b.now) result }
 {
-    let axes = named_axes(a, b.rank(), origin)?;
+    let axes = named_axes(a, b.rank(), origin.number())?;
     Ok(View::whole(b).turned(axes.as_slice()).copied(alloc)?)
 }
 
 /// An array with an axis taken the other way. A scalar stays.
 ///
 /// The faults are those of [`Along::axis`], and are found before memory is asked for.
-pub fn reverse(alloc: Global, along: Along<'_>, b: &Array, origin: usize) -> Result<Array, Stop>
-    ensures value { Answers (λ r. r) (reversed_along along.entry origin b.now) result }
-    ensures at_once { FaultsFirst (reversed_along along.entry origin b.now) result }
+pub fn reverse(alloc: Global, along: Along<'_>, b: &Array, origin: Origin) -> Result<Array, Stop>
+    ensures value { Answers (λ r. r) (reversed_along along.entry (origin_number origin) b.now) result }
+    ensures at_once { FaultsFirst (reversed_along along.entry (origin_number origin) b.now) result }
 {
-    let whole = View::whole(b);
     match along.axis(b.rank(), origin)? {
-        Some(axis) => Ok(whole.reversed(axis).copied(alloc)?),
-        None => Ok(whole.copied(alloc)?),
+        Some(axis) => Ok(View::whole(b).reversed(axis).copied(alloc)?),
+        None => Ok(b.copy()?),
     }
 }

@@ -145,7 +145,8 @@ operand_of d = do
 unfoldable pub rest_of : Data → Result RestField TreeError
 rest_of d = do
   ms ← form_of (as_object d)
-  p ← with_field (codes "classes") text_of (with_field (codes "code") text_of (with_field (codes "done") whole_of (with_field (codes "operands") (list_of operand_of) ended))) ms
+  p ← with_field (codes "classes") text_of (with_field (codes "code") text_of (with_field (codes "done") whole_of
+      (with_field (codes "operands") (list_of operand_of) ended))) ms
   Ok (record { classes = p.0; code = p.1.0; done = p.1.1.0; operands = p.1.1.1.0 })
 
 unfoldable pub local_of : Data → Result LocalField TreeError
@@ -166,21 +167,24 @@ execute_of ms = do
 
 unfoldable pub call_of : Members → Result CallField TreeError
 call_of ms = do
-  p ← with_field (codes "at") whole_of (with_field (codes "header") text_of (with_field (codes "kind") (word_of (codes "call")) (with_field (codes "lines") (list_of text_of)
-      (with_field (codes "locals") (list_of local_of) (with_field (codes "rest") (option_of rest_of) ended))))) ms
+  p ← with_field (codes "at") whole_of (with_field (codes "header") text_of (with_field (codes "kind") (word_of (codes "call"))
+      (with_field (codes "lines") (list_of text_of) (with_field (codes "locals") (list_of local_of) (with_field (codes "rest") (option_of rest_of) ended))))) ms
   Ok (record { at = p.0; header = p.1.0; lines = p.1.1.1.0; locals = p.1.1.1.1.0; rest = p.1.1.1.1.1.0 })
 
 unfoldable pub context_of : Data → Result ContextField TreeError
 context_of d = do
   ms ← form_of (as_object d)
-  if begins_with (codes "at") ms then (call_of ms >>= λ c. Ok (Call c)) else (if is_of_kind (codes "statement") ms then (statement_of ms >>= λ s. Ok (Statement s)) else (execute_of ms >>= λ s. Ok (Execute s)))
+  if begins_with (codes "at") ms then (call_of ms >>= λ c. Ok (Call c))
+      else (if is_of_kind (codes "statement") ms then (statement_of ms >>= λ s. Ok (Statement s))
+      else (execute_of ms >>= λ s. Ok (Execute s)))
 
 -- ---- a file
 
 unfoldable pub function_of : Data → Result FunctionField TreeError
 function_of d = do
   ms ← form_of (as_object d)
-  p ← with_field (codes "header") text_of (with_field (codes "lines") (list_of text_of) (with_field (codes "stop") (list_of whole_of) (with_field (codes "trace") (list_of whole_of) ended))) ms
+  p ← with_field (codes "header") text_of (with_field (codes "lines") (list_of text_of)
+      (with_field (codes "stop") (list_of whole_of) (with_field (codes "trace") (list_of whole_of) ended))) ms
   Ok (record { header = p.0; lines = p.1.0; stop = p.1.1.0; trace = p.1.1.1.0 })
 
 unfoldable pub variable_of : Data → Result VariableField TreeError

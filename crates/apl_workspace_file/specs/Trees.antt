@@ -53,14 +53,17 @@ abbrev pub local_tree : LocalField → Data
 local_tree l = object (member (codes "name") (string l.name) (member (codes "value") (option_tree array_tree l.value) no_members))
 
 abbrev pub statement_tree : StatementField → Data
-statement_tree s = object (member (codes "kind") (string (codes "statement")) (member (codes "line") (string s.line) (member (codes "rest") (rest_tree s.rest) no_members)))
+statement_tree s = object (member (codes "kind") (string (codes "statement")) (member (codes "line") (string s.line)
+    (member (codes "rest") (rest_tree s.rest) no_members)))
 
 abbrev pub execute_tree : StatementField → Data
-execute_tree s = object (member (codes "kind") (string (codes "execute")) (member (codes "rest") (rest_tree s.rest) (member (codes "text") (string s.line) no_members)))
+execute_tree s = object (member (codes "kind") (string (codes "execute")) (member (codes "rest") (rest_tree s.rest)
+    (member (codes "text") (string s.line) no_members)))
 
 abbrev pub call_tree : CallField → Data
 call_tree c = object (member (codes "at") (whole_tree c.at) (member (codes "header") (string c.header) (member (codes "kind") (string (codes "call"))
-    (member (codes "lines") (list_tree string c.lines) (member (codes "locals") (list_tree local_tree c.locals) (member (codes "rest") (option_tree rest_tree c.rest) no_members))))))
+    (member (codes "lines") (list_tree string c.lines) (member (codes "locals") (list_tree local_tree c.locals)
+    (member (codes "rest") (option_tree rest_tree c.rest) no_members))))))
 
 abbrev pub context_tree : ContextField → Data
 context_tree (Statement s) = statement_tree s
@@ -81,4 +84,5 @@ version_tree Two = whole_tree 2
 -- the tree of a file
 abbrev pub tree_of : File → Data
 tree_of f = object (member (codes "contexts") (list_tree context_tree f.contexts) (member (codes "functions") (list_tree function_tree f.functions)
-    (member (codes "io") (whole_tree f.origin) (member (codes "variables") (list_tree variable_tree f.variables) (member (codes "version") (version_tree f.version) no_members)))))
+    (member (codes "io") (whole_tree f.origin) (member (codes "variables") (list_tree variable_tree f.variables)
+    (member (codes "version") (version_tree f.version) no_members)))))

@@ -1,5 +1,5 @@
 use Rattle.std.proofs.Common.{◌≡◌, ◌+◌, drop}
-use Rattle.apl_arrays.specs.Joins.{ups, downs, skips}
+use Rattle.apl_arrays.specs.inside.Joins.{ups, downs, skips}
 use Rattle.apl_arrays.proofs.join.join.Given as goal
 
 abbrev pub invariant-loop-m : goal.invariant-loop-m

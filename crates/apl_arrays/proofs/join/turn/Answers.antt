@@ -1,6 +1,6 @@
 use Rattle.std.proofs.Common.{◌≤◌, ◌<◌, ◌++◌, ◌∷◌, [], length, arith, ap, ◌∙◌}
 use Rattle.std.proofs.lemmas.List.Elements.{recursion_from_All}
-use Rattle.apl_arrays.specs.Joins.{joined_axis, joined_skip}
+use Rattle.apl_arrays.specs.inside.Joins.{joined_axis, joined_skip}
 use Rattle.apl_arrays.specs.Views.{rank_of}
 use Rattle.apl_arrays.proofs.Gathers.{line_step}
 use Rattle.apl_arrays.proofs.Joining.{rank_within, sum_step, skip_turned}

@@ -1,6 +1,6 @@
 use Rattle.std.proofs.Common.{◌≡◌, ◌+◌, ◌-◌, ◌++◌, length, map}
 use Rattle.std.specs.List.{range_with_len}
-use Rattle.apl_arrays.specs.Joins.{joined_axis, joined_skip, sum_of, turned_axes, turned_skip}
+use Rattle.apl_arrays.specs.inside.Joins.{joined_axis, joined_skip, sum_of, turned_axes, turned_skip}
 use Rattle.apl_arrays.specs.Views.{rank_of}
 use Rattle.apl_arrays.proofs.join.turn.Given as goal
 

@@ -33,7 +33,7 @@ loop-k-preserved g c =
     let fits : SFits w64 c.either-flags.result = search rules in
     let fits_flag : SFits w64 c.take_row-flag.result = search rules in
     let raised : pos 0 ≤ℤ c.either-flags.result = simp to_z-of_z at z in
-    let both = c.either-flags.ensures raised in
+    let both = c.either-flags.ensures.neither raised in
     let fresh : pos 0 ≤ℤ c.take_row-flag.result = simp to_z-of_z at both.1 in
     fold_before g.F.Scalar.meaning line c.loop-k.k (get_or c.loop-k.folds j (pos 0)) (omega arith) (omega (arith, length-line (pos 0) c.args.numbers.now c.args.axis.now (c.args.at + j) c.args.count)) (c.loop-k.invariant both.0 j h)
     ∙ ap (λ (x : ℤ). g.F.Scalar.meaning x (get_or c.loop-k.folds j (pos 0)))

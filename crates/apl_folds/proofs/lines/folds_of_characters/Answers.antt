@@ -9,5 +9,5 @@ pub returns : goal.returns
 returns c =
     answers_along (λ (v : Vec ℤ Global). v.items) _ _ c.walked.result
     (made_same _ _ c.args.lines.now.start.at c.args.lines.now.start.count c.args.lines.now.start.depth c.args.lines.now.axes.now
-    (λ p count. verdict c.args.function (agree (line_of 0 c.args.characters.now c.args.lines.now.inner p count)) c.compare.result c.compare-2.result c.compare.ensures c.compare-2.ensures))
+    (λ p count. verdict c.args.function (agree (line_of 0 c.args.characters.now c.args.lines.now.inner p count)) c.compared.result c.compared-2.result c.compared.ensures c.compared-2.ensures))
     c.walked.ensures

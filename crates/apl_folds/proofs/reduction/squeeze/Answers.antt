@@ -11,7 +11,7 @@ pub formed-requires-clause-full : goal.formed-requires-clause-full
 formed-requires-clause-full c =
     let es : c.remove-length.new.self.items ≡ without c.args.axis c.args.view.now.shape =
     parted c.args.view.now.shape c.shape-shape.result.items c.remove-length.new.self.items c.remove-length.new.self.items c.args.axis c.requires.axis c.shape-shape.ensures.value c.remove-length.ensures.items refl in
-    ap (λ (i : Items). length (cells_of i)) (c.in_ok-copy.ensures ∙ c.ravel.ensures.value ∙ ap (λ (a : Arr). a.items) c.in_ok-copied.ensures)
+    ap (λ (i : Items). length (cells_of i)) (c.in_ok-to_ravel.ensures ∙ c.items.ensures ∙ c.in_ok-in_order.ensures)
     ∙ c.shape-shape.ensures.array.full
     ∙ sym (size-squeezed c.args.view.now.shape c.args.axis c.requires.axis c.requires.one)
     ∙ ap size_of (sym es)
@@ -27,5 +27,5 @@ returns c =
     let es : c.remove-length.new.self.items ≡ without c.args.axis c.args.view.now.shape =
     parted c.args.view.now.shape c.shape-shape.result.items c.remove-length.new.self.items c.remove-length.new.self.items c.args.axis c.requires.axis c.shape-shape.ensures.value c.remove-length.ensures.items refl in
     answers_along (λ (r : Arr). r) _ _ c.formed.result
-    (same_array _ _ _ _ (sym es) (sym (c.in_ok-copy.ensures ∙ c.ravel.ensures.value ∙ ap (λ (a : Arr). a.items) c.in_ok-copied.ensures)))
+    (same_array _ _ _ _ (sym es) (sym (c.in_ok-to_ravel.ensures ∙ c.items.ensures ∙ c.in_ok-in_order.ensures)))
     c.formed.ensures

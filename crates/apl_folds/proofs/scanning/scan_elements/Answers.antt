@@ -1,69 +1,61 @@
-use Rattle.std.proofs.Common.{arith, ◌≡◌, ℤ, Vec, Global, Bool, true, cond, length, Err, refl, ap, sym, ◌∙◌}
+use Rattle.std.proofs.Common.{◌≡◌, ℤ, Vec, Global, Bool, true, cond, Err, refl, ap, sym, ◌∙◌}
 use Rattle.std.proofs.lemmas.List.{length-map}
 use Rattle.std.proofs.lemmas.Result.{err_from_is_err_and}
 use Rattle.apl_faults.specs.declared.fault.Fault.TheVariants.{Domain}
 use Rattle.apl_arrays.specs.declared.cell.Cell.TheVariants.{Num}
-use Rattle.apl_arrays.specs.declared.cell.Ravel.{Ravel}
+use Rattle.apl_arrays.specs.declared.elements.Elements.{Elements}
 use Rattle.apl_arrays.specs.Cells.{Arr, Numbers}
 use Rattle.apl_arrays.specs.Checks.{demand}
 use Rattle.apl_arrays.specs.Index.{size_of}
 use Rattle.apl_arrays.specs.Kinds.{are_numbers}
-use Rattle.apl_arrays.specs.Ravels.{items_of}
+use Rattle.apl_arrays.specs.Left.{listed}
 use Rattle.apl_arrays.specs.Results.{ok_map}
-use Rattle.apl_arrays.specs.Strides.{lengths, seen}
+use Rattle.apl_arrays.specs.Strides.{seen}
 use Rattle.apl_arrays.proofs.Exits.{answers_along, answers_err, first_passes, ok_map_err}
 use Rattle.apl_arrays.proofs.InTurn.{length-all_ok}
 use Rattle.apl_arrays.proofs.Order.{length-indices}
-use Rattle.apl_arrays.proofs.Steps.{length-lengths}
 use Rattle.apl_scalar.specs.Extension.{numbers_in}
 use Rattle.apl_folds.specs.Scans.{fronts_along, fronts_shaped}
-use Rattle.apl_folds.specs.Lines.{shown_by}
-use Rattle.apl_folds.proofs.Shapes.{same_array, shows_one}
+use Rattle.apl_folds.proofs.Shapes.{same_array}
 use Rattle.apl_folds.proofs.scanning.scan_elements.Goals as goal
-
-pub fronts-requires-clause-axis : goal.fronts-requires-clause-axis
-fronts-requires-clause-axis c = omega (arith, length-lengths c.strided-strided.result.axes.now, ap length c.strided-strided.ensures.shape)
 
 pub returns-in_err-folds-in-Nums-clause-value : goal.returns-in_err-folds-in-Nums-clause-value
 returns-in_err-folds-in-Nums-clause-value c =
     let p = err_from_is_err_and c.from_residual.result c.from_residual.ensures.1 in
     let numeric : are_numbers c.args.view.now.items ≡ true =
-    ap are_numbers c.strided-strided.ensures.items ∙ ap (λ (r : Ravel). are_numbers (seen (items_of r) c.strided-strided.result.offset c.strided-strided.result.axes.now)) c.in-Nums.is in
+    ap are_numbers c.strided-strided.ensures.items ∙ ap (λ (e : Elements). are_numbers (seen (listed e) c.strided-strided.result.offset c.strided-strided.result.axes.now)) c.in-Nums.is in
     rw (p.1, p.2)
-    (answers_err {B = Arr} {D = Arr} (λ (v : Vec ℤ Global). v.items) (λ r. r) (fronts_along c.args.function c.args.axis (shown_by c.strided-strided.result))
+    (answers_err {B = Arr} {D = Arr} (λ (v : Vec ℤ Global). v.items) (λ r. r) (fronts_along c.args.function c.args.axis c.args.view.now)
     (cond (are_numbers c.args.view.now.items) (fronts_shaped c.args.function c.args.axis c.args.view.now) (Err Domain)) c.in_err-folds-in-Nums.field-0.0
     (λ e h. ap (λ (b : Bool). cond b (fronts_shaped c.args.function c.args.axis c.args.view.now) (Err Domain)) numeric
-    ∙ ap (λ (a : Arr). fronts_shaped c.args.function c.args.axis a) (sym (shows_one c.args.view.now c.strided-strided.result c.strided-strided.ensures))
-    ∙ ok_map_err (numbers_in (lengths c.strided-strided.result.axes.now)) (fronts_along c.args.function c.args.axis (shown_by c.strided-strided.result)) e h)
+    ∙ ok_map_err (numbers_in c.args.view.now.shape) (fronts_along c.args.function c.args.axis c.args.view.now) e h)
     c.in_err-folds-in-Nums.ensures)
 
 pub formed-requires-clause-full : goal.formed-requires-clause-full
 formed-requires-clause-full c =
     length-map c.in_ok-folds-in-Nums.folds.items Num
     ∙ length-all_ok _ _ c.in_ok-folds-in-Nums.folds.items c.in_ok-folds-in-Nums.ensures
-    ∙ length-indices (lengths c.strided-strided.result.axes.now)
-    ∙ ap size_of (sym c.strided-strided.ensures.shape ∙ sym c.shape-shape.ensures.value)
+    ∙ length-indices c.args.view.now.shape
+    ∙ ap size_of (sym c.shape.ensures.value)
 
 pub returns-in_ok-folds-in-Nums-clause-value : goal.returns-in_ok-folds-in-Nums-clause-value
 returns-in_ok-folds-in-Nums-clause-value c =
     let numeric : are_numbers c.args.view.now.items ≡ true =
-    ap are_numbers c.strided-strided.ensures.items ∙ ap (λ (r : Ravel). are_numbers (seen (items_of r) c.strided-strided.result.offset c.strided-strided.result.axes.now)) c.in-Nums.is in
+    ap are_numbers c.strided-strided.ensures.items ∙ ap (λ (e : Elements). are_numbers (seen (listed e) c.strided-strided.result.offset c.strided-strided.result.axes.now)) c.in-Nums.is in
     answers_along (λ (r : Arr). r) _ _ c.formed.result
     (ap (λ (b : Bool). cond b (fronts_shaped c.args.function c.args.axis c.args.view.now) (Err Domain)) numeric
-    ∙ ap (λ (a : Arr). fronts_shaped c.args.function c.args.axis a) (sym (shows_one c.args.view.now c.strided-strided.result c.strided-strided.ensures))
-    ∙ ap (ok_map (numbers_in (lengths c.strided-strided.result.axes.now))) c.in_ok-folds-in-Nums.ensures
-    ∙ same_array (lengths c.strided-strided.result.axes.now) c.shape-shape.result.items (Numbers c.in_ok-folds-in-Nums.folds.items) (Numbers c.in_ok-folds-in-Nums.folds.items)
-    (sym c.strided-strided.ensures.shape ∙ sym c.shape-shape.ensures.value) refl)
+    ∙ ap (ok_map (numbers_in c.args.view.now.shape)) c.in_ok-folds-in-Nums.ensures
+    ∙ same_array c.args.view.now.shape c.shape.result.items (Numbers c.in_ok-folds-in-Nums.folds.items) (Numbers c.in_ok-folds-in-Nums.folds.items) (sym c.shape.ensures.value) refl)
     c.formed.ensures
 
 pub returns-in_err-folds-in-Nums-clause-at_once : goal.returns-in_err-folds-in-Nums-clause-at_once
 returns-in_err-folds-in-Nums-clause-at_once c =
     let numeric : are_numbers c.args.view.now.items ≡ true =
-    ap are_numbers c.strided-strided.ensures.items ∙ ap (λ (r : Ravel). are_numbers (seen (items_of r) c.strided-strided.result.offset c.strided-strided.result.axes.now)) c.in-Nums.is in
+    ap are_numbers c.strided-strided.ensures.items ∙ ap (λ (e : Elements). are_numbers (seen (listed e) c.strided-strided.result.offset c.strided-strided.result.axes.now)) c.in-Nums.is in
     first_passes (demand (are_numbers c.args.view.now.items) Domain) tt _ (ap (λ (b : Bool). demand b Domain) numeric)
 
 pub returns-in_ok-folds-in-Nums-clause-at_once : goal.returns-in_ok-folds-in-Nums-clause-at_once
 returns-in_ok-folds-in-Nums-clause-at_once c =
     let numeric : are_numbers c.args.view.now.items ≡ true =
-    ap are_numbers c.strided-strided.ensures.items ∙ ap (λ (r : Ravel). are_numbers (seen (items_of r) c.strided-strided.result.offset c.strided-strided.result.axes.now)) c.in-Nums.is in
+    ap are_numbers c.strided-strided.ensures.items ∙ ap (λ (e : Elements). are_numbers (seen (listed e) c.strided-strided.result.offset c.strided-strided.result.axes.now)) c.in-Nums.is in
     first_passes (demand (are_numbers c.args.view.now.items) Domain) tt _ (ap (λ (b : Bool). demand b Domain) numeric)

@@ -1,5 +1,5 @@
 use Rattle.std.proofs.Common.{◌≡◌, ◌<◌, ◌≤◌, ◌*◌, ◌^◌, take}
-use Rattle.apl_folds.specs.Sums.{total, magnitudes}
+use Rattle.apl_folds.specs.inside.Sums.{total, magnitudes}
 use Rattle.apl_folds.proofs.sums.sum_small.Given as goal
 
 -- while the bound says so, the numbers so far are small, and their sum is exact

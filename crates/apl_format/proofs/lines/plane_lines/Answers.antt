@@ -1,5 +1,5 @@
 use Rattle.std.proofs.Common.{arith}
-use Rattle.apl_arrays.specs.Ravels.{items_of}
+use Rattle.apl_arrays.specs.Left.{listed}
 use Rattle.apl_format.specs.Display.{row_line, joined, planes}
 use Rattle.apl_format.proofs.Rows.{planes_step}
 use Rattle.apl_format.proofs.lines.plane_lines.Goals as goal
@@ -11,5 +11,5 @@ loop-plane-init c = record { place = omega arith; written = c.in_ok-lines.ensure
 pub loop-plane-preserved : goal.loop-plane-preserved
 loop-plane-preserved c = record {
   place = omega arith;
-  written = planes_step (row_line c.args.widths.now) c.loop-plane.plane c.args.height c.args.columns (items_of c.args.ravel.now) c.loop-plane.invariant.place c.loop-plane.invariant.written c.in_ok-push_gap.ensures c.in_ok-push_plane.ensures;
+  written = planes_step (row_line c.args.widths.now) c.loop-plane.plane c.args.height c.args.columns (listed c.args.items) c.loop-plane.invariant.place c.loop-plane.invariant.written c.in_ok-push_gap.ensures c.in_ok-push_plane.ensures;
 }

@@ -1,18 +1,17 @@
-use Rattle.std.proofs.Common.{◌≡◌, ◌+◌, ◌-◌, ◌<◌, ◌≤◌, ℕ, List, [], ◌∷◌, ◌++◌, Option, Some, length, length-drop, drop, sym, ap, ◌∙◌, subst, refl, arith}
+use Rattle.std.proofs.Common.{◌≡◌, ◌-◌, ◌<◌, ℕ, List, [], ◌∷◌, ◌++◌, Option, Some, length, length-drop, drop, sym, ap, ◌∙◌, subst, refl, arith}
 use Rattle.std.specs.Prelude.{IfSome}
 use Rattle.apl_code.specs.declared.instr.Instr.{Instr}
 use Rattle.apl_code.specs.Code.{IsCode}
 use Rattle.apl_code.specs.Instr.{IsInstr}
 use Rattle.apl_listing.specs.Listing.{line, listed}
+use Rattle.apl_listing.specs.Assembly.{BeginsLine}
 use Rattle.apl_listing.proofs.Choices.{of_some, of_none}
 use Rattle.apl_listing.proofs.FirstLines.{form_none, form_full, form_more, whole, read_more}
 use Rattle.apl_listing.proofs.assembly.assemble.Goals as goal
 
 -- what was found, with the number of lines in the place of the length that was asked
-found_at : (text : List ℕ) (code : List Instr) (n at : ℕ) (o : Option (Instr × ℕ)) (i : Instr) (len : ℕ) → n ≡ length code → o ≡ Some (i, len) → IfSome o (λ x. IsInstr x.0 × (at + x.1 ≤ length text) × (drop at text ≡ line n x.0 ++ drop x.1 (drop at text))) → IsInstr i × (at + len ≤ length text) × (drop at text ≡ line (length code) i ++ drop len (drop at text))
-found_at text code n at o i len m e h =
-    let f = of_some o (i, len) (λ x. IsInstr x.0 × (at + x.1 ≤ length text) × (drop at text ≡ line n x.0 ++ drop x.1 (drop at text))) e h in
-    (f.0, f.1, f.2 ∙ ap (λ k. line k i ++ drop len (drop at text)) m)
+found_at : (text : List ℕ) (code : List Instr) (n at : ℕ) (o : Option (Instr × ℕ)) (i : Instr) (len : ℕ) → n ≡ length code → o ≡ Some (i, len) → IfSome o (BeginsLine text n at) → BeginsLine text (length code) at (i, len)
+found_at text code n at o i len m e h = subst (λ k. BeginsLine text k at (i, len)) m (of_some o (i, len) (BeginsLine text n at) e h)
 
 rest_length : (text : List ℕ) (at len : ℕ) → length (drop len (drop at text)) ≡ length text - at - len
 rest_length text at len = length-drop len (drop at text) ∙ ap (λ n. n - len) (length-drop at text)

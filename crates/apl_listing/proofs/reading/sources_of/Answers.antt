@@ -1,5 +1,5 @@
 use Rattle.std.proofs.Common.{◌≡◌, ◌<◌, [], ◌∷◌, ◌++◌, length, map, ap, ◌∙◌, arith}
-use Rattle.apl_listing.specs.Reading.{until, words, source_of}
+use Rattle.apl_listing.specs.inside.Reading.{until, words, source_of}
 use Rattle.apl_listing.proofs.Words.{past_less, source_more}
 use Rattle.apl_listing.proofs.reading.sources_of.Goals as goal
 

@@ -1,5 +1,5 @@
 use Rattle.std.proofs.Common.{◌≡◌, ◌++◌, map, length}
-use Rattle.apl_listing.specs.Reading.{words, source_of}
+use Rattle.apl_listing.specs.inside.Reading.{words, source_of}
 use Rattle.apl_listing.proofs.reading.sources_of.Given as goal
 
 abbrev pub invariant-loop-text : goal.invariant-loop-text

@@ -1,5 +1,5 @@
 use Rattle.std.proofs.Common.{◌≡◌, ◌++◌, take, drop}
-use Rattle.apl_listing.specs.Reading.{until, past}
+use Rattle.apl_listing.specs.inside.Reading.{until, past}
 use Rattle.apl_listing.proofs.reading.split.Given as goal
 
 abbrev pub invariant-loop-i : goal.invariant-loop-i

@@ -1,5 +1,5 @@
 use Rattle.std.proofs.Common.{◌≢◌, IfErr, sym, subst}
-use Rattle.apl_loading.specs.Made.{RefusesPart}
+use Rattle.apl_loading.specs.inside.Made.{RefusesPart}
 use Rattle.apl_loading.specs.declared.error.LoadFault.TheVariants as fault
 use Rattle.apl_loading.proofs.contexts.build.Goals as goal
 

@@ -1,7 +1,7 @@
 use Rattle.std.proofs.Common.{refl, sym, subst}
 use Rattle.std.proofs.lemmas.Result.{err_from_is_err_and}
 use Rattle.apl_defn.specs.Definitions.{line_of}
-use Rattle.apl_loading.specs.Made.{AreLocals, IsCallBy}
+use Rattle.apl_loading.specs.inside.Made.{AreLocals, IsCallBy}
 use Rattle.apl_loading.proofs.OneCall.{at_line, no_line, no_call_rest, rest_of_line}
 use Rattle.apl_loading.proofs.contexts.read_call.Goals as goal
 

@@ -1,5 +1,5 @@
 use Rattle.std.proofs.Common.{sym, subst}
-use Rattle.apl_loading.specs.Made.{IsListed}
+use Rattle.apl_loading.specs.inside.Made.{IsListed}
 use Rattle.apl_loading.proofs.OneDefinition.{not_true}
 use Rattle.apl_loading.proofs.OneStep.{refused_place, refused_code, taken}
 use Rattle.apl_loading.proofs.contexts.read_context.Goals as goal

@@ -1,6 +1,6 @@
 use Rattle.std.proofs.Common.{◌≤◌, drop}
 use Rattle.apl_loading.specs.Refusals.{Below, TakesContext, RefusesContext, context_after, nothing_below}
-use Rattle.apl_loading.specs.Made.{IsBelow}
+use Rattle.apl_loading.specs.inside.Made.{IsBelow}
 use Rattle.apl_loading.proofs.Taken.{HasTaken}
 use Rattle.apl_loading.proofs.contexts.read_contexts.Given as goal
 

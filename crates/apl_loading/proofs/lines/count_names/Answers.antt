@@ -1,6 +1,6 @@
 use Rattle.std.proofs.Common.{ap, ◌∙◌}
 use Rattle.std.specs.List.{count_by}
-use Rattle.apl_loading.specs.Made.{is_named}
+use Rattle.apl_loading.specs.inside.Made.{is_named}
 use Rattle.apl_loading.proofs.OneLine.{names_number}
 use Rattle.apl_loading.proofs.lines.count_names.Goals as goal
 

@@ -1,4 +1,4 @@
-use Rattle.apl_loading.specs.Made.{IsNamedBy}
+use Rattle.apl_loading.specs.inside.Made.{IsNamedBy}
 use Rattle.apl_loading.proofs.Lists.{pair_length}
 use Rattle.apl_loading.proofs.OneDefinition.{no_truth}
 use Rattle.apl_loading.proofs.locals.are_named.Goals as goal

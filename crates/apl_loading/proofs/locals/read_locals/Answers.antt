@@ -1,5 +1,5 @@
 use Rattle.std.proofs.Common.{length, refl, sym, ap, ◌∙◌}
-use Rattle.apl_loading.specs.Made.{IsNamedBy}
+use Rattle.apl_loading.specs.inside.Made.{IsNamedBy}
 use Rattle.apl_loading.proofs.Lists.{pair_length}
 use Rattle.apl_loading.proofs.OneContext.{no_locals}
 use Rattle.apl_loading.proofs.OneDefinition.{not_true}

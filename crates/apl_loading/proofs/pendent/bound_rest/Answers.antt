@@ -1,7 +1,7 @@
 use Rattle.std.proofs.Common.{false, refl, sym, subst}
 use Rattle.apl_translate.specs.Binding.{bound_of}
 use Rattle.apl_translate.specs.Translation.{Translates}
-use Rattle.apl_loading.specs.Made.{HasStack}
+use Rattle.apl_loading.specs.inside.Made.{HasStack}
 use Rattle.apl_loading.proofs.OneDefinition.{not_true}
 use Rattle.apl_loading.proofs.OneLine.{no_stack}
 use Rattle.apl_loading.proofs.pendent.bound_rest.Goals as goal

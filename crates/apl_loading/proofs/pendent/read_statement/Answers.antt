@@ -1,6 +1,6 @@
 use Rattle.std.proofs.Common.{sym, subst}
 use Rattle.std.proofs.lemmas.Result.{err_from_is_err_and}
-use Rattle.apl_loading.specs.Made.{IsWaitingBy}
+use Rattle.apl_loading.specs.inside.Made.{IsWaitingBy}
 use Rattle.apl_loading.proofs.OneLine.{no_statement}
 use Rattle.apl_loading.proofs.pendent.read_statement.Goals as goal
 

@@ -1,6 +1,6 @@
 use Rattle.std.proofs.Common.{sym, subst}
 use Rattle.apl_saved.specs.Rules.{function_names}
-use Rattle.apl_loading.specs.Made.{AreFrom}
+use Rattle.apl_loading.specs.inside.Made.{AreFrom}
 use Rattle.apl_loading.proofs.OneDefinition.{not_true}
 use Rattle.apl_loading.proofs.Ahead.{pass_at, stop_at}
 use Rattle.apl_loading.proofs.variables.from_name.Goals as goal

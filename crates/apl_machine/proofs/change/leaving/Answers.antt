@@ -3,8 +3,8 @@ use Rattle.std.specs.Prelude.{option_copied}
 use Rattle.apl_faults.specs.declared.fault.Fault.TheVariants.{Syntax}
 use Rattle.apl_operands.specs.Operands.{fetched}
 use Rattle.apl_machine.specs.Executing.{executes}
-use Rattle.apl_machine.specs.Leaving.{leaving}
-use Rattle.apl_machine.specs.Traces.{trace_of}
+use Rattle.apl_machine.specs.inside.Leaving.{leaving}
+use Rattle.apl_machine.specs.inside.Traces.{trace_of}
 use Rattle.apl_machine.proofs.Faulty.{fail_is_fault, faulty_end, leaving_held, other_ending, same_held}
 use Rattle.apl_machine.proofs.change.leaving.Goals as goal
 

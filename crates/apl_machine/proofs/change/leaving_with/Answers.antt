@@ -5,8 +5,8 @@ use Rattle.apl_machine_state.specs.declared.operand.Operand.TheVariants.{Value}
 use Rattle.apl_machine_state.specs.Changes.{aim}
 use Rattle.apl_machine_state.specs.Watching.{blank}
 use Rattle.apl_machine.specs.Executing.{executes}
-use Rattle.apl_machine.specs.Leaving.{Aims, finished, leaving}
-use Rattle.apl_machine.specs.Traces.{trace_of}
+use Rattle.apl_machine.specs.inside.Leaving.{Aims, finished, leaving}
+use Rattle.apl_machine.specs.inside.Traces.{trace_of}
 use Rattle.apl_machine.proofs.Faulty.{faulty_end, leads_somewhere, leads_to_fault, left_as}
 use Rattle.apl_machine.proofs.change.leaving_with.Goals as goal
 

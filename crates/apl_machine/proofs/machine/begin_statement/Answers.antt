@@ -1,4 +1,5 @@
 use Rattle.std.proofs.Common.{List, None, sym, ap, ◌∙◌, subst}
+use Rattle.apl_arrays.specs.Origins.{origin_number}
 use Rattle.apl_machine_state.specs.Beginning.{started}
 use Rattle.apl_contexts.specs.declared.context.Context.{Context}
 use Rattle.apl_machine.specs.Spaces.{Space, IsSound, state_of}
@@ -10,7 +11,7 @@ use Rattle.apl_machine.proofs.machine.begin_statement.Goals as goal
 
 pub returns-clause-ok : goal.returns-clause-ok
 returns-clause-ok c =
-    let s : Space = record { maps = c.workspace.inside.names; kept = settings c.workspace.inside.stops c.workspace.inside.traces c.workspace.inside.io; contexts = c.workspace.inside.contexts; output = c.workspace.inside.output.items } in
+    let s : Space = record { maps = c.workspace.inside.names; kept = settings c.workspace.inside.stops c.workspace.inside.traces (origin_number c.workspace.inside.io); contexts = c.workspace.inside.contexts; output = c.workspace.inside.output.items } in
     let sound : IsSound s = subst IsSound (sym c.workspace.view_is) c.requires.sound in
     ap (λ (l : List Context). state_at s.maps s.kept l s.output) c.in_ok-push.ensures.ok
     ∙ started_is s.maps s.kept s.output s.contexts (record { text = c.new-text.result; line = c.in_ok-line.line }) c.args.text.now c.args.tokens.now sound.contexts.as_many (c.new-text.ensures ∙ c.in_ok-from_slice.ensures.items) c.in_ok-line.ensures.rest
@@ -18,7 +19,7 @@ returns-clause-ok c =
 
 pub returns-clause-sound : goal.returns-clause-sound
 returns-clause-sound c =
-    let s : Space = record { maps = c.workspace.inside.names; kept = settings c.workspace.inside.stops c.workspace.inside.traces c.workspace.inside.io; contexts = c.workspace.inside.contexts; output = c.workspace.inside.output.items } in
+    let s : Space = record { maps = c.workspace.inside.names; kept = settings c.workspace.inside.stops c.workspace.inside.traces (origin_number c.workspace.inside.io); contexts = c.workspace.inside.contexts; output = c.workspace.inside.output.items } in
     let sound : IsSound s = subst IsSound (sym c.workspace.view_is) c.requires.sound in
     let idle = ap (λ (x : Space). line_in x.contexts) c.workspace.view_is ∙ c.requires.idle in
     subst (λ (l : List Context). IsSound (record s { contexts = l })) (sym c.in_ok-push.ensures.ok)

@@ -1,4 +1,5 @@
 use Rattle.std.proofs.Common.{refl, ◌≡◌, ◌-◌, ◌++◌, List, ℕ, ℤ, Vec, Global, Ok, map, length, get_or, sym, ap, ◌∙◌, arith}
+use Rattle.std.proofs.lemmas.List.{length-map}
 use Rattle.std.proofs.lemmas.Result.{err_from_is_err_and}
 use Rattle.apl_arrays.specs.declared.cell.Cell.TheVariants.{Num}
 use Rattle.apl_arrays.specs.Axes.{without}
@@ -47,14 +48,14 @@ returns-in_err-values-clause-value g c =
     ∙ ap (ok_map (numbers_in (without (last_axis c.view-a.result) c.view-a.result.shape ++ without 0 c.view-b.result.shape))) h)
     c.in_err-values.ensures)
 
-pub shaped-requires : goal.shaped-requires
-shaped-requires g c =
+pub from_shape-requires : goal.from_shape-requires
+from_shape-requires g c =
     let shape_a : c.as_slice.result.now ≡ c.view-a.result.shape = c.as_slice.ensures.value ∙ c.shape-a_shape.ensures.value in
     let shape_b : c.as_slice-2.result.now ≡ c.view-b.result.shape = c.as_slice-2.ensures.value ∙ c.shape-b_shape.ensures.value in
     let others_a : c.without_last-left.result.0.now ≡ without (last_axis c.view-a.result) c.view-a.result.shape = c.without_last-left.ensures.others ∙ ap (λ (s : List ℕ). without (length s - 1) s) shape_a in
     let others_b : c.without_first-right.result.0.now ≡ without 0 c.view-b.result.shape = c.without_first-right.ensures.others ∙ ap (λ (s : List ℕ). without 0 s) shape_b in
     let made : c.as_slice-4.result.now ≡ without (last_axis c.view-a.result) c.view-a.result.shape ++ without 0 c.view-b.result.shape =
     c.as_slice-4.ensures.value ∙ c.joined_shape-shape.ensures ∙ ap (λ (s : List ℕ). s ++ c.without_first-right.result.0.now) others_a ∙ ap (λ (s : List ℕ). without (last_axis c.view-a.result) c.view-a.result.shape ++ s) others_b in
-    length-folded (λ row. folded c.args.outer_function (map Num row)) (met_items c.args.inner_function (joined_item (last_axis c.view-a.result) c.view-a.result) (joined_item 0 c.view-b.result) (last_axis c.view-a.result) c.in_ok-length.length)
+    length-map c.in_ok-values.values.items Num ∙ length-folded (λ row. folded c.args.outer_function (map Num row)) (met_items c.args.inner_function (joined_item (last_axis c.view-a.result) c.view-a.result) (joined_item 0 c.view-b.result) (last_axis c.view-a.result) c.in_ok-length.length)
     (indices (without (last_axis c.view-a.result) c.view-a.result.shape ++ without 0 c.view-b.result.shape)) c.in_ok-values.values.items c.in_ok-values.ensures
     ∙ length-indices (without (last_axis c.view-a.result) c.view-a.result.shape ++ without 0 c.view-b.result.shape) ∙ ap size_of (sym made)

@@ -2,7 +2,7 @@ use Rattle.std.proofs.Common.{◌≡◌, ◌<◌, ℤ, length, Err, ap, sym, ◌
 use Rattle.std.proofs.lemmas.Int.{to_z-of_z}
 use mir.Val.{SFits}
 use Rattle.apl_scalar.proofs.Whole.{all_values}
-use Rattle.apl_operators.proofs.InRows.{first_fault}
+use Rattle.apl_folds.proofs.Faults.{first_fault}
 use Rattle.apl_operators.proofs.line.test.Goals as goal
 
 pub returns-in-Err : goal.returns-in-Err

@@ -1,19 +1,27 @@
-use Rattle.std.proofs.Common.{◌≡◌, length, Vec, ℤ, Global, arith}
+use Rattle.std.proofs.Common.{◌≡◌, ◌∙◌, length, Vec, ℤ, Global, arith}
 use Rattle.std.proofs.lemmas.Nat.{mul-le}
 use Rattle.apl_arrays.specs.Cells.{cells_of}
+use Rattle.apl_arrays.specs.Left.{listed}
 use Rattle.apl_arrays.proofs.Exits.{answers_along}
+use Rattle.apl_arrays.proofs.Places.{small_size}
 use Rattle.apl_operators.proofs.Crossing.{by_crossing}
 use Rattle.apl_operators.proofs.outer_product.outer_values.Goals as goal
 
 pub cross_elements-requires : goal.cross_elements-requires
 cross_elements-requires c =
-    rw (c.ravel.ensures.value, c.ravel-2.ensures.value)
-    (omega (arith, mul-le (length (cells_of c.in_ok-a.a.items)) (length (cells_of c.in_ok-b.b.items)) 1000000 1000000 c.ravel.ensures.small c.ravel-2.ensures.small))
+    let items_a : listed c.items.result ≡ c.args.a.now.items = c.items.ensures ∙ c.in_ok-a.ensures in
+    let items_b : listed c.items-2.result ≡ c.args.b.now.items = c.items-2.ensures ∙ c.in_ok-b.ensures in
+    rw (items_a, items_b)
+    (omega (
+      arith,
+      mul-le (length (cells_of c.args.a.now.items)) (length (cells_of c.args.b.now.items)) 1000000 1000000 (small_size _ c.args.a.now.shape c.requires.a.full c.requires.a.small)
+          (small_size _ c.args.b.now.shape c.requires.b.full c.requires.b.small),
+    ))
 
 pub returns : goal.returns
 returns c =
-    let same_a : c.in_ok-a.a ≡ c.args.a.now = c.in_ok-a.ensures in
-    let same_b : c.in_ok-b.b ≡ c.args.b.now = c.in_ok-b.ensures in
+    let items_a : listed c.items.result ≡ c.args.a.now.items = c.items.ensures ∙ c.in_ok-a.ensures in
+    let items_b : listed c.items-2.result ≡ c.args.b.now.items = c.items-2.ensures ∙ c.in_ok-b.ensures in
     answers_along (λ (v : Vec ℤ Global). v.items) _ _ c.cross_elements.result
-    (by_crossing c.args.function c.args.a.now c.args.b.now (rw same_a at c.ravel.ensures.full) (rw same_b at c.ravel-2.ensures.full))
-    (rw (c.ravel.ensures.value, c.ravel-2.ensures.value, same_a, same_b) at c.cross_elements.ensures)
+    (by_crossing c.args.function c.args.a.now c.args.b.now c.requires.a.full c.requires.b.full)
+    (rw (items_a, items_b) at c.cross_elements.ensures)

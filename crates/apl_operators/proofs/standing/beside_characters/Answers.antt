@@ -1,21 +1,19 @@
-use Rattle.std.proofs.Common.{◌≡◌, ◌∙◌, ap, replicate, pos, map, length, rules}
-use Rattle.apl_arrays.specs.Ravels.{items_of}
-use Rattle.apl_operators.specs.Standing.{held}
+use Rattle.apl_arrays.specs.Left.{listed}
+use Rattle.apl_operators.specs.inside.Standing.{held}
 use Rattle.apl_operators.proofs.StandIn.{apart_from_numbers, codes_stand, fails_beside_characters}
 use Rattle.apl_operators.proofs.standing.beside_characters.Goals as goal
 
 pub returns-then-not-takes_characters : goal.returns-then-not-takes_characters
-returns-then-not-takes_characters c = fails_beside_characters c.args.function c.args.a.now (items_of c.args.b.now) c.if-not-takes_characters.ensures
+returns-then-not-takes_characters c = fails_beside_characters c.args.function c.args.a.now (listed c.args.b) c.if-not-takes_characters.ensures
 
 pub returns-in_ok-apart-in-Nums : goal.returns-in_ok-apart-in-Nums
 returns-in_ok-apart-in-Nums c =
-    let count : c.len.result ≡ length c.in-Nums.b.items = search rules in
     rw c.in-Nums.is
-    (apart_from_numbers c.args.function c.args.a.now c.in-Nums.b.items (held c.in_ok-apart-in-Nums.field-0.left) (held c.in_ok-apart-in-Nums.field-0.right)
-    c.if-not-takes_characters.ensures c.in_ok-apart-in-Nums.ensures.left (c.in_ok-apart-in-Nums.ensures.right ∙ ap (λ n. replicate n (pos 1)) count))
+    (apart_from_numbers c.args.function c.args.a.now c.in-Nums.b.now (held c.in_ok-apart-in-Nums.field-0.left) (held c.in_ok-apart-in-Nums.field-0.right)
+    c.if-not-takes_characters.ensures c.in_ok-apart-in-Nums.ensures.left c.in_ok-apart-in-Nums.ensures.right)
 
 pub returns-in_ok-coded-in-Chars : goal.returns-in_ok-coded-in-Chars
 returns-in_ok-coded-in-Chars c =
     rw c.in-Chars.is
-    (codes_stand c.args.function c.args.a.now c.in-Chars.b.items (held c.in_ok-coded-in-Chars.field-0.left) (held c.in_ok-coded-in-Chars.field-0.right)
-    c.if-not-takes_characters.ensures c.in_ok-coded-in-Chars.ensures.left (c.in_ok-coded-in-Chars.ensures.right ∙ ap (map pos) c.as_slice.ensures.value))
+    (codes_stand c.args.function c.args.a.now c.in-Chars.b.now (held c.in_ok-coded-in-Chars.field-0.left) (held c.in_ok-coded-in-Chars.field-0.right)
+    c.if-not-takes_characters.ensures c.in_ok-coded-in-Chars.ensures.left c.in_ok-coded-in-Chars.ensures.right)

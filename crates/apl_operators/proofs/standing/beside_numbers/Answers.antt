@@ -1,14 +1,12 @@
-use Rattle.std.proofs.Common.{◌≡◌, ◌∙◌, ap, replicate, pos, length, rules}
-use Rattle.apl_operators.specs.Standing.{held}
+use Rattle.apl_operators.specs.inside.Standing.{held}
 use Rattle.apl_operators.proofs.StandIn.{apart_from_characters, fails_beside_numbers}
 use Rattle.apl_operators.proofs.standing.beside_numbers.Goals as goal
 
 pub returns-in_ok-apart-in-Chars : goal.returns-in_ok-apart-in-Chars
 returns-in_ok-apart-in-Chars c =
-    let count : c.len.result ≡ length c.in-Chars.b.items = search rules in
     rw c.in-Chars.is
-    (apart_from_characters c.args.function c.args.a.now c.in-Chars.b.items (held c.in_ok-apart-in-Chars.field-0.left) (held c.in_ok-apart-in-Chars.field-0.right)
-    c.if-takes_characters.ensures c.in_ok-apart-in-Chars.ensures.left (c.in_ok-apart-in-Chars.ensures.right ∙ ap (λ n. replicate n (pos 1)) count))
+    (apart_from_characters c.args.function c.args.a.now c.in-Chars.b.now (held c.in_ok-apart-in-Chars.field-0.left) (held c.in_ok-apart-in-Chars.field-0.right)
+    c.if-takes_characters.ensures c.in_ok-apart-in-Chars.ensures.left c.in_ok-apart-in-Chars.ensures.right)
 
 pub returns-else-takes_characters : goal.returns-else-takes_characters
-returns-else-takes_characters c = rw c.in-Chars.is (fails_beside_numbers c.args.function c.args.a.now c.in-Chars.b.items c.if-takes_characters.ensures)
+returns-else-takes_characters c = rw c.in-Chars.is (fails_beside_numbers c.args.function c.args.a.now c.in-Chars.b.now c.if-takes_characters.ensures)

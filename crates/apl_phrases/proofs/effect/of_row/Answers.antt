@@ -5,7 +5,7 @@ use Rattle.apl_faults.specs.declared.fault.Fault.{Fault}
 use Rattle.apl_machine_state.specs.Environment.{index_origin}
 use Rattle.apl_primitives.specs.Taken.{taken}
 use Rattle.apl_phrases.specs.Effects.{seen}
-use Rattle.apl_phrases.specs.Origins.{IsOfNoOrigin}
+use Rattle.apl_phrases.specs.inside.Origins.{IsOfNoOrigin}
 use Rattle.apl_phrases.proofs.effect.of_row.Goals as goal
 
 pub returns : goal.returns

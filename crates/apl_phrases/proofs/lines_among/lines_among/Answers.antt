@@ -3,7 +3,7 @@ use Rattle.std.specs.List.{list_any}
 use Rattle.std.specs.Ordering.{int_eq}
 use Rattle.std.proofs.lemmas.Result.{IfOk-weaker}
 use Rattle.apl_machine_state.specs.Watching.{lines_among}
-use Rattle.apl_phrases.specs.Marks.{marked_lines}
+use Rattle.apl_phrases.specs.inside.Marks.{marked_lines}
 use Rattle.apl_phrases.proofs.Marks.{lines_of, length-marked_lines}
 use Rattle.apl_phrases.proofs.lines_among.lines_among.Goals as goal
 

@@ -1,5 +1,5 @@
 use Rattle.std.proofs.Common.{◌≡◌, ◌+◌, ◌++◌, drop}
-use Rattle.apl_phrases.specs.Marks.{marked_lines}
+use Rattle.apl_phrases.specs.inside.Marks.{marked_lines}
 use Rattle.apl_phrases.proofs.lines_among.marked_lines.Given as goal
 
 abbrev pub invariant-loop-index : goal.invariant-loop-index

@@ -1,7 +1,7 @@
 use Rattle.std.proofs.Common.{◌≡◌, ◌∙◌, ap, length, replicate, false, pos, get_or, w64, rules}
 use mir.Val.{SFits}
 use Rattle.std.proofs.lemmas.Int.{to_z-of_z}
-use Rattle.apl_phrases.specs.Marks.{marked}
+use Rattle.apl_phrases.specs.inside.Marks.{marked}
 use Rattle.apl_phrases.proofs.Marks.{none_of, one_more_of, written}
 use Rattle.apl_phrases.proofs.lines_among.marks.Goals as goal
 

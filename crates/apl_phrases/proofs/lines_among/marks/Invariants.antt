@@ -1,5 +1,5 @@
 use Rattle.std.proofs.Common.{◌≡◌, take}
-use Rattle.apl_phrases.specs.Marks.{marks_of}
+use Rattle.apl_phrases.specs.inside.Marks.{marks_of}
 use Rattle.apl_phrases.proofs.lines_among.marks.Given as goal
 
 abbrev pub invariant-loop-number : goal.invariant-loop-number

@@ -1,4 +1,4 @@
-use Rattle.apl_reshape.specs.Rows.{item_at}
+use Rattle.apl_reshape.specs.inside.Rows.{item_at}
 use Rattle.apl_reshape.proofs.InBlocks.{rows_more}
 use Rattle.apl_reshape.proofs.blocks.rows_joined.Goals as goal
 

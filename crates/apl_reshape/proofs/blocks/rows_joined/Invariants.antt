@@ -1,6 +1,6 @@
 use Rattle.std.proofs.Common.{◌≡◌}
 use Rattle.std.specs.List.{flat_map, range_with_len}
-use Rattle.apl_reshape.specs.Rows.{blocks, item_at}
+use Rattle.apl_reshape.specs.inside.Rows.{blocks, item_at}
 use Rattle.apl_reshape.proofs.blocks.rows_joined.Given as goal
 
 abbrev pub invariant-loop-row : goal.invariant-loop-row

@@ -1,9 +1,10 @@
 use Rattle.std.proofs.Common.{◌≡◌, ◌<◌, length, take, get_or, ap, sym, ◌∙◌, arith}
 use Rattle.apl_arrays.specs.Cells.{Items, cells_of}
 use Rattle.apl_arrays.specs.Index.{size_of}
+use Rattle.apl_arrays.specs.Left.{listed}
 use Rattle.apl_arrays.specs.Ravels.{items_of}
 use Rattle.apl_reshape.specs.Catenate.{joined_shape, place_in}
-use Rattle.apl_reshape.specs.Rows.{both_of, is_scalar_shape}
+use Rattle.apl_reshape.specs.inside.Rows.{both_of, is_scalar_shape}
 use Rattle.apl_reshape.proofs.InBlocks.{has_rows, length-joined, made_items}
 use Rattle.apl_reshape.proofs.Joined.{enough_items, joined_answer}
 use Rattle.apl_reshape.proofs.JoinedRows.{same_before}
@@ -15,14 +16,14 @@ ravel_joined-requires c =
     let rows : c.rows_before.result ≡ size_of (take c.args.axis c.args.t.now) =
     c.rows_before.ensures ∙ ap size_of (same_before c.args.axis c.args.s.now c.args.t.now c.requires.within there c.requires.agree)
     in
-    has_rows c.block_of-x.result c.block_of-y.result c.rows_before.result (items_of c.ravel.result.now) (items_of c.ravel-2.result.now) (both_of c.in_ok-pair.pair) c.in_ok-pair.ensures
-    (enough_items c.args.axis c.rows_before.result c.shape.result.now c.args.a.now.shape c.args.b.now.shape c.args.s.now c.block_of-x.result (items_of c.ravel.result.now) c.args.a.now.items
-    c.block_of-x.ensures.is_scalar c.shape.ensures.value c.block_of-x.ensures.len c.rows_before.ensures c.requires.s c.ravel.ensures.full c.ravel.ensures.value)
-    (enough_items c.args.axis c.rows_before.result c.shape-2.result.now c.args.b.now.shape c.args.a.now.shape c.args.t.now c.block_of-y.result (items_of c.ravel-2.result.now) c.args.b.now.items
-    c.block_of-y.ensures.is_scalar c.shape-2.ensures.value c.block_of-y.ensures.len rows c.requires.t c.ravel-2.ensures.full c.ravel-2.ensures.value)
+    has_rows c.block_of-x.result c.block_of-y.result c.rows_before.result (listed c.items.result) (listed c.items-2.result) (both_of c.in_ok-pair.pair) c.in_ok-pair.ensures
+    (enough_items c.args.axis c.rows_before.result c.shape.result.now c.args.a.now.shape c.args.b.now.shape c.args.s.now c.block_of-x.result (listed c.items.result) c.args.a.now.items
+    c.block_of-x.ensures.is_scalar c.shape.ensures.value c.block_of-x.ensures.len c.rows_before.ensures c.requires.s c.items.ensures.full c.items.ensures.value)
+    (enough_items c.args.axis c.rows_before.result c.shape-2.result.now c.args.b.now.shape c.args.a.now.shape c.args.t.now c.block_of-y.result (listed c.items-2.result) c.args.b.now.items
+    c.block_of-y.ensures.is_scalar c.shape-2.ensures.value c.block_of-y.ensures.len rows c.requires.t c.items-2.ensures.full c.items-2.ensures.value)
 
-pub formed-requires-clause-full : goal.formed-requires-clause-full
-formed-requires-clause-full c =
+pub in_shape-requires-clause-full : goal.in_shape-requires-clause-full
+in_shape-requires-clause-full c =
     ap (λ (i : Items). length (cells_of i))
     (made_items c.args.axis c.rows_before.result c.args.a.now.shape c.args.b.now.shape c.args.s.now c.args.t.now (both_of c.in_ok-pair.pair) c.block_of-x.result c.block_of-y.result (items_of c.in_ok-ravel.ravel)
     c.requires.within c.requires.lengths c.requires.agree (c.block_of-x.ensures.is_scalar ∙ ap is_scalar_shape c.shape.ensures.value) c.block_of-x.ensures.len
@@ -32,10 +33,10 @@ formed-requires-clause-full c =
 
 pub returns-clause-value : goal.returns-clause-value
 returns-clause-value c =
-    joined_answer c.args.axis c.args.s.now c.args.t.now c.as_slice.result.now c.as_slice-3.result.now c.args.a.now c.args.b.now c.formed.result
-    (items_of c.ravel.result.now) (items_of c.ravel-2.result.now) (items_of c.in_ok-ravel.ravel) (both_of c.in_ok-pair.pair)
-    c.in_ok-pair.ensures c.ravel.ensures.value c.ravel-2.ensures.value c.in_ok-within_limits.ensures (c.as_slice.ensures.value ∙ c.joined_lengths-shape.ensures) (c.as_slice-3.ensures.value ∙ c.joined_lengths-shape.ensures)
+    joined_answer c.args.axis c.args.s.now c.args.t.now c.as_slice.result.now c.as_slice-3.result.now c.args.a.now c.args.b.now c.in_shape.result
+    (listed c.items.result) (listed c.items-2.result) (items_of c.in_ok-ravel.ravel) (both_of c.in_ok-pair.pair)
+    c.in_ok-pair.ensures c.items.ensures.value c.items-2.ensures.value c.in_ok-within_limits.ensures (c.as_slice.ensures.value ∙ c.joined_lengths-shape.ensures) (c.as_slice-3.ensures.value ∙ c.joined_lengths-shape.ensures)
     (made_items c.args.axis c.rows_before.result c.args.a.now.shape c.args.b.now.shape c.args.s.now c.args.t.now (both_of c.in_ok-pair.pair) c.block_of-x.result c.block_of-y.result (items_of c.in_ok-ravel.ravel)
     c.requires.within c.requires.lengths c.requires.agree (c.block_of-x.ensures.is_scalar ∙ ap is_scalar_shape c.shape.ensures.value) c.block_of-x.ensures.len
     (c.block_of-y.ensures.is_scalar ∙ ap is_scalar_shape c.shape-2.ensures.value) c.block_of-y.ensures.len c.rows_before.ensures c.in_ok-ravel.ensures)
-    c.formed.ensures
+    c.in_shape.ensures

@@ -1,20 +1,24 @@
-use Rattle.std.proofs.Common.{sym}
-use Rattle.apl_arrays.proofs.Exits.{answers_along}
-use Rattle.apl_scalar.proofs.Extension.{first_shape, dyadic_in_shape}
+use Rattle.std.proofs.Common.{ap, sym, ◌∙◌, Ok, FitsSigned, rules}
+use Rattle.std.specs.Int.{w64}
+use Rattle.std.proofs.lemmas.Int.{to_z-of_z}
+use Rattle.std.proofs.lemmas.Result.{err_from_is_err_and}
+use Rattle.apl_scalar.proofs.Scalars.{two_numbers}
 use Rattle.apl_scalar.proofs.apply.dyadic.Goals as goal
 
-pub shaped-requires-in-Ok-false-clause-b_fits : goal.shaped-requires-in-Ok-false-clause-b_fits
-shaped-requires-in-Ok-false-clause-b_fits c =
-    first_shape c.args.a.now.shape c.args.b.now.shape (rw (c.shape.ensures.value, c.shape-2.ensures.value, c.in-Ok-false.field-0-test) at c.in-Ok-false.ensures)
+pub returns-in_err-dyadic_number-clause-value : goal.returns-in_err-dyadic_number-clause-value
+returns-in_err-dyadic_number-clause-value c =
+    let p = err_from_is_err_and c.from_residual.result c.from_residual.ensures.1 in
+    let x : FitsSigned w64 c.in-Some.x = search rules in
+    let y : FitsSigned w64 c.in-Some-as_number.y = search rules in
+    rw (p.1, p.2)
+    (two_numbers c.args.function c.args.a.now c.args.b.now c.in-Some.x c.in-Some-as_number.y _ (sym c.in-Some.ensures) (sym c.in-Some-as_number.ensures)
+    (simp to_z-of_z at c.in_err-dyadic_number.ensures))
 
-pub returns-in-Ok-true-clause-value : goal.returns-in-Ok-true-clause-value
-returns-in-Ok-true-clause-value c =
-    answers_along (λ r. r) _ _ c.shaped.result
-    (sym (dyadic_in_shape c.args.function c.args.a.now c.args.b.now c.args.b.now.shape (rw (c.shape.ensures.value, c.shape-2.ensures.value, c.in-Ok-true.field-0-test) at c.in-Ok-true.ensures)))
-    c.shaped.ensures
-
-pub returns-in-Ok-false-clause-value : goal.returns-in-Ok-false-clause-value
-returns-in-Ok-false-clause-value c =
-    answers_along (λ r. r) _ _ c.shaped-in-Ok-false.result
-    (sym (dyadic_in_shape c.args.function c.args.a.now c.args.b.now c.args.a.now.shape (rw (c.shape.ensures.value, c.shape-2.ensures.value, c.in-Ok-false.field-0-test) at c.in-Ok-false.ensures)))
-    c.shaped-in-Ok-false.ensures
+pub returns-in-Some-as_number-clause-value : goal.returns-in-Some-as_number-clause-value
+returns-in-Some-as_number-clause-value c =
+    let x : FitsSigned w64 c.in-Some.x = search rules in
+    let y : FitsSigned w64 c.in-Some-as_number.y = search rules in
+    let z : FitsSigned w64 c.in_ok-dyadic_number.field-0 = search rules in
+    two_numbers c.args.function c.args.a.now c.args.b.now c.in-Some.x c.in-Some-as_number.y _ (sym c.in-Some.ensures) (sym c.in-Some-as_number.ensures)
+    (simp to_z-of_z at c.in_ok-dyadic_number.ensures)
+    ∙ ap (λ r. Ok r) (sym (simp to_z-of_z at c.number.ensures))

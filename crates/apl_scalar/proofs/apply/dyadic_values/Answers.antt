@@ -5,40 +5,40 @@ use Rattle.apl_arrays.specs.Index.{size_of}
 use Rattle.apl_scalar.proofs.Extension.{shows_along, by_operands, by_characters, by_number_and_character, by_character_and_number}
 use Rattle.apl_scalar.proofs.apply.dyadic_values.Goals as goal
 
-pub returns-in-Nums-ravel : goal.returns-in-Nums-ravel
-returns-in-Nums-ravel c =
-    let size : c.len-count.result ≡ size_of c.args.like.now.shape = c.len-count.ensures ∙ (ap (λ (t : Items). length (cells_of t)) c.ravel.ensures.value ∙ c.ravel.ensures.full) in
-    let left : c.args.a.now.items ≡ Numbers c.in-Nums.x.items = rw c.in-Nums.is at (sym c.ravel-2.ensures.value) in
-    let right : c.args.b.now.items ≡ Numbers c.in-Nums-ravel.y.items = rw c.in-Nums-ravel.is at (sym c.ravel-in-Nums.ensures.value) in
+pub returns-in-Nums-items : goal.returns-in-Nums-items
+returns-in-Nums-items c =
+    let size : c.len-count.result ≡ size_of c.args.like.now.shape = c.len-count.ensures ∙ (ap (λ (t : Items). length (cells_of t)) c.items.ensures.value ∙ c.items.ensures.full) in
+    let left : c.args.a.now.items ≡ Numbers c.in-Nums.x.now = rw c.in-Nums.is at (sym c.items-2.ensures.value) in
+    let right : c.args.b.now.items ≡ Numbers c.in-Nums-items.y.now = rw c.in-Nums-items.is at (sym c.items-in-Nums.ensures.value) in
     answers_along (λ (v : Vec ℤ Global). v.items) _ _ c.dyadic_numbers.result
-    (by_operands c.args.function c.args.a.now c.args.b.now c.args.like.now.shape c.operand_of-x.result c.operand_of-y.result c.ravel-2.ensures.full c.ravel-in-Nums.ensures.full c.requires.a_fits c.requires.b_fits
-    (shows_along c.operand_of-x.result c.args.a.now.items _ c.in-Nums.x.items c.as_slice.ensures.value left c.operand_of-x.ensures)
-    (shows_along c.operand_of-y.result c.args.b.now.items _ c.in-Nums-ravel.y.items c.as_slice-in-Nums-ravel.ensures.value right c.operand_of-y.ensures))
+    (by_operands c.args.function c.args.a.now c.args.b.now c.args.like.now.shape c.operand_of.result c.operand_of-in-Nums-items.result c.items-2.ensures.full c.items-in-Nums.ensures.full c.requires.a_fits c.requires.b_fits
+    (shows_along c.operand_of.result c.args.a.now.items c.in-Nums.x.now left c.operand_of.ensures)
+    (shows_along c.operand_of-in-Nums-items.result c.args.b.now.items c.in-Nums-items.y.now right c.operand_of-in-Nums-items.ensures))
     (rw size at c.dyadic_numbers.ensures)
 
-pub returns-in-Chars-ravel : goal.returns-in-Chars-ravel
-returns-in-Chars-ravel c =
-    let size : c.len-count.result ≡ size_of c.args.like.now.shape = c.len-count.ensures ∙ (ap (λ (t : Items). length (cells_of t)) c.ravel.ensures.value ∙ c.ravel.ensures.full) in
-    let left : c.args.a.now.items ≡ Numbers c.in-Nums.x.items = rw c.in-Nums.is at (sym c.ravel-2.ensures.value) in
-    let right : c.args.b.now.items ≡ Characters c.in-Chars-ravel.field-0.items = rw c.in-Chars-ravel.is at (sym c.ravel-in-Nums.ensures.value) in
+pub returns-in-Chars-items : goal.returns-in-Chars-items
+returns-in-Chars-items c =
+    let size : c.len-count.result ≡ size_of c.args.like.now.shape = c.len-count.ensures ∙ (ap (λ (t : Items). length (cells_of t)) c.items.ensures.value ∙ c.items.ensures.full) in
+    let left : c.args.a.now.items ≡ Numbers c.in-Nums.x.now = rw c.in-Nums.is at (sym c.items-2.ensures.value) in
+    let right : c.args.b.now.items ≡ Characters c.in-Chars-items.field-0.now = rw c.in-Chars-items.is at (sym c.items-in-Nums.ensures.value) in
     answers_along (λ (v : Vec ℤ Global). v.items) _ _ c.mixed.result
-    (by_number_and_character c.args.function c.args.a.now c.args.b.now c.args.like.now.shape c.in-Nums.x.items c.in-Chars-ravel.field-0.items left right c.ravel-2.ensures.full c.ravel-in-Nums.ensures.full c.requires.a_fits c.requires.b_fits)
+    (by_number_and_character c.args.function c.args.a.now c.args.b.now c.args.like.now.shape c.in-Nums.x.now c.in-Chars-items.field-0.now left right c.items-2.ensures.full c.items-in-Nums.ensures.full c.requires.a_fits c.requires.b_fits)
     (rw size at c.mixed.ensures)
 
-pub returns-in-Nums-ravel-2 : goal.returns-in-Nums-ravel-2
-returns-in-Nums-ravel-2 c =
-    let size : c.len-count.result ≡ size_of c.args.like.now.shape = c.len-count.ensures ∙ (ap (λ (t : Items). length (cells_of t)) c.ravel.ensures.value ∙ c.ravel.ensures.full) in
-    let left : c.args.a.now.items ≡ Characters c.in-Chars.x.items = rw c.in-Chars.is at (sym c.ravel-2.ensures.value) in
-    let right : c.args.b.now.items ≡ Numbers c.in-Nums-ravel-2.field-0.items = rw c.in-Nums-ravel-2.is at (sym c.ravel-in-Chars.ensures.value) in
-    answers_along (λ (v : Vec ℤ Global). v.items) _ _ c.mixed-in-Nums-ravel-2.result
-    (by_character_and_number c.args.function c.args.a.now c.args.b.now c.args.like.now.shape c.in-Chars.x.items c.in-Nums-ravel-2.field-0.items left right c.ravel-2.ensures.full c.ravel-in-Chars.ensures.full c.requires.a_fits c.requires.b_fits)
-    (rw size at c.mixed-in-Nums-ravel-2.ensures)
+pub returns-in-Nums-items-2 : goal.returns-in-Nums-items-2
+returns-in-Nums-items-2 c =
+    let size : c.len-count.result ≡ size_of c.args.like.now.shape = c.len-count.ensures ∙ (ap (λ (t : Items). length (cells_of t)) c.items.ensures.value ∙ c.items.ensures.full) in
+    let left : c.args.a.now.items ≡ Characters c.in-Chars.x.now = rw c.in-Chars.is at (sym c.items-2.ensures.value) in
+    let right : c.args.b.now.items ≡ Numbers c.in-Nums-items-2.field-0.now = rw c.in-Nums-items-2.is at (sym c.items-in-Chars.ensures.value) in
+    answers_along (λ (v : Vec ℤ Global). v.items) _ _ c.mixed-in-Nums-items-2.result
+    (by_character_and_number c.args.function c.args.a.now c.args.b.now c.args.like.now.shape c.in-Chars.x.now c.in-Nums-items-2.field-0.now left right c.items-2.ensures.full c.items-in-Chars.ensures.full c.requires.a_fits c.requires.b_fits)
+    (rw size at c.mixed-in-Nums-items-2.ensures)
 
-pub returns-in-Chars-ravel-2 : goal.returns-in-Chars-ravel-2
-returns-in-Chars-ravel-2 c =
-    let size : c.len-count.result ≡ size_of c.args.like.now.shape = c.len-count.ensures ∙ (ap (λ (t : Items). length (cells_of t)) c.ravel.ensures.value ∙ c.ravel.ensures.full) in
-    let left : c.args.a.now.items ≡ Characters c.in-Chars.x.items = rw c.in-Chars.is at (sym c.ravel-2.ensures.value) in
-    let right : c.args.b.now.items ≡ Characters c.in-Chars-ravel-2.y.items = rw c.in-Chars-ravel-2.is at (sym c.ravel-in-Chars.ensures.value) in
+pub returns-in-Chars-items-2 : goal.returns-in-Chars-items-2
+returns-in-Chars-items-2 c =
+    let size : c.len-count.result ≡ size_of c.args.like.now.shape = c.len-count.ensures ∙ (ap (λ (t : Items). length (cells_of t)) c.items.ensures.value ∙ c.items.ensures.full) in
+    let left : c.args.a.now.items ≡ Characters c.in-Chars.x.now = rw c.in-Chars.is at (sym c.items-2.ensures.value) in
+    let right : c.args.b.now.items ≡ Characters c.in-Chars-items-2.y.now = rw c.in-Chars-items-2.is at (sym c.items-in-Chars.ensures.value) in
     answers_along (λ (v : Vec ℤ Global). v.items) _ _ c.dyadic_characters.result
-    (by_characters c.args.function c.args.a.now c.args.b.now c.args.like.now.shape c.in-Chars.x.items c.in-Chars-ravel-2.y.items left right c.ravel-2.ensures.full c.ravel-in-Chars.ensures.full c.requires.a_fits c.requires.b_fits)
-    (rw (size, c.as_slice-in-Chars-ravel-2.ensures.value, c.as_slice-in-Chars-ravel-2-2.ensures.value) at c.dyadic_characters.ensures)
+    (by_characters c.args.function c.args.a.now c.args.b.now c.args.like.now.shape c.in-Chars.x.now c.in-Chars-items-2.y.now left right c.items-2.ensures.full c.items-in-Chars.ensures.full c.requires.a_fits c.requires.b_fits)
+    (rw size at c.dyadic_characters.ensures)

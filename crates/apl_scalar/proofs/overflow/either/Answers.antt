@@ -1,5 +1,5 @@
 use Rattle.apl_scalar.proofs.Signs.{neither}
 use Rattle.apl_scalar.proofs.overflow.either.Goals as goal
 
-pub returns : goal.returns
-returns c h = neither c.args.x c.args.y c.ranges.x c.ranges.y h
+pub returns-clause-neither : goal.returns-clause-neither
+returns-clause-neither c h = neither c.args.x c.args.y c.ranges.x c.ranges.y h

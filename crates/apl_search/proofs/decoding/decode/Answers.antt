@@ -1,4 +1,4 @@
-use Rattle.std.proofs.Common.{◌≡◌, ℕ, ℤ, pos, List, map, Result, Ok, Vec, Global, ap, sym, ◌∙◌}
+use Rattle.std.proofs.Common.{◌≡◌, ℕ, ℤ, List, Result, Ok, Vec, Global, ap, sym, ◌∙◌}
 use Rattle.std.specs.List.{range_with_len}
 use Rattle.std.proofs.lemmas.List.{length-map}
 use Rattle.std.proofs.lemmas.List.FromFn.{length-range_with_len}
@@ -7,14 +7,13 @@ use Rattle.apl_faults.specs.declared.fault.Fault.{Fault}
 use Rattle.apl_arrays.specs.declared.cell.Cell.TheVariants.{Num}
 use Rattle.apl_arrays.specs.Index.{size_of}
 use Rattle.apl_arrays.specs.Cells.{Arr, Numbers}
-use Rattle.apl_arrays.specs.Checks.{limited}
 use Rattle.apl_arrays.specs.Results.{all_ok, ok_map}
-use Rattle.apl_arrays.proofs.Exits.{answers_err, answers_along}
+use Rattle.apl_arrays.proofs.Exits.{answers_err}
 use Rattle.apl_arrays.proofs.InTurn.{length-all_ok}
-use Rattle.apl_search.specs.Decoded.{first_length, shape_behind, valued}
-use Rattle.apl_search.specs.Flat.{pair_at}
+use Rattle.apl_search.specs.Decoded.{first_length, shape_behind}
+use Rattle.apl_search.specs.inside.Flat.{value_by}
 use Rattle.apl_search.proofs.Digits.{digits_there, decode_ok}
-use Rattle.apl_search.proofs.Shapes.{limited_behind}
+use Rattle.apl_search.proofs.Shapes.{few_behind, small_behind}
 use Rattle.apl_search.proofs.decoding.decode.Goals as goal
 
 pub values-requires-clause-digits : goal.values-requires-clause-digits
@@ -26,7 +25,7 @@ values-requires-clause-digits c =
 pub returns-in_err-values-clause-value : goal.returns-in_err-values-clause-value
 returns-in_err-values-clause-value c =
     let behind : c.behind-shape.result.now ≡ shape_behind c.args.b.now.shape = c.behind-shape.ensures ∙ ap shape_behind c.shape.ensures.value in
-    let f : ℕ → Result ℤ Fault = λ p. valued (pos 0) (map (pair_at c.in_ok-bases.bases.now c.in_ok-bases.digits.now c.length_along.result c.size.result p) (range_with_len 0 c.in_ok-bases.count)) in
+    let f : ℕ → Result ℤ Fault = λ p. value_by c.in_ok-bases.bases.now c.in_ok-bases.digits.now c.length_along.result c.size.result p c.in_ok-bases.count in
     let made : List ℤ → Arr = λ values. record { shape = c.behind-shape.result.now; items = Numbers values } in
     let p = err_from_is_err_and c.from_residual-in_err-values.result c.from_residual-in_err-values.ensures.1 in
     rw (p.1, p.2)
@@ -36,21 +35,28 @@ returns-in_err-values-clause-value c =
     ∙ ap (ok_map made) h)
     c.in_err-values.ensures)
 
-pub array_of-requires : goal.array_of-requires
-array_of-requires c =
-    let f : ℕ → Result ℤ Fault = λ p. valued (pos 0) (map (pair_at c.in_ok-bases.bases.now c.in_ok-bases.digits.now c.length_along.result c.size.result p) (range_with_len 0 c.in_ok-bases.count)) in
+pub in_shape-requires-clause-full : goal.in_shape-requires-clause-full
+in_shape-requires-clause-full c =
+    let f : ℕ → Result ℤ Fault = λ p. value_by c.in_ok-bases.bases.now c.in_ok-bases.digits.now c.length_along.result c.size.result p c.in_ok-bases.count in
     length-map c.in_ok-values.values.items Num
     ∙ length-all_ok f (range_with_len 0 c.size.result) c.in_ok-values.values.items c.in_ok-values.ensures
     ∙ length-range_with_len 0 c.size.result ∙ c.size.ensures
+
+pub in_shape-requires-clause-few : goal.in_shape-requires-clause-few
+in_shape-requires-clause-few c =
+    let behind : c.behind-shape.result.now ≡ shape_behind c.args.b.now.shape = c.behind-shape.ensures ∙ ap shape_behind c.shape.ensures.value in
+    rw behind (few_behind c.args.b.now.shape c.shape.ensures.array.few_axes)
+
+pub in_shape-requires-clause-small : goal.in_shape-requires-clause-small
+in_shape-requires-clause-small c =
+    let behind : c.behind-shape.result.now ≡ shape_behind c.args.b.now.shape = c.behind-shape.ensures ∙ ap shape_behind c.shape.ensures.value in
+    rw behind (small_behind c.args.b.now.shape c.shape.ensures.array.small)
 
 pub returns-clause-value : goal.returns-clause-value
 returns-clause-value c =
     let behind : c.behind-shape.result.now ≡ shape_behind c.args.b.now.shape = c.behind-shape.ensures ∙ ap shape_behind c.shape.ensures.value in
     let made : List ℤ → Arr = λ values. record { shape = c.behind-shape.result.now; items = Numbers values } in
-    let with : List ℕ → Arr = λ s. record { shape = s; items = Numbers c.in_ok-values.values.items } in
-    answers_along (λ (r : Arr). r) _ _ c.array_of.result
-    (decode_ok c.args.a.now c.args.b.now c.in_ok-bases.bases.now c.in_ok-bases.digits.now c.in_ok-bases.count c.length_along.result c.size.result c.behind-shape.result.now c.in_ok-bases.ensures
+    decode_ok c.args.a.now c.args.b.now c.in_ok-bases.bases.now c.in_ok-bases.digits.now c.in_ok-bases.count c.length_along.result c.size.result c.behind-shape.result.now c.in_ok-bases.ensures
     behind (c.length_along.ensures ∙ ap first_length c.shape-2.ensures.value) (c.size.ensures ∙ ap size_of behind)
     ∙ ap (ok_map made) c.in_ok-values.ensures
-    ∙ sym (ap (ok_map with) (ap limited behind ∙ limited_behind c.args.b.now.shape c.shape.ensures.array.few_axes c.shape.ensures.array.small ∙ ap (λ (s : List ℕ). Ok s) (sym behind))))
-    c.array_of.ensures
+    ∙ ap (λ (a : Arr). let r : Result Arr Fault = Ok a in r) (sym c.in_shape.ensures)

@@ -1,7 +1,7 @@
 use Rattle.std.proofs.Common.{rules, sym, ◌∙◌, to_z, w64}
 use mir.Val.{SFits}
 use Rattle.std.proofs.lemmas.Int.{to_z-of_z}
-use Rattle.apl_search.specs.Flat.{pair_at}
+use Rattle.apl_search.specs.inside.Flat.{pair_at}
 use Rattle.apl_search.proofs.Values.{value_step, value_fault, value_end}
 use Rattle.apl_search.proofs.decoding.value_at.Goals as goal
 

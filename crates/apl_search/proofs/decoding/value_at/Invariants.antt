@@ -1,7 +1,7 @@
 use Rattle.std.proofs.Common.{◌≡◌, ◌-◌, map, pos}
 use Rattle.std.specs.List.{range_with_len}
 use Rattle.apl_search.specs.Decoded.{valued}
-use Rattle.apl_search.specs.Flat.{pair_at}
+use Rattle.apl_search.specs.inside.Flat.{pair_at}
 use Rattle.apl_search.proofs.decoding.value_at.Given as goal
 
 -- from the value so far the digits that are left lead to that of all

@@ -5,7 +5,7 @@ use Rattle.std.proofs.lemmas.Int.{to_z-of_z}
 use Rattle.apl_faults.specs.declared.fault.Fault.{Fault}
 use Rattle.apl_arrays.proofs.InTurn.{turns_step, turns_fault}
 use Rattle.apl_search.specs.Decoded.{valued}
-use Rattle.apl_search.specs.Flat.{pair_at}
+use Rattle.apl_search.specs.inside.Flat.{pair_at}
 use Rattle.apl_search.proofs.decoding.values.Goals as goal
 
 pub value_at-requires-clause-digits : goal.value_at-requires-clause-digits

@@ -3,7 +3,7 @@ use Rattle.std.specs.List.{range_with_len}
 use Rattle.apl_arrays.specs.Results.{all_ok}
 use Rattle.apl_arrays.proofs.InTurn.{after}
 use Rattle.apl_search.specs.Decoded.{valued}
-use Rattle.apl_search.specs.Flat.{pair_at}
+use Rattle.apl_search.specs.inside.Flat.{pair_at}
 use Rattle.apl_search.proofs.decoding.values.Given as goal
 
 -- the values so far, before those that are left

@@ -1,8 +1,7 @@
 use Rattle.std.proofs.Common.{◌≡◌, map, take}
 use Rattle.std.specs.Prelude.{count_by}
 use Rattle.std.specs.List.{range_with_len}
-use Rattle.apl_select.specs.Compress.{is_one}
-use Rattle.apl_select.proofs.Choosing.{spread_at}
+use Rattle.apl_select.specs.Compress.{is_one, spread_at}
 use Rattle.apl_select.proofs.bits.spread.Given as goal
 
 abbrev pub invariant-loop-k : goal.invariant-loop-k

@@ -1,5 +1,5 @@
 use Rattle.std.proofs.Common.{◌+◌, ◌*◌, ◌<◌, ◌++◌, length, arith, ap, sym, ◌∙◌}
-use Rattle.apl_select.specs.Laying.{block_of}
+use Rattle.apl_select.specs.inside.Laying.{block_of}
 use Rattle.apl_select.specs.Lined.{item_or}
 use Rattle.apl_select.proofs.Laying.{block_read, block_filled}
 use Rattle.apl_select.proofs.lay.lay_block.Goals as goal

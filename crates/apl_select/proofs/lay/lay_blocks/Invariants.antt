@@ -1,5 +1,5 @@
 use Rattle.std.proofs.Common.{◌≡◌, ◌++◌, take}
-use Rattle.apl_select.specs.Laying.{plane_of}
+use Rattle.apl_select.specs.inside.Laying.{plane_of}
 use Rattle.apl_select.specs.Lined.{item_or}
 use Rattle.apl_select.proofs.lay.lay_blocks.Given as goal
 

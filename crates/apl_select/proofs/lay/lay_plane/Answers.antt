@@ -1,5 +1,5 @@
 use Rattle.std.proofs.Common.{◌++◌, ap, sym, ◌∙◌}
-use Rattle.apl_select.specs.Laying.{plane_of}
+use Rattle.apl_select.specs.inside.Laying.{plane_of}
 use Rattle.apl_select.specs.Lined.{item_or}
 use Rattle.apl_select.proofs.Laying.{plane_single}
 use Rattle.apl_select.proofs.lay.lay_plane.Goals as goal

@@ -1,5 +1,5 @@
 use Rattle.std.proofs.Common.{◌*◌, ◌++◌, length, ap, sym, ◌∙◌}
-use Rattle.apl_select.specs.Laying.{plane_of}
+use Rattle.apl_select.specs.inside.Laying.{plane_of}
 use Rattle.apl_select.specs.Lined.{item_or}
 use Rattle.apl_select.proofs.Lists.{flat_map_more}
 use Rattle.apl_select.proofs.Laying.{within_plane}

@@ -1,5 +1,5 @@
 use Rattle.std.proofs.Common.{◌≡◌}
-use Rattle.apl_select.specs.Laying.{planes_of}
+use Rattle.apl_select.specs.inside.Laying.{planes_of}
 use Rattle.apl_select.specs.Lined.{item_or}
 use Rattle.apl_select.proofs.lay.lay_planes.Given as goal
 

@@ -1,5 +1,5 @@
 use Rattle.std.proofs.Common.{◌≡◌, ℕ, length, get_or, vec_len}
-use Rattle.apl_select.specs.Written.{put_at}
+use Rattle.apl_select.specs.inside.Written.{put_at}
 use Rattle.apl_select.proofs.overwrite.overwrite.Given as goal
 
 abbrev pub invariant-loop-k : goal.invariant-loop-k

@@ -1,21 +1,21 @@
 use Rattle.std.proofs.Common.{ℕ, List, length, ap, sym, ◌∙◌, refl, subst}
 use Rattle.apl_arrays.specs.Cells.{Items, Characters, cells_of}
-use Rattle.apl_arrays.specs.Ravels.{items_of}
-use Rattle.apl_select.specs.Written.{put_all, put_items, AreEnough}
+use Rattle.apl_arrays.specs.Left.{listed}
+use Rattle.apl_select.specs.inside.Written.{put_items, AreEnough}
 use Rattle.apl_select.proofs.Laying.{characters_count}
 use Rattle.apl_select.proofs.overwrite.overwrite_characters.Goals as goal
 
 pub overwrite-requires-clause-enough : goal.overwrite-requires-clause-enough
 overwrite-requires-clause-enough c =
     let P : ℕ → Type 0 = λ n. AreEnough n (length c.args.places.now) in
-    subst P (sym (characters_count (items_of c.args.from.now) c.in-Chars.ys.items c.as_slice.result.now (length (cells_of (items_of c.args.from.now))) refl (ap items_of c.in-Chars.is) c.as_slice.ensures.value)) c.requires.enough
+    subst P (sym (characters_count (listed c.args.from) c.in-Chars.ys.now (length (cells_of (listed c.args.from))) refl (ap listed c.in-Chars.is))) c.requires.enough
 
 pub returns-in_ok-from_slice-in-Nums : goal.returns-in_ok-from_slice-in-Nums
 returns-in_ok-from_slice-in-Nums c =
     ap (λ (cs : List ℕ). Characters cs) c.in_ok-from_slice-in-Nums.ensures.items
-    ∙ ap (λ (t : Items). put_items (Characters c.args.xs.now) t c.args.places.now) (sym (ap items_of c.in-Nums.is))
+    ∙ ap (λ (t : Items). put_items (Characters c.args.xs.now) t c.args.places.now) (sym (ap listed c.in-Nums.is))
 
 pub returns-in_ok-overwrite-in-Chars : goal.returns-in_ok-overwrite-in-Chars
 returns-in_ok-overwrite-in-Chars c =
-    ap (λ (cs : List ℕ). Characters cs) (c.in_ok-overwrite-in-Chars.ensures 0 ∙ ap (λ (cs : List ℕ). put_all 0 c.args.xs.now cs c.args.places.now) c.as_slice.ensures.value)
-    ∙ ap (λ (t : Items). put_items (Characters c.args.xs.now) t c.args.places.now) (sym (ap items_of c.in-Chars.is))
+    ap (λ (cs : List ℕ). Characters cs) (c.in_ok-overwrite-in-Chars.ensures 0)
+    ∙ ap (λ (t : Items). put_items (Characters c.args.xs.now) t c.args.places.now) (sym (ap listed c.in-Chars.is))

@@ -1,6 +1,6 @@
 use Rattle.std.proofs.Common.{◌+◌, ◌*◌, ◌<◌, ◌++◌, map, length, get_or, arith, ap, ◌∙◌}
 use Rattle.std.proofs.lemmas.List.{take_all}
-use Rattle.apl_select.specs.Reached.{crossed}
+use Rattle.apl_select.specs.inside.Reached.{crossed}
 use Rattle.apl_select.proofs.Lists.{all_piece}
 use Rattle.apl_select.proofs.Crossing.{crossed_more}
 use Rattle.apl_select.proofs.reach.gather.Goals as goal

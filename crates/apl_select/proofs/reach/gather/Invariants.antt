@@ -1,5 +1,5 @@
 use Rattle.std.proofs.Common.{◌≡◌, ◌++◌, map, take, get_or}
-use Rattle.apl_select.specs.Reached.{crossed}
+use Rattle.apl_select.specs.inside.Reached.{crossed}
 use Rattle.apl_select.proofs.reach.gather.Given as goal
 
 abbrev pub invariant-loop-start : goal.invariant-loop-start

@@ -1,8 +1,8 @@
 use Rattle.std.proofs.Common.{zero, suc, ◌==◌, Bool, false, subst, ◌≡◌, ℕ, ◌+◌, ◌-◌, ◌<◌, ◌≤◌, ◌++◌, ◌∷◌, [], List, map, length, get_or, drop, arith, ap, sym, ◌∙◌}
 use Rattle.std.specs.List.{All}
 use Rattle.apl_select.specs.Indexing.{Places}
-use Rattle.apl_select.specs.Reached.{crossed, reached}
-use Rattle.apl_select.proofs.Reaching.{length_on_axes, led, reached_led, led_below}
+use Rattle.apl_select.specs.inside.Reached.{crossed, led, reached}
+use Rattle.apl_select.proofs.Reaching.{length_on_axes, reached_led, led_below}
 use Rattle.apl_arrays.proofs.Places.{small_size}
 use Rattle.apl_select.proofs.Crossing.{way_last}
 use Rattle.apl_select.proofs.reach.read.Goals as goal

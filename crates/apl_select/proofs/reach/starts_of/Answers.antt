@@ -2,7 +2,7 @@ use Rattle.std.proofs.Common.{◌≡◌, ℕ, ◌+◌, ◌*◌, ◌≤◌, List,
 use Rattle.apl_arrays.specs.Index.{bound_of}
 use Rattle.std.specs.List.{All}
 use Rattle.apl_select.specs.Indexing.{Places, joined_shape}
-use Rattle.apl_select.specs.Reached.{crossed}
+use Rattle.apl_select.specs.inside.Reached.{crossed}
 use Rattle.apl_select.proofs.Reaching.{length_on_axes}
 use Rattle.apl_select.proofs.Crossing.{near_rows, near_more, places_within, places_small, room_more, room_now, way_more, length-crossed}
 use Rattle.apl_select.proofs.reach.starts_of.Goals as goal

@@ -2,7 +2,7 @@ use Rattle.std.proofs.Common.{◌≡◌, ◌+◌, ◌*◌, ◌≤◌, [], ◌∷
 use Rattle.std.specs.List.{All}
 use Rattle.apl_arrays.specs.Index.{bound_of}
 use Rattle.apl_select.specs.Indexing.{joined_shape}
-use Rattle.apl_select.specs.Reached.{reached}
+use Rattle.apl_select.specs.inside.Reached.{reached}
 use Rattle.apl_select.proofs.reach.starts_of.Given as goal
 
 abbrev pub invariant-loop-k : goal.invariant-loop-k

@@ -1,7 +1,7 @@
 use Rattle.std.proofs.Common.{◌≡◌, take, drop}
 use Rattle.apl_arrays.proofs.InTurn.{after}
 use Rattle.apl_select.specs.Indexing.{all_picked}
-use Rattle.apl_select.specs.Reached.{AreOnAxes}
+use Rattle.apl_select.specs.inside.Reached.{AreOnAxes}
 use Rattle.apl_select.proofs.slots.pick_all.Given as goal
 
 abbrev pub invariant-loop-k : goal.invariant-loop-k

@@ -1,6 +1,6 @@
 use Rattle.std.proofs.Common.{◌≡◌, ◌+◌, ◌*◌, ◌%◌, ◌++◌, length, map, get_or, arith, ap, sym, ◌∙◌}
 use Rattle.std.specs.List.{range_with_len}
-use Rattle.apl_turns.specs.Lines.{source_in}
+use Rattle.apl_turns.specs.inside.Lines.{source_in}
 use Rattle.apl_turns.proofs.Blocks.{run_step, plane_by_rows}
 use Rattle.apl_turns.proofs.lines.push_plane.Goals as goal
 

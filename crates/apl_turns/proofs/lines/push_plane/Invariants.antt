@@ -1,6 +1,6 @@
 use Rattle.std.proofs.Common.{◌≡◌, ◌*◌, ◌++◌, length, map, get_or}
 use Rattle.std.specs.List.{range_with_len}
-use Rattle.apl_turns.specs.Lines.{source_in}
+use Rattle.apl_turns.specs.inside.Lines.{source_in}
 use Rattle.apl_turns.proofs.lines.push_plane.Given as goal
 
 abbrev pub invariant-loop-row : goal.invariant-loop-row

@@ -1,6 +1,6 @@
 use Rattle.std.proofs.Common.{◌≡◌, ◌+◌, ◌*◌, ◌<◌, ◌≤◌, [], length, map, get_or, arith, ap, sym, ◌∙◌}
 use Rattle.std.specs.List.{range_with_len}
-use Rattle.apl_turns.specs.Lines.{source, source_in}
+use Rattle.apl_turns.specs.inside.Lines.{source, source_in}
 use Rattle.apl_turns.proofs.Blocks.{run_step, plane_by_lines, piece_fits, piece_length, piece_shift, some_width}
 use Rattle.apl_turns.proofs.lines.turn_lines.Goals as goal
 

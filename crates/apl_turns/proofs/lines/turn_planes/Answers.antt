@@ -1,6 +1,6 @@
 use Rattle.std.proofs.Common.{◌≡◌, ◌+◌, ◌*◌, ◌≤◌, ◌++◌, [], length, map, get_or, take, drop, arith, ap, sym, ◌∙◌}
 use Rattle.std.specs.List.{range_with_len}
-use Rattle.apl_turns.specs.Lines.{source}
+use Rattle.apl_turns.specs.inside.Lines.{source}
 use Rattle.apl_turns.proofs.Blocks.{run_step, plane_turned, piece_fits, some_width}
 use Rattle.apl_turns.proofs.lines.turn_planes.Goals as goal
 

@@ -1,6 +1,6 @@
 use Rattle.std.proofs.Common.{◌≡◌, ◌*◌, map, get_or}
 use Rattle.std.specs.List.{range_with_len}
-use Rattle.apl_turns.specs.Lines.{source}
+use Rattle.apl_turns.specs.inside.Lines.{source}
 use Rattle.apl_turns.proofs.lines.turn_planes.Given as goal
 
 abbrev pub invariant-loop-plane : goal.invariant-loop-plane

@@ -1,5 +1,5 @@
 use Rattle.std.proofs.Common.{◌≡◌, map, take}
-use Rattle.apl_turns.specs.Lines.{shift_of}
+use Rattle.apl_turns.specs.inside.Lines.{shift_of}
 use Rattle.apl_turns.proofs.rotation.shifts_of.Given as goal
 
 abbrev pub invariant-loop-number : goal.invariant-loop-number

@@ -1,7 +1,7 @@
 use Rattle.std.proofs.Common.{◌+◌, length, arith, sym, ap, ◌∙◌}
 use Rattle.apl_arrays.specs.Cells.{Arr}
 use Rattle.apl_arrays.specs.Strides.{reach_of}
-use Rattle.apl_arrays.specs.Joins.{turned_skip}
+use Rattle.apl_arrays.specs.inside.Joins.{turned_skip}
 use Rattle.apl_arrays.proofs.Steps.{length-lengths, reach_up}
 use Rattle.apl_arrays.proofs.Joining.{view_turned, shown_turned, skip_turned}
 use Rattle.apl_arrays.proofs.view.View.turned.Goals as goal

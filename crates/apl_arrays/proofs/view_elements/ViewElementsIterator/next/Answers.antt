@@ -1,6 +1,6 @@
 use Rattle.std.proofs.Common.{arith, ◌≡◌, [], length, ap, sym, ◌∙◌}
 use Rattle.apl_arrays.specs.Cells.{cells_of}
-use Rattle.apl_arrays.specs.Ravels.{items_of}
+use Rattle.apl_arrays.specs.Left.{listed}
 use Rattle.apl_arrays.specs.Strides.{seen}
 use Rattle.apl_arrays.proofs.Nth.{drop_first, drop_last, nth_small}
 use Rattle.apl_arrays.proofs.view_elements.ViewElementsIterator.next.Goals as goal
@@ -12,12 +12,12 @@ returns-in_err-cell-clause-steps c =
 
 pub overflow_add-self : goal.overflow_add-self
 overflow_add-self c =
-    omega (arith, nth_small (items_of c.self.inside.strided.ravel.now) c.self.inside.strided.offset c.self.inside.strided.axes.now c.self.inside.given c.in_ok-cell.cell c.self.invariant.0 (sym c.in_ok-cell.ensures))
+    omega (arith, nth_small (listed c.self.inside.strided.items) c.self.inside.strided.offset c.self.inside.strided.axes.now c.self.inside.given c.in_ok-cell.cell c.self.invariant.0 (sym c.in_ok-cell.ensures))
 
 pub returns-clause-steps : goal.returns-clause-steps
 returns-clause-steps c = sym c.self.view_is ∙ drop_first _ c.self.inside.given c.in_ok-cell.cell (sym c.in_ok-cell.ensures)
 
 pub returns-clause-goes : goal.returns-clause-goes
 returns-clause-goes c =
-    let step = sym c.self.view_is ∙ drop_first (cells_of (seen (items_of c.self.inside.strided.ravel.now) c.self.inside.strided.offset c.self.inside.strided.axes.now)) c.self.inside.given c.in_ok-cell.cell (sym c.in_ok-cell.ensures) in
+    let step = sym c.self.view_is ∙ drop_first (cells_of (seen (listed c.self.inside.strided.items) c.self.inside.strided.offset c.self.inside.strided.axes.now)) c.self.inside.given c.in_ok-cell.cell (sym c.in_ok-cell.ensures) in
     record { on = λ h. (tt, tt, omega (arith, ap length step)); keeps = tt; rests = λ h. tt }

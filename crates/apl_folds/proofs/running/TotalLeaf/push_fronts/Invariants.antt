@@ -6,7 +6,7 @@ use Rattle.apl_arrays.proofs.InTurn.{after}
 use Rattle.apl_scalar.specs.declared.function.Dyadic.TheVariants as two
 use Rattle.apl_scalar.specs.Functions.{dyadic_of}
 use Rattle.apl_folds.specs.Lines.{fold_by, line_of}
-use Rattle.apl_folds.specs.Sums.{IsRunning}
+use Rattle.apl_folds.specs.inside.Sums.{IsRunning}
 use Rattle.apl_folds.proofs.running.TotalLeaf.push_fronts.Given as goal
 
 -- the sums so far, and the values so far with those to come are all the values

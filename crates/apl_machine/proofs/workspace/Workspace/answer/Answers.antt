@@ -1,5 +1,6 @@
 use Rattle.std.proofs.Common.{rules, ◌≡◌, true, List, Some, None, Err, drop, sym, ap, ◌∙◌, subst}
 use Rattle.std.specs.Prelude.{is_some, slice_get, IfSome}
+use Rattle.apl_arrays.specs.Origins.{origin_number}
 use Rattle.apl_faults.specs.declared.fault.Fault.TheVariants.{Value}
 use Rattle.apl_machine_state.specs.Items.{answered}
 use Rattle.apl_machine_state.specs.Reports.{fault_lines, said}
@@ -46,7 +47,7 @@ returns-in-Some-value-clause-ok c =
     let get : slice_get s.contexts 1 ≡ Some k = search rules in
     let does : rest_in k ≡ Some f = search rules in
     let waits = subst (FitsRest Beneath) does (below_waits s.contexts k c.requires.sound.contexts.stacked c.requires.executes get) in
-    ap (λ (l : List Context). state_at c.self.inside.names (settings c.self.inside.stops c.self.inside.traces c.self.inside.io) l c.self.inside.output.items) (c.change.ensures ∙ ap (moved_newest (IsAnswered a)) c.pop.ensures)
+    ap (λ (l : List Context). state_at c.self.inside.names (settings c.self.inside.stops c.self.inside.traces (origin_number c.self.inside.io)) l c.self.inside.output.items) (c.change.ensures ∙ ap (moved_newest (IsAnswered a)) c.pop.ensures)
     ∙ ap (λ (x : Space). state_at x.maps x.kept (moved_newest (IsAnswered a) (drop 1 x.contexts)) x.output) c.self.view_is
     ∙ value_is s.maps s.kept s.output k f does s.contexts a c.requires.executes get c.lend-lent.ensures.stands waits
     ∙ ap (answered_in s) (sym c.in-Some-value.is)

@@ -1,0 +1,86 @@
+// A shape and its elements, which arrays share.
+ghost use Rattle.std.specs.Prelude.{◌≡◌, ◌<◌, cond, length, true, IfOk, IsTrue};
+
+use crate::cell::Ravel;
+use crate::shape::MAX_RANK;
+use arrayvec::ArrayVec;
+use std::alloc::AllocError;
+use std::marker::Model;
+
+/// A shape of one axis or more, and an element for each index list within it.
+#[derive(Drop)]
+pub(crate) struct Dense {
+    shape: ArrayVec<usize, MAX_RANK>,
+    ravel: Ravel,
+}
+
+impl Model for Dense {
+    ghost use Rattle.apl_arrays.specs.Cells.{Arr};
+
+    ghost Value = { Arr };
+
+    ghost use Rattle.apl_arrays.specs.Dense.{IsDense};
+    ghost use Rattle.apl_arrays.specs.Ravels.{items_of};
+
+    ghost view = { λ a. record { shape = a.shape.items; items = items_of a.ravel } };
+
+    ghost invariant = { λ a. IsDense a.shape.items (items_of a.ravel) };
+}
+
+impl Dense {
+    ghost use Rattle.apl_arrays.specs.Cells.{cells_of};
+    ghost use Rattle.apl_arrays.specs.Dense.{IsDense};
+    ghost use Rattle.apl_arrays.specs.Kinds.{are_numbers};
+    ghost use Rattle.apl_arrays.specs.Ravels.{items_of};
+    ghost use Rattle.apl_arrays.specs.Written.{number_written};
+
+    pub(crate) fn new(shape: ArrayVec<usize, MAX_RANK>, ravel: Ravel) -> Dense
+        requires { IsDense shape.items (items_of ravel) }
+        ensures { result ≡ record { shape = shape.items; items = items_of ravel } }
+    {
+        Dense { shape, ravel }
+    }
+
+    /// The lengths of the axes.
+    #[inline]
+    pub(crate) fn shape(&self) -> &[usize]
+        ensures value { result.now ≡ self.now.shape }
+        ensures dense { IsDense self.now.shape self.now.items }
+    {
+        self.shape.as_slice()
+    }
+
+    /// The elements in row-major order.
+    #[inline]
+    pub(crate) fn ravel(&self) -> &Ravel
+        ensures value { items_of result.now ≡ self.now.items }
+        ensures dense { IsDense self.now.shape self.now.items }
+    {
+        &self.ravel
+    }
+
+    /// Writes a number where there is one, and says whether it did.
+    #[inline]
+    pub(crate) fn set_number(&mut self, place: usize, number: i64) -> bool
+        ensures value { self.new ≡ cond result (number_written self.old place number) self.old }
+        ensures there { IsTrue result → (are_numbers self.old.items ≡ true) × (place < length (cells_of self.old.items)) }
+    {
+        match &mut self.ravel {
+            Ravel::Nums(numbers) if place < numbers.len() => {
+                numbers[place] = number;
+                true
+            }
+            _ => false,
+        }
+    }
+
+    /// An equal one.
+    pub(crate) fn copy(&self) -> Result<Dense, AllocError>
+        ensures { IfOk result (λ dense. dense ≡ self.now) }
+    {
+        Ok(Dense {
+            ravel: self.ravel.copy()?,
+            shape: self.shape.clone()?,
+        })
+    }
+}

@@ -1,0 +1,25 @@
+-- Sums of numbers without bounds, and of their magnitudes.
+use Rattle.std.specs.Prelude.{◌≡◌, ◌+◌, ◌<◌, ◌^◌, ◌+ℤ◌, ℕ, ℤ, pos, List, [], ◌∷◌, Result, unsigned_abs}
+use Rattle.apl_faults.specs.declared.fault.Fault.{Fault}
+use Rattle.apl_scalar.specs.declared.function.Dyadic.TheVariants as two
+use Rattle.apl_scalar.specs.Functions.{dyadic_of}
+use Rattle.apl_folds.specs.declared.running.Running.{Running}
+use Rattle.apl_folds.specs.Lines.{fold_by}
+
+-- the fold of one or more numbers by addition, each step tested
+abbrev pub sum_of : List ℤ → Result ℤ Fault
+sum_of xs = fold_by (dyadic_of two.Plus) xs
+
+-- the sum of numbers, however large
+abbrev pub total : List ℤ → ℤ
+total [] = pos 0
+total (x ∷ xs) = x +ℤ total xs
+
+-- the sum of their magnitudes, however large
+abbrev pub magnitudes : List ℤ → ℕ
+magnitudes [] = 0
+magnitudes (x ∷ xs) = unsigned_abs x + magnitudes xs
+
+-- while the magnitude says so, it and the sum are those of the numbers
+abbrev pub IsRunning : Running → List ℤ → Type 0
+IsRunning r xs = r.magnitude < 2 ^ 63 → (r.sum ≡ total xs) × (r.magnitude ≡ magnitudes xs)

@@ -1,5 +1,0 @@
-use Rattle.apl_scalar.proofs.Signs.{neither}
-use Rattle.apl_operators.proofs.line.either.Goals as goal
-
-pub returns : goal.returns
-returns c h = neither c.args.x c.args.y c.ranges.x c.ranges.y h

@@ -1,0 +1,3 @@
+pub mod Flat
+pub mod Mirrored
+pub mod Tables

@@ -1,0 +1,35 @@
+-- Tables of first places.
+use Rattle.std.specs.Prelude.{ℕ, ℤ, pos, ◌+◌, ◌+ℤ◌, ◌≤ℤ◌, ◌<◌, ◌≡◌, List, length, slice_index}
+use Rattle.std.specs.Ordering.{int_eq}
+use Rattle.std.specs.List.{All, position_or_len}
+use Rattle.apl_search.specs.declared.table.Span.{Span}
+use Rattle.apl_search.specs.declared.table.Table.{Table}
+use Rattle.apl_search.specs.declared.index.Index.{Index}
+use Rattle.apl_search.specs.declared.index.Index.TheVariants.{Unlisted, Close, Sorted}
+use Rattle.apl_search.specs.Ordered.{Lists}
+
+-- a number from the smallest to the largest of a span
+pub record IsWithin (span : Span) (z : ℤ) : Type 0 where
+  pub low : span.smallest ≤ℤ z
+  pub high : z ≤ℤ span.largest
+
+-- a span of so many numbers, one or more
+pub record Spans (span : Span) (slots : ℕ) : Type 0 where
+  pub some : 0 < slots
+  pub all : span.smallest +ℤ pos slots ≡ span.largest +ℤ pos 1
+
+-- each slot holds the place of its number among these, where so many stand before them: the first, or behind the last where there is none
+abbrev pub AreFirsts : ℤ → List ℕ → ℕ → List ℤ → Type 0
+AreFirsts smallest slots before zs = (k : ℕ) → k < length slots → slice_index slots k ≡ before + position_or_len (int_eq (smallest +ℤ pos k)) zs
+
+-- a slot for each number of the span, in which all these numbers lie
+pub record IsTableOf (table : Table) (zs : List ℤ) : Type 0 where
+  pub within : All (IsWithin table.span) zs
+  pub full : Spans table.span (length table.firsts.items)
+  pub slots : AreFirsts table.span.smallest table.firsts.items 0 zs
+
+-- first places, in a table or by all places in rising order of the numbers
+abbrev pub IsIndexOf : Index → List ℤ → Type 0
+IsIndexOf Unlisted zs = Unit {0}
+IsIndexOf (Close table) zs = IsTableOf table zs
+IsIndexOf (Sorted entries) zs = Lists zs entries.items

@@ -1,0 +1,117 @@
+// First places of numbers that lie close together, in a table by number.
+ghost use Rattle.std.specs.Prelude.{◌≡◌, ◌≤◌, ◌<◌, ◌^◌, ℕ, ◌+ℤ◌, ◌-ℤ◌, ◌<ℤ◌, pos, length, replicate, IfOk, IfSome};
+ghost use Rattle.std.specs.Ordering.{int_eq};
+ghost use Rattle.std.specs.List.{All, position_or_len};
+ghost use Rattle.apl_search.specs.inside.Tables.{AreFirsts, IsTableOf, IsWithin, Spans};
+
+use std::alloc::{AllocError, Global};
+
+/// How many slots a table may have for each number.
+const SLOTS_EACH: usize = 4;
+
+/// For how many numbers a table may always have slots.
+const FEWEST: usize = 64;
+
+/// All numbers from one to another.
+#[derive(Clone, Copy)]
+pub(crate) struct Span {
+    smallest: i64,
+    largest: i64,
+}
+
+/// The first places of numbers, each in a slot for the number, from the smallest to the largest.
+#[derive(Drop)]
+pub(crate) struct Table {
+    span: Span,
+    firsts: Vec<u32>,
+}
+
+impl Span {
+    /// From the smallest of numbers to their largest.
+    fn of(numbers: &[i64]) -> Option<Span>
+        ensures { IfSome result (λ span. All (IsWithin span) numbers.now) }
+    {
+        let first = *numbers.first()?;
+        let mut smallest = first;
+        let mut largest = first;
+        for number in numbers {
+            smallest = smallest.min(*number);
+            largest = largest.max(*number);
+        }
+        Some(Span { smallest, largest })
+    }
+
+    /// How many numbers these are, if they are few for a table of so many.
+    fn slots(self, count: usize) -> Option<usize>
+        ensures { IfSome result (λ slots. Spans self slots) }
+    {
+        let steps = usize::try_from(self.largest.checked_sub(self.smallest)?).ok()?;
+        if steps / SLOTS_EACH < count.max(FEWEST) {
+            Some(steps + 1)
+        } else {
+            None
+        }
+    }
+
+    /// The slot of one of these numbers.
+    #[inline(always)]
+    fn slot(self, number: i64) -> usize
+        requires within { IsWithin self number }
+        requires near { (self.largest -ℤ self.smallest) <ℤ pos (2 ^ 63) }
+        ensures { self.smallest +ℤ pos result ≡ number }
+    {
+        (number - self.smallest) as usize
+    }
+}
+
+/// From the smallest of numbers to their largest, how many numbers these are, and what a slot holds where none of the numbers stands; if a table has room for them.
+fn plan(numbers: &[i64]) -> Option<(Span, usize, u32)>
+    ensures within { IfSome result (λ r. All (IsWithin r.0) numbers.now) }
+    ensures slots { IfSome result (λ r. Spans r.0 r.1) }
+    ensures none { IfSome result (λ r. r.2 ≡ length numbers.now) }
+{
+    let span = Span::of(numbers)?;
+    let slots = span.slots(numbers.len())?;
+    let none = u32::try_from(numbers.len()).ok()?;
+    Some((span, slots, none))
+}
+
+/// Puts into the slot of each number its first place, where each slot holds how many numbers there are.
+fn enter(firsts: &mut [u32], span: Span, numbers: &[i64])
+    requires few { length numbers.now < 2 ^ 32 }
+    requires within { All (IsWithin span) numbers.now }
+    requires slots { Spans span (length firsts.old) }
+    requires none { firsts.old ≡ replicate (length firsts.old) (length numbers.now) }
+    ensures { AreFirsts span.smallest firsts.new 0 numbers.now }
+{
+    for place in (0..numbers.len()).rev() {
+        firsts[span.slot(numbers[place])] = place as u32;
+    }
+}
+
+impl Table {
+    /// The table of numbers. There is none where they lie far apart.
+    pub(crate) fn of(alloc: Global, numbers: &[i64]) -> Result<Option<Table>, AllocError>
+        ensures { IfOk result (λ made. IfSome made (λ table. IsTableOf table numbers.now)) }
+    {
+        let Some((span, slots, none)) = plan(numbers) else {
+            return Ok(None);
+        };
+        let mut firsts = vec![in alloc; none; slots]?;
+        enter(firsts.as_mut_slice(), span, numbers);
+        Ok(Some(Table { span, firsts }))
+    }
+
+    /// The first place of a number among those of the table, or how many they are.
+    #[inline(always)]
+    pub(crate) fn first_place(&self, numbers: &[i64], number: i64) -> usize
+        requires { IsTableOf self.now numbers.now }
+        ensures value { result ≡ position_or_len (int_eq number) numbers.now }
+        ensures within { result ≤ length numbers.now }
+    {
+        if number < self.span.smallest || self.span.largest < number {
+            return numbers.len();
+        }
+        self.firsts[self.span.slot(number)] as usize
+    }
+}

@@ -1,0 +1,4 @@
+pub mod Laying
+pub mod Reached
+pub mod Single
+pub mod Written
