@@ -48,5 +48,5 @@ axis_along Last rank origin = Ok (last_of rank)
 axis_along (Named slots) rank origin = ok_map Some (axis_named rank origin slots.now)
 
 -- the axis that these slots name, wherever they lie
-abbrev pub named : List (Option Arr) → Along
-named slots = Named (record { ref_ptr = (0, 0); now = slots })
+abbrev pub along_slots : List (Option Arr) → Along
+along_slots slots = Named (record { ref_ptr = (0, 0); now = slots })

@@ -2,7 +2,7 @@
 use Rattle.std.specs.Prelude.{◌≡◌, ◌<◌, ◌-◌, ℕ, zero, suc, Bool, true, false, if◌then◌else◌}
 use Rattle.apl_machine_state.specs.declared.output.Progress.{Progress}
 use Rattle.apl_machine_state.specs.declared.output.Progress.TheVariants.{Idle, Stopped, LineEnd, Running}
-use Rattle.apl_machine_state.specs.State.{State, is_idle, progress, standing, step, steps, turn}
+use Rattle.apl_machine_state.specs.State.{State, is_idle, progress, progress_at, step, steps, turn}
 
 -- where a machine stands after steps, and what the last one answered
 pub record Run : Type 0 where
@@ -29,7 +29,7 @@ run_from ends before (suc n) s =
     else run_from ends (progress (turn s)) n (step s)
 
 abbrev pub run : (Progress → Bool) → ℕ → State → Run
-run ends n s = run_from ends (standing s) n s
+run ends n s = run_from ends (progress_at s) n s
 
 -- done of at most n steps from s are made, fewer than n, and the others lead on from t to where the run leads
 abbrev pub StandsAfter : ℕ → (Progress → Bool) → ℕ → State → State → Type 0

@@ -4,7 +4,7 @@ use Rattle.std.specs.List.{flat_map}
 use Rattle.std.proofs.lemmas.List.{drop-drop, append_assoc, map_push, length-map, flat_map_more}
 use Rattle.std.proofs.lemmas.Bool.{ne_eqb}
 use Rattle.apl_arrays.specs.Cells.{Items, Numbers, Characters}
-use Rattle.apl_format.specs.Display.{taken, dropped, rows, planes, row_line, widths, joined, matrix_lines}
+use Rattle.apl_format.specs.Display.{first_of_ravel, dropped, rows, planes, row_line, widths, joined, matrix_lines}
 use Rattle.apl_format.specs.inside.Parts.{before, AreWidths}
 use Rattle.apl_format.proofs.Joined.{joined_push}
 
@@ -20,27 +20,27 @@ dropped_none (Characters cs) = refl
 dropped_rows : (k c : ℕ) (items : Items) → dropped (k * c) (dropped c items) ≡ dropped (suc k * c) items
 dropped_rows k c items = dropped_dropped (k * c) c items ∙ ap (λ n. dropped n items) (omega arith)
 
-rows_suc : (k c : ℕ) (items : Items) → rows (suc k) c items ≡ rows k c items ++ taken c (dropped (k * c) items) ∷ []
+rows_suc : (k c : ℕ) (items : Items) → rows (suc k) c items ≡ rows k c items ++ first_of_ravel c (dropped (k * c) items) ∷ []
 unfolding rows
-rows_suc zero c items = ap (λ x. taken c x ∷ []) (sym (ap (λ n. dropped n items) (zero-mul c) ∙ dropped_none items))
-rows_suc (suc k) c items = ap (λ xs. taken c items ∷ xs) (rows_suc k c (dropped c items) ∙ ap (λ x. rows k c (dropped c items) ++ taken c x ∷ []) (dropped_rows k c items))
+rows_suc zero c items = ap (λ x. first_of_ravel c x ∷ []) (sym (ap (λ n. dropped n items) (zero-mul c) ∙ dropped_none items))
+rows_suc (suc k) c items = ap (λ xs. first_of_ravel c items ∷ xs) (rows_suc k c (dropped c items) ∙ ap (λ x. rows k c (dropped c items) ++ first_of_ravel c x ∷ []) (dropped_rows k c items))
 
-pub rows_more : (k c : ℕ) (items : Items) → rows (k + 1) c items ≡ rows k c items ++ taken c (dropped (k * c) items) ∷ []
+pub rows_more : (k c : ℕ) (items : Items) → rows (k + 1) c items ≡ rows k c items ++ first_of_ravel c (dropped (k * c) items) ∷ []
 rows_more k c items = rw add-one (rows_suc k c items)
 
 -- the items of one row more, end to end
 pub rows_step : (f : Items → List ℕ) (k c : ℕ) (items : Items) (start : List ℕ) {line a b : List ℕ} → a ≡ start ++ flat_map f (rows k c items) →
-    line ≡ f (taken c (dropped (k * c) items)) → b ≡ a ++ line → b ≡ start ++ flat_map f (rows (k + 1) c items)
+    line ≡ f (first_of_ravel c (dropped (k * c) items)) → b ≡ a ++ line → b ≡ start ++ flat_map f (rows (k + 1) c items)
 rows_step f k c items start {line = line} e made g =
     g ∙ ap (λ t. t ++ line) e ∙ ap (λ t. (start ++ flat_map f (rows k c items)) ++ t) made
-    ∙ flat_map_more f start (rows k c items) (taken c (dropped (k * c) items)) ∙ ap (λ xs. start ++ flat_map f xs) (sym (rows_more k c items))
+    ∙ flat_map_more f start (rows k c items) (first_of_ravel c (dropped (k * c) items)) ∙ ap (λ xs. start ++ flat_map f xs) (sym (rows_more k c items))
 
 pub rows_append : (a b c : ℕ) (items : Items) → rows (a + b) c items ≡ rows a c items ++ rows b c (dropped (a * c) items)
 unfolding rows
 rows_append zero b c items =
     ap (λ k. rows k c items) (zero-add b) ∙ sym (ap (λ x. rows b c x) (ap (λ n. dropped n items) (zero-mul c) ∙ dropped_none items))
 rows_append (suc a) b c items =
-    ap (λ k. rows k c items) (suc-add a b) ∙ ap (λ xs. taken c items ∷ xs) (rows_append a b c (dropped c items) ∙ ap (λ x. rows a c (dropped c items) ++ rows b c x) (dropped_rows a c items))
+    ap (λ k. rows k c items) (suc-add a b) ∙ ap (λ xs. first_of_ravel c items ∷ xs) (rows_append a b c (dropped c items) ∙ ap (λ x. rows a c (dropped c items) ++ rows b c x) (dropped_rows a c items))
 
 planes_suc : (k h c : ℕ) (items : Items) → planes (suc k) h c items ≡ planes k h c items ++ rows h c (dropped (k * (h * c)) items) ∷ []
 unfolding planes
@@ -65,11 +65,11 @@ length-planes (suc k) h c items = ap suc (length-planes k h c (dropped (h * c) i
 
 -- the lines of one row more
 pub plane_step : (f : Items → List ℕ) (k c p : ℕ) (items : Items) (start : List (List ℕ)) {from : ℕ} {line : List ℕ} {a b : List (List ℕ)} → from ≡ p + k * c →
-    a ≡ start ++ map f (rows k c (dropped p items)) → line ≡ f (taken c (dropped from items)) → b ≡ a ++ line ∷ [] →
+    a ≡ start ++ map f (rows k c (dropped p items)) → line ≡ f (first_of_ravel c (dropped from items)) → b ≡ a ++ line ∷ [] →
     b ≡ start ++ map f (rows (k + 1) c (dropped p items))
 plane_step f k c p items start {line = line} here e made g =
-    let row = made ∙ ap (λ n. f (taken c (dropped n items))) here ∙ ap (λ xs. f (taken c xs)) (sym (dropped_dropped (k * c) p items)) in
-    let more = ap (map f) (rows_more k c (dropped p items)) ∙ map_push f (rows k c (dropped p items)) (taken c (dropped (k * c) (dropped p items))) in
+    let row = made ∙ ap (λ n. f (first_of_ravel c (dropped n items))) here ∙ ap (λ xs. f (first_of_ravel c xs)) (sym (dropped_dropped (k * c) p items)) in
+    let more = ap (map f) (rows_more k c (dropped p items)) ∙ map_push f (rows k c (dropped p items)) (first_of_ravel c (dropped (k * c) (dropped p items))) in
     g ∙ ap (λ xs. xs ++ line ∷ []) e ∙ append_assoc start (map f (rows k c (dropped p items))) (line ∷ []) ∙ ap (λ x. start ++ (map f (rows k c (dropped p items)) ++ x ∷ [])) row ∙ ap (λ xs. start ++ xs) (sym more)
 
 -- the lines of one plane more

@@ -4,7 +4,7 @@ use Rattle.std.specs.Simd.Lanes.{zip2}
 use Rattle.std.proofs.lemmas.List.{append_assoc, map_push, length-map, get_or-map, append-nil, take_all, drop_all, drop_more, take_more, set_at, get_or_at, length-take-le}
 use Rattle.std.proofs.lemmas.Simd.{length-zip2, get_or-zip2}
 use Rattle.apl_arrays.specs.Cells.{Items}
-use Rattle.apl_format.specs.Display.{item_widths, rows, widths, taken, dropped}
+use Rattle.apl_format.specs.Display.{item_widths, rows, widths, first_of_ravel, dropped}
 use Rattle.apl_format.proofs.Rows.{rows_more, rows_none}
 
 fold_push : {A B : Type 0} (f : B → A → B) (b : B) (xs : List A) (x : A) → fold f b (xs ++ x ∷ []) ≡ f (fold f b xs) x
@@ -17,11 +17,11 @@ unfolding widths
 widths_none c items = rw rows_none refl
 
 -- of one row more
-pub widths_more : (k c : ℕ) (items : Items) → widths c (rows (k + 1) c items) ≡ zip2 max (widths c (rows k c items)) (item_widths (taken c (dropped (k * c) items)))
+pub widths_more : (k c : ℕ) (items : Items) → widths c (rows (k + 1) c items) ≡ zip2 max (widths c (rows k c items)) (item_widths (first_of_ravel c (dropped (k * c) items)))
 unfolding widths
 widths_more k c items =
-    rw (rows_more k c items, map_push item_widths (rows k c items) (taken c (dropped (k * c) items)))
-    (fold_push (zip2 max) (replicate c 0) (map item_widths (rows k c items)) (item_widths (taken c (dropped (k * c) items))))
+    rw (rows_more k c items, map_push item_widths (rows k c items) (first_of_ravel c (dropped (k * c) items)))
+    (fold_push (zip2 max) (replicate c 0) (map item_widths (rows k c items)) (item_widths (first_of_ravel c (dropped (k * c) items))))
 
 -- in a list that is new before a place, the element there is the old one
 pub old_at : (ts xs : List ℕ) (i d : ℕ) → i < length ts → length ts ≡ length xs → get_or (take i ts ++ drop i xs) i d ≡ get_or xs i d

@@ -21,9 +21,9 @@ vector_line (Numbers zs) = joined 32 (map number_text zs)
 vector_line (Characters cs) = cs
 
 -- the first so many elements of a ravel
-abbrev pub taken : ℕ → Items → Items
-taken n (Numbers zs) = Numbers (take n zs)
-taken n (Characters cs) = Characters (take n cs)
+abbrev pub first_of_ravel : ℕ → Items → Items
+first_of_ravel n (Numbers zs) = Numbers (take n zs)
+first_of_ravel n (Characters cs) = Characters (take n cs)
 
 -- the elements after them
 abbrev pub dropped : ℕ → Items → Items
@@ -33,7 +33,7 @@ dropped n (Characters cs) = Characters (drop n cs)
 -- the first so many rows, each of so many columns
 unfoldable pub rows : ℕ → ℕ → Items → List Items
 rows zero columns items = []
-rows (suc n) columns items = taken columns items ∷ rows n columns (dropped columns items)
+rows (suc n) columns items = first_of_ravel columns items ∷ rows n columns (dropped columns items)
 
 -- the first so many planes, each of so many rows
 unfoldable pub planes : ℕ → ℕ → ℕ → Items → List (List Items)

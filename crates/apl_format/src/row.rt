@@ -3,7 +3,7 @@ ghost use Rattle.std.specs.Prelude.{◌≡◌, ◌+◌, ◌≤◌, ◌++◌, len
 ghost use Rattle.std.specs.Simd.Lanes.{zip2};
 ghost use Rattle.apl_arrays.specs.Cells.{cells_of};
 ghost use Rattle.apl_arrays.specs.Left.{listed};
-ghost use Rattle.apl_format.specs.Display.{number_text, padded, joined, vector_line, row_line, taken, dropped};
+ghost use Rattle.apl_format.specs.Display.{number_text, padded, joined, vector_line, row_line, first_of_ravel, dropped};
 ghost use Rattle.apl_format.specs.inside.Parts.{HaveWidths};
 
 use crate::number::{push_between, push_number, push_padded};
@@ -64,7 +64,7 @@ pub(crate) fn row_line(
 ) -> Result<Text, AllocError>
     requires within { place + columns ≤ length (cells_of (listed items)) }
     requires wide { HaveWidths columns (listed items) widths.now }
-    ensures { IfOk result (λ line. line ≡ row_line widths.now (taken columns (dropped place (listed items.entry)))) }
+    ensures { IfOk result (λ line. line ≡ row_line widths.now (first_of_ravel columns (dropped place (listed items.entry)))) }
 {
     match items {
         Elements::Nums(numbers) => {

@@ -22,7 +22,7 @@ use Rattle.apl_machine_state.specs.Calls.{begun_line, returned}
 use Rattle.apl_machine_state.specs.Changes.{Change, Rests, Moves, AsksStops, Arrives, change}
 use Rattle.apl_machine_state.specs.Environment.{World, Context, Call, nearest}
 use Rattle.apl_machine_state.specs.Objects.{erased, without_global}
-use Rattle.apl_machine_state.specs.Reports.{abandoned, fault_lines, said}
+use Rattle.apl_machine_state.specs.Reports.{abandoned, fault_lines, plain_lines}
 use Rattle.apl_machine_state.specs.State.{State, Turn, applied, arrived, comes_to, definition_of, interrupt, interrupted, is_global_variable, is_idle, moved, step, steps, stop_report, turn, with_function, with_lines}
 use Rattle.apl_machine_state.specs.Texts.{colon_of}
 use Rattle.apl_machine_state.specs.Watching.{lines_array}
@@ -45,7 +45,7 @@ abbrev writing : State → List OutLine → State
 writing s output = record s { output = output }
 
 says : (before : List OutLine) (s : State) (lines : List Text) → Follows before (with_lines lines s) (with_lines lines (behind before s))
-says before s lines = record { is = ap (writing s) (append_assoc before s.output (said lines)) }
+says before s lines = record { is = ap (writing s) (append_assoc before s.output (plain_lines lines)) }
 
 refuses : (before : List OutLine) (s : State) (fault : Fault) → Follows before (refused s fault) (refused (behind before s) fault)
 refuses before s fault = says before s (name_of fault ∷ [])
@@ -148,12 +148,12 @@ turned s w contexts stopped ended output = record { state = record s { world = w
 
 moved-behind : (before : List OutLine) (s : State) (w : World) (contexts : List Context) (lines : List Text) (ended : Bool)
     → moved (behind before s) w contexts lines ended ≡ turn_behind before (moved s w contexts lines ended)
-moved-behind before s w contexts lines ended = ap (turned s w contexts false ended) (append_assoc before s.output (said lines))
+moved-behind before s w contexts lines ended = ap (turned s w contexts false ended) (append_assoc before s.output (plain_lines lines))
 
 comes-behind : (b : Bool) (before : List OutLine) (s : State) (w : World) (d : Definition) (n : ℕ) (locals : Map) (below : List Context) (lines : List Text) (ended : Bool)
     → comes_to b (behind before s) w d n locals below lines ended ≡ turn_behind before (comes_to b s w d n locals below lines ended)
 comes-behind true before s w d n locals below lines ended =
-    ap (turned s w (Call d n locals None ∷ below) true true) (append_assoc before s.output (said lines ++ stop_report d n ∷ []))
+    ap (turned s w (Call d n locals None ∷ below) true true) (append_assoc before s.output (plain_lines lines ++ stop_report d n ∷ []))
 comes-behind false before s w d n locals below lines ended = moved-behind before s w (begun_line w d n locals below) lines ended
 
 arrived-behind : (b : Bool) (before : List OutLine) (s : State) (w : World) (d : Definition) (n : ℕ) (locals : Map) (below : List Context) (lines : List Text) (ended : Bool)

@@ -15,7 +15,7 @@ use Rattle.apl_defn.proofs.Limits.{defined_made}
 use Rattle.apl_machine_state.specs.declared.output.OutLine.{OutLine}
 use Rattle.apl_machine_state.specs.Beginning.{begun}
 use Rattle.apl_machine_state.specs.Objects.{erased, without_global}
-use Rattle.apl_machine_state.specs.Reports.{said}
+use Rattle.apl_machine_state.specs.Reports.{plain_lines}
 use Rattle.apl_machine_state.specs.State.{State, clear, definition_of, is_global_variable, is_idle, step, steps, with_function, with_lines}
 use Rattle.apl_session.specs.declared.commands.Command.{Command}
 use Rattle.apl_session.specs.declared.commands.Command.TheVariants.{StateIndicator, Functions, Variables, Erase, Clear}
@@ -41,7 +41,7 @@ defining : (s : State) (lines : Option (List Text)) → IsSavable s → IsSavabl
 defining s lines h = record { kept = record { order = h.kept.order; keeps = h.kept.keeps }; origin = h.origin; named = h.named; contexts = h.contexts }
 
 with-lines : (lines : List Text) (s : State) → IsSavable s → IsSavable (with_lines lines s)
-with-lines lines s h = told s (s.output ++ said lines) h
+with-lines lines s h = told s (s.output ++ plain_lines lines) h
 
 refuses : (s : State) (fault : Fault) → IsSavable s → IsSavable (refused s fault)
 refuses s fault h = with-lines (name_of fault ∷ []) s h

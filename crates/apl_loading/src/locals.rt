@@ -5,7 +5,7 @@ ghost use Rattle.apl_arrays.specs.Cells.{Numbers};
 ghost use Rattle.apl_arrays.specs.Left.{listed};
 ghost use Rattle.apl_charset.specs.Text.{IsLine};
 ghost use Rattle.apl_machine_state.specs.Environment.{scalar};
-ghost use Rattle.apl_order.specs.Kept.{named, names_in};
+ghost use Rattle.apl_order.specs.Kept.{given_name, names_in};
 ghost use Rattle.apl_saved.specs.Rules.{IsLocal};
 ghost use Rattle.apl_saved.specs.Spelled.{Pairwise};
 ghost use Rattle.apl_loading.specs.inside.Made.{AreLocals, IsNamedBy};
@@ -23,7 +23,7 @@ use std::alloc::{AllocError, Global};
 
 /// Adds a name, where there is one.
 fn push_named(names: &mut Vec<Name>, name: Option<Name>) -> Result<(), AllocError>
-    ensures { OnOk result (names.new.items ≡ names.old.items ++ named name) }
+    ensures { OnOk result (names.new.items ≡ names.old.items ++ given_name name) }
 {
     if let Some(name) = name {
         names.push(name)?;

@@ -1,6 +1,6 @@
 //! Branches, and `→` alone.
 ghost use Rattle.std.specs.Prelude.{◌≡◌, [], IfOk, IsSome, List, OnErr, OnOk, ℕ};
-ghost use Rattle.apl_machine_state.specs.Reports.{said};
+ghost use Rattle.apl_machine_state.specs.Reports.{plain_lines};
 ghost use Rattle.apl_contexts.specs.Contexts.{behind, line_in};
 ghost use Rattle.apl_machine.specs.Spaces.{IsSound, IsStatement, branched_in, escaped_in, left_behind, state_of};
 
@@ -53,7 +53,7 @@ impl Workspace {
         requires sound { IsSound self.old }
         requires runs { IsSome (line_in self.old.contexts) }
         ensures sound { IsSound self.new }
-        ensures ok { OnOk result ((texts : List (List ℕ)) → lines.items ≡ said texts → state_of self.new ≡ (branched_in self.old aim texts).state) }
+        ensures ok { OnOk result ((texts : List (List ℕ)) → lines.items ≡ plain_lines texts → state_of self.new ≡ (branched_in self.old aim texts).state) }
         ensures stopped { IfOk result (λ stopped. (texts : List (List ℕ)) → stopped ≡ (branched_in self.old aim texts).stopped) }
         ensures err { OnErr result (self.new ≡ self.old) }
     {
@@ -97,7 +97,7 @@ impl Workspace {
         requires sound { IsSound self.old }
         requires runs { IsSome (line_in self.old.contexts) }
         ensures sound { IsSound self.new }
-        ensures ok { OnOk result ((texts : List (List ℕ)) → lines.items ≡ said texts → state_of self.new ≡ escaped_in self.old texts) }
+        ensures ok { OnOk result ((texts : List (List ℕ)) → lines.items ≡ plain_lines texts → state_of self.new ≡ escaped_in self.old texts) }
         ensures err { OnErr result (self.new ≡ self.old) }
     {
         self.output.append(&mut lines)?;

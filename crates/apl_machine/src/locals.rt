@@ -1,6 +1,6 @@
 //! The names that a call begins with.
 ghost use Rattle.std.specs.Prelude.{◌≡◌, ◌≤◌, ◌++◌, ℤ, IfOk, List, OnOk, map, option_copied};
-ghost use Rattle.apl_machine_state.specs.Calls.{local_of, named, names_of_call};
+ghost use Rattle.apl_machine_state.specs.Calls.{local_of, bound_name, names_of_call};
 ghost use Rattle.apl_phrases.specs.Effects.{seen};
 
 use apl_arrays::Array;
@@ -17,7 +17,7 @@ fn push_named(
     name: Option<Name>,
     binding: Binding,
 ) -> Result<(), AllocError>
-    ensures { OnOk result (names.new.items ≡ names.old.items ++ named name binding) }
+    ensures { OnOk result (names.new.items ≡ names.old.items ++ bound_name name binding) }
 {
     if let Some(name) = name {
         names.push((name, binding))?;

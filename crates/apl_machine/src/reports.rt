@@ -2,7 +2,7 @@
 ghost use Rattle.std.specs.Prelude.{◌≡◌, ◌≢◌, ◌≤◌, ◌∷◌, [], IfOk, None, List};
 ghost use Rattle.apl_faults.specs.Report.{report};
 ghost use Rattle.apl_names.specs.Maps.{Map};
-ghost use Rattle.apl_machine_state.specs.Reports.{fault_lines, said};
+ghost use Rattle.apl_machine_state.specs.Reports.{fault_lines, plain_lines};
 ghost use Rattle.apl_tokens.specs.Tokens.{IsPlaced};
 ghost use Rattle.apl_machine_state.specs.Beginning.{token_fault};
 ghost use Rattle.apl_frames.specs.Ends.{IsColumn};
@@ -25,7 +25,7 @@ pub fn typed_fault(
     column: usize,
 ) -> Result<Vec<OutLine>, AllocError>
     requires { (1 ≤ column) × (column ≤ 501) }
-    ensures { IfOk result (λ lines. lines.items ≡ said (report fault None text.now column)) }
+    ensures { IfOk result (λ lines. lines.items ≡ plain_lines (report fault None text.now column)) }
 {
     said(alloc, report(alloc, fault, None, text, column)?)
 }
@@ -38,7 +38,7 @@ fn line_fault(
     column: usize,
 ) -> Result<Vec<OutLine>, AllocError>
     requires { IsColumn column }
-    ensures { IfOk result (λ lines. (ms : List Map) → lines.items ≡ said (fault_lines fault column (dressed ms (context.now ∷ [])))) }
+    ensures { IfOk result (λ lines. (ms : List Map) → lines.items ≡ plain_lines (fault_lines fault column (dressed ms (context.now ∷ [])))) }
 {
     match context {
         Context::Statement(statement) => {
@@ -69,7 +69,7 @@ pub fn context_fault(
 ) -> Result<Vec<OutLine>, AllocError>
     requires stacked { (p : Place) × AreStacked p (lent contexts) }
     requires column { IsColumn column }
-    ensures { IfOk result (λ lines. (ms : List Map) → lines.items ≡ said (fault_lines fault column (dressed ms (lent contexts.entry)))) }
+    ensures { IfOk result (λ lines. (ms : List Map) → lines.items ≡ plain_lines (fault_lines fault column (dressed ms (lent contexts.entry)))) }
 {
     let Some((context, place)) = contexts.blamed(column) else {
         return Ok(Vec::new(alloc));
@@ -84,7 +84,7 @@ pub fn token_fault(
     text: &[Ch],
 ) -> Result<Vec<OutLine>, AllocError>
     requires { IsPlaced error }
-    ensures lines { IfOk result (λ lines. lines.items ≡ said (token_fault text.now error)) }
+    ensures lines { IfOk result (λ lines. lines.items ≡ plain_lines (token_fault text.now error)) }
     ensures memory { IfOk result (λ lines. error ≢ TokenError.Memory) }
 {
     match error {

@@ -4,7 +4,7 @@ ghost use Rattle.apl_arrays.specs.Cells.{Numbers};
 ghost use Rattle.apl_arrays.specs.Simple.{vector};
 ghost use Rattle.apl_faults.specs.Report.{place};
 ghost use Rattle.apl_format.specs.Display.{display};
-ghost use Rattle.apl_machine_state.specs.Reports.{said};
+ghost use Rattle.apl_machine_state.specs.Reports.{plain_lines};
 ghost use Rattle.apl_machine_state.specs.State.{stop_report};
 ghost use Rattle.apl_machine_state.specs.Watching.{behind, lines_array};
 ghost use Rattle.apl_machine.specs.inside.Traces.{AreFew, IsTraced, IsUntraced, trace_by};
@@ -79,7 +79,7 @@ fn trace_call(
     mark: &[Ch],
     lines: Vec<Text>,
 ) -> Result<Vec<OutLine>, AllocError>
-    ensures { IfOk result (λ out. out.items ≡ said (behind (place (call.now.definition.header.name, call.now.at) ++ mark.now) lines.items)) }
+    ensures { IfOk result (λ out. out.items ≡ plain_lines (behind (place (call.now.definition.header.name, call.now.at) ++ mark.now) lines.items)) }
 {
     let mut front = place_in(alloc, call.definition(), call.at())?.into_chars();
     front.extend_from_slice(mark)?;
@@ -94,7 +94,7 @@ pub(crate) fn trace(
     call: Option<&Call>,
     mark: &[Ch],
 ) -> Result<Vec<OutLine>, AllocError>
-    ensures { IfOk result (λ out. out.items ≡ said (trace_by traces.now (option_copied call.entry) mark.now [])) }
+    ensures { IfOk result (λ out. out.items ≡ plain_lines (trace_by traces.now (option_copied call.entry) mark.now [])) }
 {
     match traced(traces, call) {
         Some(call) => trace_call(alloc, call, mark, Vec::new(alloc)),
@@ -111,7 +111,7 @@ pub(crate) fn trace_value(
     mark: &[Ch],
     value: &Array,
 ) -> Result<Vec<OutLine>, AllocError>
-    ensures { IfOk result (λ out. out.items ≡ said (trace_by traces.now (option_copied call.entry) mark.now (display value.now))) }
+    ensures { IfOk result (λ out. out.items ≡ plain_lines (trace_by traces.now (option_copied call.entry) mark.now (display value.now))) }
 {
     match traced(traces, call) {
         Some(call) => trace_call(alloc, call, mark, display(alloc, value)?),

@@ -20,9 +20,9 @@ abbrev pub bound_to : Option Arr → Binding
 bound_to None = Unset
 bound_to (Some a) = Value a
 
-abbrev pub named : Option Text → Binding → List (Text × Binding)
-named None binding = []
-named (Some name) binding = (name, binding) ∷ []
+abbrev pub bound_name : Option Text → Binding → List (Text × Binding)
+bound_name None binding = []
+bound_name (Some name) binding = (name, binding) ∷ []
 
 -- a local has no value yet, but a local ⎕IO that of the caller
 abbrev pub local_of : Scene → Text → Text × Binding
@@ -35,7 +35,7 @@ label_of label = (label.0, Label label.1)
 -- what the names of a call stand for as it begins: the result, the arguments, the locals, the labels
 abbrev pub names_of_call : Scene → Definition → Option Arr → Option Arr → List (Text × Binding)
 names_of_call s d a b =
-    named d.header.result Unset ++ (named d.header.left (bound_to a) ++ (named d.header.right (bound_to b)
+    bound_name d.header.result Unset ++ (bound_name d.header.left (bound_to a) ++ (bound_name d.header.right (bound_to b)
     ++ (map (local_of s) d.header.locals ++ map label_of d.labels)))
 
 -- the map of a call

@@ -8,8 +8,8 @@ use Rattle.apl_machine_state.specs.Items.{Rest, awaited_at}
 use Rattle.apl_machine_state.specs.Environment.{Context, Statement, Call, Execute, rest_of}
 
 -- output lines that report no stop
-abbrev pub said : List Text → List OutLine
-said lines = map {A = Text} (λ text. record { text = text; stop = false }) lines
+abbrev pub plain_lines : List Text → List OutLine
+plain_lines lines = map {A = Text} (λ text. record { text = text; stop = false }) lines
 
 -- the column of the hole of a line
 abbrev pub hole_of : Option Rest → ℕ

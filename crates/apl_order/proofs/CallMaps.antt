@@ -14,8 +14,8 @@ use Rattle.apl_names.specs.Slots.{has}
 use Rattle.apl_names.proofs.Texts.{same, flip}
 use Rattle.apl_names.proofs.Maps.{same_map, said_with, with_map}
 use Rattle.apl_machine_state.specs.Environment.{Scene, origin_name, scalar, index_origin}
-use Rattle.apl_machine_state.specs.Calls.{bound_to, named as named_as, local_of, label_of, names_of_call, call_map}
-use Rattle.apl_order.specs.Kept.{IsCallMap, names_by, names_in, named}
+use Rattle.apl_machine_state.specs.Calls.{bound_to, bound_name as named_as, local_of, label_of, names_of_call, call_map}
+use Rattle.apl_order.specs.Kept.{IsCallMap, names_by, names_in, given_name}
 use Rattle.apl_order.proofs.Maps.{said-listed, listed-map, said-append}
 use Rattle.apl_order.proofs.Outcomes.{IsAssignable}
 use Rattle.apl_order.proofs.Defined.{labels-said}
@@ -163,7 +163,7 @@ locals-names : (s : Scene) (names : List Text) → first_names (map (local_of s)
 locals-names s [] = refl
 locals-names s (n ∷ ns) = ap (λ (l : List Text). n ∷ l) (locals-names s ns)
 
-one-name : (o : Option Text) (b : Binding) → first_names (named_as o b) ≡ named o
+one-name : (o : Option Text) (b : Binding) → first_names (named_as o b) ≡ given_name o
 one-name None b = refl
 one-name (Some n) b = refl
 
@@ -182,13 +182,13 @@ first-append es fs = map-append (λ (e : Text × Binding). e.0) es fs
 
 begun-first : (s : Scene) (h : Header) (a b : Option Arr) → first_names (begun_names s h a b) ≡ names_in h
 begun-first s h a b =
-    let last : first_names (named_as h.right (bound_to b) ++ map (local_of s) h.locals) ≡ named h.right ++ h.locals =
-    first-append (named_as h.right (bound_to b)) (map (local_of s) h.locals) ∙ ap (λ l. l ++ first_names (map (local_of s) h.locals)) (one-name h.right (bound_to b)) ∙ ap (λ l. named h.right ++ l) (locals-names s h.locals) in
-    let both : first_names (named_as h.left (bound_to a) ++ (named_as h.right (bound_to b) ++ map (local_of s) h.locals)) ≡ named h.left ++ (named h.right ++ h.locals) =
-    first-append (named_as h.left (bound_to a)) (named_as h.right (bound_to b) ++ map (local_of s) h.locals) ∙ ap (λ l. l ++ first_names (named_as h.right (bound_to b) ++ map (local_of s) h.locals)) (one-name h.left (bound_to a)) ∙ ap (λ l. named h.left ++ l) last in
+    let last : first_names (named_as h.right (bound_to b) ++ map (local_of s) h.locals) ≡ given_name h.right ++ h.locals =
+    first-append (named_as h.right (bound_to b)) (map (local_of s) h.locals) ∙ ap (λ l. l ++ first_names (map (local_of s) h.locals)) (one-name h.right (bound_to b)) ∙ ap (λ l. given_name h.right ++ l) (locals-names s h.locals) in
+    let both : first_names (named_as h.left (bound_to a) ++ (named_as h.right (bound_to b) ++ map (local_of s) h.locals)) ≡ given_name h.left ++ (given_name h.right ++ h.locals) =
+    first-append (named_as h.left (bound_to a)) (named_as h.right (bound_to b) ++ map (local_of s) h.locals) ∙ ap (λ l. l ++ first_names (named_as h.right (bound_to b) ++ map (local_of s) h.locals)) (one-name h.left (bound_to a)) ∙ ap (λ l. given_name h.left ++ l) last in
     first-append (named_as h.result Unset) (named_as h.left (bound_to a) ++ (named_as h.right (bound_to b) ++ map (local_of s) h.locals))
     ∙ ap (λ l. l ++ first_names (named_as h.left (bound_to a) ++ (named_as h.right (bound_to b) ++ map (local_of s) h.locals))) (one-name h.result Unset)
-    ∙ ap (λ l. named h.result ++ l) both
+    ∙ ap (λ l. given_name h.result ++ l) both
 
 -- the labels stand behind them
 begun-split : (s : Scene) (d : Definition) (a b : Option Arr) → begun_names s d.header a b ++ map label_of d.labels ≡ names_of_call s d a b

@@ -34,13 +34,13 @@ abbrev pub IsOfLine : Text → Option Rest → Type 0
 IsOfLine text None = Unit {0}
 IsOfLine text (Some rest) = IsOfText text rest
 
-abbrev pub named : Option Text → List Text
-named None = []
-named (Some name) = name ∷ []
+abbrev pub given_name : Option Text → List Text
+given_name None = []
+given_name (Some name) = name ∷ []
 
 -- the names of a header that have values: the result, the arguments, the locals
 abbrev pub names_in : Header → List Text
-names_in h = named h.result ++ (named h.left ++ (named h.right ++ h.locals))
+names_in h = given_name h.result ++ (given_name h.left ++ (given_name h.right ++ h.locals))
 
 -- the names of a call by its map: those of its header with their values or without one, and its labels, each the number of its line
 abbrev pub names_by : Map → Definition → List (Text × Binding)

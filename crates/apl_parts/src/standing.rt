@@ -3,7 +3,7 @@ ghost use Rattle.std.specs.Prelude.{◌≡◌, ◌++◌, ◌∷◌, ◌<◌, [],
 ghost use Rattle.apl_frames.specs.Flat.{flat_rest};
 ghost use Rattle.apl_contexts.specs.Contexts.{dressed};
 ghost use Rattle.apl_names.specs.Maps.{first_map, said, value_in};
-ghost use Rattle.apl_order.specs.Kept.{named, names_in};
+ghost use Rattle.apl_order.specs.Kept.{given_name, names_in};
 ghost use Rattle.apl_parts.specs.Making.{dress, scope_beneath};
 ghost use Rattle.apl_parts.specs.Taken.{class_in, classes_of, part_of, values_in, waiting_of};
 
@@ -125,7 +125,7 @@ fn push_named(
     scope: usize,
     name: Option<Name>,
 ) -> Result<(), AllocError>
-    ensures { OnOk result (locals.new.items ≡ locals.old.items ++ values_in (first_map (drop scope names.now)) (named name)) }
+    ensures { OnOk result (locals.new.items ≡ locals.old.items ++ values_in (first_map (drop scope names.now)) (given_name name)) }
 {
     if let Some(name) = name {
         push_local(locals, names, scope, &name)?;

@@ -1,6 +1,6 @@
 //! Output lines.
 ghost use Rattle.std.specs.Prelude.{◌≡◌, IfOk};
-ghost use Rattle.apl_machine_state.specs.Reports.{said};
+ghost use Rattle.apl_machine_state.specs.Reports.{plain_lines};
 
 use apl_charset::Text;
 use apl_machine_state::OutLine;
@@ -8,7 +8,7 @@ use std::alloc::{AllocError, Global};
 
 /// Output lines of these texts, none of which reports a stop.
 pub fn said(alloc: Global, texts: Vec<Text>) -> Result<Vec<OutLine>, AllocError>
-    ensures { IfOk result (λ lines. lines.items ≡ said texts.items) }
+    ensures { IfOk result (λ lines. lines.items ≡ plain_lines texts.items) }
 {
     let mut lines = Vec::with_capacity(alloc, texts.len())?;
     for text in texts {

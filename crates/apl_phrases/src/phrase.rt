@@ -3,8 +3,8 @@ ghost use Rattle.std.specs.Prelude.{◌≡◌, ◌≤◌, IfOk, length, map, rev
 ghost use Rattle.apl_code.specs.declared.instr.Source.{Source};
 ghost use Rattle.apl_machine_state.specs.declared.operand.Operand.{Operand};
 ghost use Rattle.apl_code.specs.declared.row.Row.TheVariants.{Group};
-ghost use Rattle.apl_machine_state.specs.Outcomes.{Makes, outcome, shown, value_in, taken_of, of_result};
-ghost use Rattle.apl_primitives.specs.Taken.{taken};
+ghost use Rattle.apl_machine_state.specs.Outcomes.{Makes, outcome, shown, operand_value, taken_of, of_result};
+ghost use Rattle.apl_primitives.specs.Taken.{taken_of};
 ghost use Rattle.apl_primitives.specs.Values.{phrase_value};
 ghost use Rattle.apl_operands.specs.Operands.{Offers, fetched_from};
 ghost use Rattle.apl_phrases.specs.Effects.{ComesOf, ComesWith, DoesTo, FetchesSlot, acted};
@@ -26,7 +26,7 @@ use std::alloc::{AllocError, Global};
 /// `( B )`: the value stays as it is.
 #[tactic(auto, using(apl_operands::proofs::Fetching::one_taken))]
 fn group(arguments: Arguments<'_>) -> Effect
-    ensures { ComesOf (taken arguments.entry) (of_result (phrase_value Group (taken arguments.entry) 1)) result }
+    ensures { ComesOf (taken_of arguments.entry) (of_result (phrase_value Group (taken_of arguments.entry) 1)) result }
 {
     match arguments {
         Arguments::One(_) => Effect::Passes(Deed::Nothing),
@@ -37,7 +37,7 @@ fn group(arguments: Arguments<'_>) -> Effect
 /// `⎕ ← B`
 #[tactic(auto, using(apl_operands::proofs::Fetching::one_taken))]
 fn show(alloc: Global, arguments: Arguments<'_>) -> Result<Effect, AllocError>
-    ensures { IfOk result (ComesOf (taken arguments.entry) (shown (taken arguments.entry))) }
+    ensures { IfOk result (ComesOf (taken_of arguments.entry) (shown (taken_of arguments.entry))) }
 {
     match arguments {
         Arguments::One(b) => Ok(Effect::Passes(Deed::Writes(said(alloc, display(alloc, b)?)?))),
@@ -71,7 +71,7 @@ fn slots(
     operands: Operands<'_>,
 ) -> Result<Vec<Option<Array>>, AllocError>
     requires { Offers operands sources.now }
-    ensures { IfOk result (λ slots. slots.items ≡ map value_in (fetched_from operands.entry sources.now)) }
+    ensures { IfOk result (λ slots. slots.items ≡ map operand_value (fetched_from operands.entry sources.now)) }
 {
     let mut slots = Vec::with_capacity(alloc, sources.len())?;
     let mut rest = operands;
@@ -90,7 +90,7 @@ fn index_list(
     operands: Operands<'_>,
 ) -> Result<Effect, AllocError>
     requires { Offers operands sources.now }
-    ensures { IfOk result (ComesWith (fetched_from operands.entry sources.now) (Makes (map value_in (fetched_from operands.entry sources.now)))) }
+    ensures { IfOk result (ComesWith (fetched_from operands.entry sources.now) (Makes (map operand_value (fetched_from operands.entry sources.now)))) }
 {
     let slots = slots(alloc, sources, operands)?;
     Ok(Effect::Gives(Operand::Slots(Slots::new(slots))))

@@ -4,7 +4,7 @@ use Rattle.apl_faults.specs.declared.fault.Fault.{Fault}
 use Rattle.apl_faults.specs.declared.fault.Fault.TheVariants.{Syntax}
 use Rattle.apl_arrays.specs.declared.axis_choice.Along.{Along}
 use Rattle.apl_arrays.specs.declared.axis_choice.Along.TheVariants.{First, Last}
-use Rattle.apl_arrays.specs.Along.{named}
+use Rattle.apl_arrays.specs.Along.{along_slots}
 use Rattle.apl_arrays.specs.Cells.{Arr}
 use Rattle.apl_scalar.specs.declared.function.Monadic.{Monadic as MonadicScalar}
 use Rattle.apl_scalar.specs.declared.function.Dyadic.{Dyadic as DyadicScalar}
@@ -85,7 +85,7 @@ by_two row a b origin = Err Syntax
 -- a row that takes an axis and a value
 abbrev pub by_axis_and_one : Row → List (Option Arr) → Arr → ℕ → Result Arr Fault
 by_axis_and_one (rows.MonadicAxis (Primitive f)) axis b origin = structural1 f (Some axis) b origin
-by_axis_and_one (rows.ReduceAxis (Primitive f) m) axis b origin = derived m (dyadic_of f) (named axis) b origin
+by_axis_and_one (rows.ReduceAxis (Primitive f) m) axis b origin = derived m (dyadic_of f) (along_slots axis) b origin
 by_axis_and_one row axis b origin = Err Syntax
 
 -- a row that takes a value, an axis and a value

@@ -13,7 +13,7 @@ use Rattle.apl_names.specs.declared.binding.Binding.{Binding}
 use Rattle.apl_names.specs.declared.binding.Binding.TheVariants.{Unset, Value}
 use Rattle.apl_names.specs.Maps.{Map, name_cmp, said, with_entry, map_of, found, assigned, first_map}
 use Rattle.apl_machine_state.specs.Environment.{World, Context, Call, Scene, scalar, origin_name, index_origin, environment, with_maps, left_over}
-use Rattle.apl_machine_state.specs.Calls.{bound_to, named, local_of, label_of, names_of_call, call_map}
+use Rattle.apl_machine_state.specs.Calls.{bound_to, bound_name, local_of, label_of, names_of_call, call_map}
 use Rattle.apl_resume.specs.Quiet.{IsCleanBinding, IsCleanMap, AreCleanContexts}
 use Rattle.apl_resume.proofs.CleanItems.{all-append, all-drop}
 
@@ -89,7 +89,7 @@ left_over-clean ms (context ∷ below) m = left_over-clean ms below m
 abbrev IsCleanEntry : Text × Binding → Type 0
 IsCleanEntry e = IsCleanBinding e.1
 
-named-clean : (name : Option Text) (b : Binding) → IsCleanBinding b → IsCleanMap (named name b)
+named-clean : (name : Option Text) (b : Binding) → IsCleanBinding b → IsCleanMap (bound_name name b)
 named-clean None b f = tt
 named-clean (Some name) b f = (f, tt)
 
@@ -112,7 +112,7 @@ labels-clean (label ∷ labels) = (tt, labels-clean labels)
 pub call_map-clean : (s : Scene) (d : Definition) (a b : Option Arr) → IsCleanMap (call_map s d a b)
 call_map-clean s d a b =
     map_of-clean (names_of_call s d a b)
-    (all-append IsCleanEntry (named d.header.result Unset) _ (named-clean d.header.result Unset tt)
-    (all-append IsCleanEntry (named d.header.left (bound_to a)) _ (named-clean d.header.left (bound_to a) (argument-clean a))
-    (all-append IsCleanEntry (named d.header.right (bound_to b)) _ (named-clean d.header.right (bound_to b) (argument-clean b))
+    (all-append IsCleanEntry (bound_name d.header.result Unset) _ (named-clean d.header.result Unset tt)
+    (all-append IsCleanEntry (bound_name d.header.left (bound_to a)) _ (named-clean d.header.left (bound_to a) (argument-clean a))
+    (all-append IsCleanEntry (bound_name d.header.right (bound_to b)) _ (named-clean d.header.right (bound_to b) (argument-clean b))
     (all-append IsCleanEntry (map (local_of s) d.header.locals) _ (locals-clean s d.header.locals) (labels-clean d.labels)))))

@@ -16,7 +16,7 @@ use Rattle.apl_defn.specs.Listing.{listed}
 use Rattle.apl_names.specs.Maps.{Map}
 use Rattle.apl_machine_state.specs.Environment.{World, Context, Call}
 use Rattle.apl_machine_state.specs.Calls.{begun_line, returned}
-use Rattle.apl_machine_state.specs.Reports.{said}
+use Rattle.apl_machine_state.specs.Reports.{plain_lines}
 use Rattle.apl_machine_state.specs.Changes.{Change, Rests, Moves, AsksStops, Arrives, change}
 use Rattle.apl_machine_state.specs.State.{State, Turn, turn, is_idle, step, steps, interrupt, applied, arrived, comes_to, stop_report, with_lines, interrupted, definition_of, is_global_variable, with_function}
 use Rattle.apl_machine_state.specs.Objects.{erased, without_global}
@@ -46,12 +46,12 @@ abbrev pub behind : List OutLine → State → State
 behind front s = record s { output = front ++ s.output }
 
 lines-behind : (front : List OutLine) (s : State) (lines : List Text) → with_lines lines (behind front s) ≡ behind front (with_lines lines s)
-lines-behind front s lines = ap (λ (o : List OutLine). record s { output = o }) (append_assoc front s.output (said lines))
+lines-behind front s lines = ap (λ (o : List OutLine). record s { output = o }) (append_assoc front s.output (plain_lines lines))
 
 comes-behind : (front : List OutLine) (stops : Bool) (s : State) (w : World) (d : Definition) (n : ℕ) (locals : Map) (below : List Context) (lines : List Text) (ended : Bool) →
     (comes_to stops (behind front s) w d n locals below lines ended).state ≡ behind front (comes_to stops s w d n locals below lines ended).state
 comes-behind front true s w d n locals below lines ended =
-    ap (λ (o : List OutLine). record s { world = w; contexts = Call d n locals None ∷ below; output = o }) (append_assoc front s.output (said lines ++ stop_report d n ∷ []))
+    ap (λ (o : List OutLine). record s { world = w; contexts = Call d n locals None ∷ below; output = o }) (append_assoc front s.output (plain_lines lines ++ stop_report d n ∷ []))
 comes-behind front false s w d n locals below lines ended = lines-behind front (record s { world = w; contexts = begun_line w d n locals below }) lines
 
 arrived-behind : (front : List OutLine) (is_there : Bool) (s : State) (w : World) (d : Definition) (n : ℕ) (locals : Map) (below : List Context) (lines : List Text) (ended : Bool) →

@@ -17,7 +17,7 @@ use Rattle.apl_translate.proofs.Settled.{found_at}
 use Rattle.apl_machine_state.specs.declared.operand.Operand.{Operand}
 use Rattle.apl_machine_state.specs.declared.operand.Operand.TheVariants.{Value, Slots}
 use Rattle.apl_machine_state.specs.Items.{Awaited, Constant, Content, Given, Item, Reads, cell_of, cells, kind_of, kinds}
-use Rattle.apl_machine_state.specs.Outcomes.{value_in}
+use Rattle.apl_machine_state.specs.Outcomes.{operand_value}
 use Rattle.apl_operands.specs.Operands.{fetched, fetched_one, unfetched_one}
 
 -- no index list is among these
@@ -142,22 +142,22 @@ slots-values (i ∷ is) b h = by i.content h (λ c. slots-values is c)
     by (Reads w) h f = closed-values b (slots false (cells is)) (f false h)
     by Awaited h f = f true h
 
-fetched-empty : (cs : List Arr) (ss : List (Option Source)) (st : List Operand) → AreValues (fetched cs ss st) → map is_none (map value_in (fetched cs ss st)) ≡ map is_empty ss
+fetched-empty : (cs : List Arr) (ss : List (Option Source)) (st : List Operand) → AreValues (fetched cs ss st) → map is_none (map operand_value (fetched cs ss st)) ≡ map is_empty ss
 fetched-empty cs [] st h = refl
 fetched-empty cs (None ∷ ss) st h = ap (λ (l : List Bool). true ∷ l) (fetched-empty cs ss st h)
 fetched-empty cs (Some s ∷ ss) st h = by (fetched_one cs s st) h (fetched-empty cs ss (unfetched_one s st))
   where
-    by : (o : Operand) → AreValues (Some o ∷ fetched cs ss (unfetched_one s st)) → (AreValues (fetched cs ss (unfetched_one s st)) → map is_none (map value_in (fetched cs ss (unfetched_one s st))) ≡ map is_empty ss)
-        → map is_none (map value_in (Some o ∷ fetched cs ss (unfetched_one s st))) ≡ false ∷ map is_empty ss
+    by : (o : Operand) → AreValues (Some o ∷ fetched cs ss (unfetched_one s st)) → (AreValues (fetched cs ss (unfetched_one s st)) → map is_none (map operand_value (fetched cs ss (unfetched_one s st))) ≡ map is_empty ss)
+        → map is_none (map operand_value (Some o ∷ fetched cs ss (unfetched_one s st))) ≡ false ∷ map is_empty ss
     by (Value a) h f = ap (λ (l : List Bool). false ∷ l) (f h)
     by (Slots k) h f = absurd h
 
 -- the empty slots of an index list are those of its instruction
 pub empty-slots : (is : List Item) (n m : ℕ) (cs : List Arr) (ss : List (Option Source)) (st : List Operand) → phrase None (kinds is) ≡ Some (n, Index m) → arguments (Index m) (cells (take m (drop n is))) ≡ fetched cs ss st
-    → map is_none (map value_in (arguments (Index m) (cells (take m (drop n is))))) ≡ map is_empty ss
+    → map is_none (map operand_value (arguments (Index m) (cells (take m (drop n is))))) ≡ map is_empty ss
 empty-slots is n m cs ss st h e =
     let f = found_at None (kinds is) n (Index m) h in
     let plain : NoLists (take m (drop n (kinds is))) = row-plain (last_kind None (take n (kinds is))) (drop n (kinds is)) m f.here in
     let same : take m (drop n (kinds is)) ≡ kinds (take m (drop n is)) = ap (take m) (drop-map (λ (i : Item). kind_of i.content) n is) ∙ take-map (λ (i : Item). kind_of i.content) m (drop n is) in
     let values : AreValues (arguments (Index m) (cells (take m (drop n is)))) = slots-values (take m (drop n is)) true (subst NoLists same plain) in
-    ap (λ os. map is_none (map value_in os)) e ∙ fetched-empty cs ss st (subst AreValues e values)
+    ap (λ os. map is_none (map operand_value os)) e ∙ fetched-empty cs ss st (subst AreValues e values)

@@ -18,7 +18,7 @@ use Rattle.apl_names.specs.Maps.{Map, assigned, found, said, with_entry}
 use Rattle.apl_names.proofs.Texts.{differ, same}
 use Rattle.apl_names.proofs.Maps.{said_with}
 use Rattle.apl_machine_state.specs.Environment.{Context, Statement, Call, Execute, Scene, World, environment, index_origin, left_over, origin_by, origin_in, origin_name, scalar, scene, with_maps}
-use Rattle.apl_machine_state.specs.Calls.{bound_to, call_map, label_of, local_of, named, names_of_call}
+use Rattle.apl_machine_state.specs.Calls.{bound_to, call_map, label_of, local_of, bound_name, names_of_call}
 use Rattle.apl_order.specs.Kept.{AreGlobals, AreKept, IsObject}
 use Rattle.apl_order.proofs.Assigned.{filled, own-globals, own-maps}
 use Rattle.apl_order.proofs.CallMaps.{IsNoFunction, call-function}
@@ -53,7 +53,7 @@ last-option None h = tt
 last-option (Some n) h = h.0
 
 -- no name but a local is ⎕IO
-not-named : (o : Option Text) (b : Binding) (es : List (Text × Binding)) → MayName o → said (named o b ++ es) origin_name ≡ said es origin_name
+not-named : (o : Option Text) (b : Binding) (es : List (Text × Binding)) → MayName o → said (bound_name o b ++ es) origin_name ≡ said es origin_name
 not-named None b es h = refl
 not-named (Some n) b es h = ap (λ c. cond c (Some b) (said es origin_name)) (differ origin_name n (λ e. no-origin n h (sym e)))
 
@@ -85,8 +85,8 @@ begun-origin s d a b io h =
     let ls = map (local_of s) d.header.locals ++ map label_of d.labels in
     subst IsOriginBy (sym (
     said-listed (names_of_call s d a b) origin_name
-    ∙ not-named d.header.result Unset (named d.header.left (bound_to a) ++ (named d.header.right (bound_to b) ++ ls)) r.0
-    ∙ not-named d.header.left (bound_to a) (named d.header.right (bound_to b) ++ ls) l.0
+    ∙ not-named d.header.result Unset (bound_name d.header.left (bound_to a) ++ (bound_name d.header.right (bound_to b) ++ ls)) r.0
+    ∙ not-named d.header.left (bound_to a) (bound_name d.header.right (bound_to b) ++ ls) l.0
     ∙ not-named d.header.right (bound_to b) ls right))
     (local-origins s d.header.locals d.labels io (labels-said d h))
 

@@ -2,11 +2,11 @@
 use Rattle.std.proofs.Common.{List, [], ◌∷◌, ◌++◌}
 use Rattle.apl_defn.specs.Definitions.{Text}
 use Rattle.apl_machine_state.specs.declared.output.OutLine.{OutLine}
-use Rattle.apl_machine_state.specs.Reports.{said}
+use Rattle.apl_machine_state.specs.Reports.{plain_lines}
 use Rattle.apl_machine_state.specs.State.{State, clear}
 use Rattle.apl_machine_state.specs.Objects.{erased, without_global}
 use Rattle.apl_savable.specs.Savable.{IsSavable}
-use Rattle.apl_savable.specs.Reached.{IsReached, ReachedIsSavable, ReachedIsTheSame, new, loaded, stepped, interrupted, typed, with_definition, without_objects, emptied, told, taken}
+use Rattle.apl_savable.specs.Reached.{IsReached, ReachedIsSavable, ReachedIsTheSame, new, loaded, stepped, interrupted, typed, with_definition, without_objects, emptied, told, output_taken}
 use Rattle.apl_savable.proofs.Clear.{clear-savable}
 use Rattle.apl_savable.proofs.Keeping.{definition-savable, erasure-savable, interrupt-savable, statement-savable, step-savable}
 use Rattle.apl_savable.proofs.Loaded.{loaded-savable}
@@ -30,8 +30,8 @@ savable (typed s text idle h) = statement-savable s text idle (savable h)
 savable (with_definition s d whole h) = definition-savable s d whole (savable h)
 savable (without_objects s names h) = erasures-savable names s (savable h)
 savable (emptied s h) = told-savable clear s.output clear-savable
-savable (told s lines h) = told-savable s (s.output ++ said lines) (savable h)
-savable (taken s h) = told-savable s [] (savable h)
+savable (told s lines h) = told-savable s (s.output ++ plain_lines lines) (savable h)
+savable (output_taken s h) = told-savable s [] (savable h)
 
 pub reached-savable : ReachedIsSavable
 reached-savable s h = savable h

@@ -44,7 +44,7 @@ use Rattle.apl_machine_state.specs.Environment.{Call, Execute, Scene, index_orig
 use Rattle.apl_machine_state.specs.Items.{Rest}
 use Rattle.apl_machine_state.specs.Texts.{colon_behind, colon_of}
 use Rattle.apl_machine_state.specs.Watching.{function_named, is_list, lines_among, numbers_in}
-use Rattle.apl_machine_state.specs.Outcomes.{Outcome, Becomes, Makes, Writes, Assigns, SetsOrigin, Enters, Watches, Executes, Faults, of_result, value_in, taken_of, read_by, read, enters, call_niladic, call_monadic, call_dyadic, called, class_of_items, name_class, watched_by, watched, watch, rewatched, rewatch, text_in, executed_as, executed_by, executed, execute, monadic_with, monadic, dyadic_with, dyadic, assign_by, as_origin, origin_kept, origin_set, assign_one, assign, assigned_result, assign_indexed_by, origin_result, assign_slots, assign_indexed, shown, outcome}
+use Rattle.apl_machine_state.specs.Outcomes.{Outcome, Becomes, Makes, Writes, Assigns, SetsOrigin, Enters, Watches, Executes, Faults, of_result, operand_value, taken_of, read_by, read, enters, call_niladic, call_monadic, call_dyadic, called, class_of_items, name_class, watched_by, watched, watch, rewatched, rewatch, text_in, executed_as, executed_by, executed, execute, monadic_with, monadic, dyadic_with, dyadic, assign_by, as_origin, origin_kept, origin_set, assign_one, assign, assigned_result, assign_indexed_by, origin_result, assign_slots, assign_indexed, shown, outcome}
 use Rattle.apl_parts.specs.Taken.{part_of}
 use Rattle.apl_saved.specs.Rules.{Calls, HasNoLabel, IsThere}
 use Rattle.apl_savable.proofs.Spelling.{name-spelled}
@@ -330,7 +330,7 @@ shown-right s ss taken = tt
 
 -- the empty slots of an index list are those of its instruction
 abbrev pub AreSlots : Row → List (Option Source) → List (Option Operand) → Type 0
-AreSlots (Index n) ss os = map is_none (map value_in os) ≡ map is_empty ss
+AreSlots (Index n) ss os = map is_none (map operand_value os) ≡ map is_empty ss
 AreSlots r ss os = Unit {0}
 
 -- what a phrase of any row comes to

@@ -22,7 +22,7 @@ pub data IsReached : State → Type 0 where
   without_objects : (s : State) (names : List Text) → IsReached s → IsReached (erased names s)
   emptied : (s : State) → IsReached s → IsReached (cleared s)
   told : (s : State) (lines : List Text) → IsReached s → IsReached (with_lines lines s)
-  taken : (s : State) → IsReached s → IsReached (record s { output = [] })
+  output_taken : (s : State) → IsReached s → IsReached (record s { output = [] })
 
 -- each can be saved
 abbrev pub ReachedIsSavable : Type 0

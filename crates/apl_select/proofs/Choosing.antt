@@ -14,11 +14,11 @@ use Rattle.apl_arrays.specs.Results.{ok_map}
 use Rattle.apl_arrays.proofs.InTurn.{range_below}
 use Rattle.apl_select.specs.Compress.{is_one, is_bit, bits_of, ones, common_count, kept, spread, spread_at}
 use Rattle.apl_select.specs.inside.Laying.{IsBelow}
-use Rattle.apl_select.specs.Lined.{extended}
+use Rattle.apl_select.specs.Lined.{place_served}
 use Rattle.apl_select.proofs.Lists.{range_more, all_mapped}
 
 -- one number more
-pub kept_more : (bits : List ℤ) (n k : ℕ) (t : Bool) → is_one (get_or bits (extended (length bits) k) (pos 0)) ≡ t → kept bits n (k + 1) ≡ kept bits n k ++ cond t (Some (extended n k) ∷ []) []
+pub kept_more : (bits : List ℤ) (n k : ℕ) (t : Bool) → is_one (get_or bits (place_served (length bits) k) (pos 0)) ≡ t → kept bits n (k + 1) ≡ kept bits n k ++ cond t (Some (place_served n k) ∷ []) []
 kept_more bits n k t e =
     ap (λ m. kept bits n m) (add-one k)
     ∙ ap (λ l. map place (filter test l)) (range_more 0 k)
@@ -29,20 +29,20 @@ kept_more bits n k t e =
     ∙ ap (λ l. kept bits n k ++ l) (inside t)
   where
     test : ℕ → Bool
-    test k = is_one (get_or bits (extended (length bits) k) (pos 0))
+    test k = is_one (get_or bits (place_served (length bits) k) (pos 0))
 
     place : ℕ → Option ℕ
-    place k = Some (extended n k)
+    place k = Some (place_served n k)
 
     none : (k : ℕ) → 0 + k ≡ k
     none k = omega arith
 
-    inside : (b : Bool) → map place (cond b (k ∷ []) []) ≡ cond b (Some (extended n k) ∷ []) []
+    inside : (b : Bool) → map place (cond b (k ∷ []) []) ≡ cond b (Some (place_served n k) ∷ []) []
     inside true = refl
     inside false = refl
 
 -- places of as many items as there are of both are places on the axis
-pub extended_below : (m n count k : ℕ) → common_count m n ≡ Ok count → k < count → extended n k < n
+pub extended_below : (m n count k : ℕ) → common_count m n ≡ Ok count → k < count → place_served n k < n
 extended_below m n count k e l = at (m == 1) (n == 1) (m == n) (λ h. eqb-true n 1 h) e
   where
     at : (a b c : Bool) → (b ≡ true → n ≡ 1) → cond a (Ok n) (cond b (Ok m) (cond c (Ok n) (Err Length))) ≡ Ok count → cond b 0 k < n
@@ -61,9 +61,9 @@ all_filtered P p (x ∷ xs) a = either (p x) (all_filtered P p xs a.1)
 
 pub kept_below : (bits : List ℤ) (m n count : ℕ) (places : List (Option ℕ)) → places ≡ kept bits n count → common_count m n ≡ Ok count → All (IsBelow n) places
 kept_below bits m n count places e h =
-    rw e (all_mapped (IsBelow n) (λ k. k < count) (λ k. Some (extended n k)) (λ k l. extended_below m n count k h l)
-    (filter (λ k. is_one (get_or bits (extended (length bits) k) (pos 0))) (range_with_len 0 count))
-    (all_filtered (λ k. k < count) (λ k. is_one (get_or bits (extended (length bits) k) (pos 0))) (range_with_len 0 count) (range_below 0 count count (omega arith))))
+    rw e (all_mapped (IsBelow n) (λ k. k < count) (λ k. Some (place_served n k)) (λ k l. extended_below m n count k h l)
+    (filter (λ k. is_one (get_or bits (place_served (length bits) k) (pos 0))) (range_with_len 0 count))
+    (all_filtered (λ k. k < count) (λ k. is_one (get_or bits (place_served (length bits) k) (pos 0))) (range_with_len 0 count) (range_below 0 count count (omega arith))))
 
 -- there are fewer ones before a one than in all
 fewer : (xs : List ℤ) (k : ℕ) → k < length xs → is_one (get_or xs k (pos 0)) ≡ true → length (filter is_one (take k xs)) < length (filter is_one xs)
@@ -105,27 +105,27 @@ spread_below items bits n places e f h =
     next k true one many l = omega (arith, one refl)
     next k false one many l = omega (arith, many refl, ones_of items bits f)
 
-    each : (k : ℕ) (t : Bool) → (t ≡ true → count_by is_one (take k bits) < count_by is_one bits) → IsBelow n (cond t (Some (extended n (count_by is_one (take k bits)))) None)
+    each : (k : ℕ) (t : Bool) → (t ≡ true → count_by is_one (take k bits) < count_by is_one bits) → IsBelow n (cond t (Some (place_served n (count_by is_one (take k bits)))) None)
     each k true g = next k (n == 1) (λ d. eqb-true n 1 d) (as_many (n == 1) (ones items == n) (λ d. eqb-true (ones items) n d) h) (g refl)
     each k false g = tt
 
 -- one number more that is no 1, and one that is
-pub kept_more_no : (bits : List ℤ) (n k : ℕ) (places : List (Option ℕ)) → places ≡ kept bits n k → is_one (get_or bits (extended (length bits) k) (pos 0)) ≡ false → places ≡ kept bits n (k + 1)
+pub kept_more_no : (bits : List ℤ) (n k : ℕ) (places : List (Option ℕ)) → places ≡ kept bits n k → is_one (get_or bits (place_served (length bits) k) (pos 0)) ≡ false → places ≡ kept bits n (k + 1)
 kept_more_no bits n k places e h = e ∙ sym (append-nil (kept bits n k)) ∙ sym (kept_more bits n k false h)
 
-pub kept_more_yes : (bits : List ℤ) (n k : ℕ) (places news : List (Option ℕ)) → places ≡ kept bits n k → news ≡ places ++ Some (extended n k) ∷ [] → is_one (get_or bits (extended (length bits) k) (pos 0)) ≡ true → news ≡ kept bits n (k + 1)
-kept_more_yes bits n k places news e g h = g ∙ ap (λ l. l ++ Some (extended n k) ∷ []) e ∙ sym (kept_more bits n k true h)
+pub kept_more_yes : (bits : List ℤ) (n k : ℕ) (places news : List (Option ℕ)) → places ≡ kept bits n k → news ≡ places ++ Some (place_served n k) ∷ [] → is_one (get_or bits (place_served (length bits) k) (pos 0)) ≡ true → news ≡ kept bits n (k + 1)
+kept_more_yes bits n k places news e g h = g ∙ ap (λ l. l ++ Some (place_served n k) ∷ []) e ∙ sym (kept_more bits n k true h)
 
 pub spread_no : (bits : List ℤ) (n k : ℕ) (places news : List (Option ℕ)) → places ≡ map (spread_at bits n) (range_with_len 0 k) → news ≡ places ++ None ∷ [] → is_one (get_or bits k (pos 0)) ≡ false →
     news ≡ map (spread_at bits n) (range_with_len 0 (k + 1))
 spread_no bits n k places news e g h =
-    g ∙ ap (λ l. l ++ None ∷ []) e ∙ ap (λ b. map (spread_at bits n) (range_with_len 0 k) ++ cond b (Some (extended n (count_by is_one (take k bits)))) None ∷ []) (sym h)
+    g ∙ ap (λ l. l ++ None ∷ []) e ∙ ap (λ b. map (spread_at bits n) (range_with_len 0 k) ++ cond b (Some (place_served n (count_by is_one (take k bits)))) None ∷ []) (sym h)
     ∙ sym (map-range_with_len_more (spread_at bits n) 0 k k (omega arith))
 
-pub spread_yes : (bits : List ℤ) (n k next : ℕ) (places news : List (Option ℕ)) → next ≡ count_by is_one (take k bits) → places ≡ map (spread_at bits n) (range_with_len 0 k) → news ≡ places ++ Some (extended n next) ∷ [] →
+pub spread_yes : (bits : List ℤ) (n k next : ℕ) (places news : List (Option ℕ)) → next ≡ count_by is_one (take k bits) → places ≡ map (spread_at bits n) (range_with_len 0 k) → news ≡ places ++ Some (place_served n next) ∷ [] →
     is_one (get_or bits k (pos 0)) ≡ true → news ≡ map (spread_at bits n) (range_with_len 0 (k + 1))
 spread_yes bits n k next places news d e g h =
-    g ∙ ap (λ l. l ++ Some (extended n next) ∷ []) e
-    ∙ ap (λ c. map (spread_at bits n) (range_with_len 0 k) ++ Some (extended n c) ∷ []) d
-    ∙ ap (λ b. map (spread_at bits n) (range_with_len 0 k) ++ cond b (Some (extended n (count_by is_one (take k bits)))) None ∷ []) (sym h)
+    g ∙ ap (λ l. l ++ Some (place_served n next) ∷ []) e
+    ∙ ap (λ c. map (spread_at bits n) (range_with_len 0 k) ++ Some (place_served n c) ∷ []) d
+    ∙ ap (λ b. map (spread_at bits n) (range_with_len 0 k) ++ cond b (Some (place_served n (count_by is_one (take k bits)))) None ∷ []) (sym h)
     ∙ sym (map-range_with_len_more (spread_at bits n) 0 k k (omega arith))

@@ -10,7 +10,7 @@ use Rattle.apl_arrays.proofs.Places.{both}
 use Rattle.apl_arrays.proofs.Order.{map_by_places, places_in_order, all_within}
 use Rattle.apl_arrays.proofs.InOrder.{map_same}
 use Rattle.apl_arrays.proofs.AtPlace.{at_place}
-use Rattle.apl_select.specs.Lined.{extended, item_or}
+use Rattle.apl_select.specs.Lined.{place_served, item_or}
 use Rattle.apl_select.specs.Indexing.{Places, joined_shape, led_to}
 use Rattle.apl_select.specs.Assignment.{either_of, last_where, last_to, overlaid}
 use Rattle.apl_select.specs.inside.Reached.{led, AreOnAxes}
@@ -93,8 +93,8 @@ last_led shape ps i f w =
 pub overlaid_put : {A : Type 0} (d : A) (xs ys : List A) (shape : List ℕ) (ps : List Places) → AreOnAxes shape ps →
     overlaid d xs ys shape (last_to ps) ≡ map (λ q. put_at xs ys (led shape ps) (size_of (joined_shape ps)) q d) (range_with_len 0 (size_of shape))
 overlaid_put d xs ys shape ps f =
-    map_same (λ i. is_within shape i ≡ true) (λ i. item_or (get_or xs (position_in shape i) d) ys (option_map (extended (length ys)) (last_to ps i)))
+    map_same (λ i. is_within shape i ≡ true) (λ i. item_or (get_or xs (position_in shape i) d) ys (option_map (place_served (length ys)) (last_to ps i)))
     (λ i. put_at xs ys (led shape ps) (size_of (joined_shape ps)) (position_in shape i) d)
-    (λ i w. ap (λ o. item_or (get_or xs (position_in shape i) d) ys (option_map (extended (length ys)) o)) (last_led shape ps i f w))
+    (λ i w. ap (λ o. item_or (get_or xs (position_in shape i) d) ys (option_map (place_served (length ys)) o)) (last_led shape ps i f w))
     (indices shape) (all_within shape)
     ∙ map_by_places shape (λ q. put_at xs ys (led shape ps) (size_of (joined_shape ps)) q d)

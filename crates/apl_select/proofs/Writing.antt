@@ -10,7 +10,7 @@ use Rattle.apl_arrays.specs.declared.cell.Cell.TheVariants.{Num, Char}
 use Rattle.apl_arrays.specs.Index.{size_of, indices, position_in}
 use Rattle.apl_arrays.specs.Cells.{Arr, Items, Numbers, Characters, cells_of}
 use Rattle.apl_arrays.proofs.Order.{length-indices}
-use Rattle.apl_select.specs.Lined.{extended, item_or}
+use Rattle.apl_select.specs.Lined.{place_served, item_or}
 use Rattle.apl_select.specs.Indexing.{Places, joined_shape, led_to}
 use Rattle.apl_select.specs.Assignment.{either_of, last_where, last_to, overlaid, overlaid_items, written}
 use Rattle.apl_select.specs.inside.Reached.{led, AreOnAxes}
@@ -21,7 +21,7 @@ use Rattle.apl_select.proofs.Overlay.{last_where_more, overlaid_put}
 
 -- one write more
 put_more : {A : Type 0} (xs ys : List A) (places : List ℕ) (k q : ℕ) (d : A) →
-    put_at xs ys places (k + 1) q d ≡ cond (nat_eq (get_or places k 0) q) (get_or ys (extended (length ys) k) (get_or xs q d)) (put_at xs ys places k q d)
+    put_at xs ys places (k + 1) q d ≡ cond (nat_eq (get_or places k 0) q) (get_or ys (place_served (length ys) k) (get_or xs q d)) (put_at xs ys places k q d)
 put_more {A = A} xs ys places k q d =
     ap (λ (n : ℕ). stands (last_where test (range_with_len 0 n))) (add-one k)
     ∙ ap (λ (l : List ℕ). stands (last_where test l)) (range_more 0 k)
@@ -33,26 +33,26 @@ put_more {A = A} xs ys places k q d =
     test k = nat_eq (get_or places k 0) q
 
     stands : Option ℕ → A
-    stands o = item_or (get_or xs q d) ys (option_map (extended (length ys)) o)
+    stands o = item_or (get_or xs q d) ys (option_map (place_served (length ys)) o)
 
     none : (k : ℕ) → 0 + k ≡ k
     none k = omega arith
 
-    each : (b : Bool) → stands (either_of (cond b (Some k) None) (last_where test (range_with_len 0 k))) ≡ cond b (get_or ys (extended (length ys) k) (get_or xs q d)) (stands (last_where test (range_with_len 0 k)))
+    each : (b : Bool) → stands (either_of (cond b (Some k) None) (last_where test (range_with_len 0 k))) ≡ cond b (get_or ys (place_served (length ys) k) (get_or xs q d)) (stands (last_where test (range_with_len 0 k)))
     each true = refl
     each false = refl
 
 -- what stands at q after it
-pub put_step : {A : Type 0} (xs ys out : List A) (places : List ℕ) (k j : ℕ) (v : A) (q : ℕ) (d : A) → get_or places k 0 < length out → j ≡ extended (length ys) k → j < length ys → v ≡ get_or ys j v →
+pub put_step : {A : Type 0} (xs ys out : List A) (places : List ℕ) (k j : ℕ) (v : A) (q : ℕ) (d : A) → get_or places k 0 < length out → j ≡ place_served (length ys) k → j < length ys → v ≡ get_or ys j v →
     get_or out q d ≡ put_at xs ys places k q d → get_or (set out (get_or places k 0) v) q d ≡ put_at xs ys places (k + 1) q d
 put_step {A = A} xs ys out places k j v q d l e m r h =
     each (nat_eq (get_or places k 0) q) (λ t. eqb-true (get_or places k 0) q t) (λ t. eqb-false (get_or places k 0) q t) ∙ sym (put_more xs ys places k q d)
   where
-    read : v ≡ get_or ys (extended (length ys) k) (get_or xs q d)
+    read : v ≡ get_or ys (place_served (length ys) k) (get_or xs q d)
     read = get_or_read ys j v m r (get_or xs q d) ∙ ap (λ (i : ℕ). get_or ys i (get_or xs q d)) e
 
     each : (b : Bool) → (b ≡ true → get_or places k 0 ≡ q) → (b ≡ false → get_or places k 0 ≡ q → ⊥) →
-        get_or (set out (get_or places k 0) v) q d ≡ cond b (get_or ys (extended (length ys) k) (get_or xs q d)) (put_at xs ys places k q d)
+        get_or (set out (get_or places k 0) v) q d ≡ cond b (get_or ys (place_served (length ys) k) (get_or xs q d)) (put_at xs ys places k q d)
     each true f g = ap (λ (i : ℕ). get_or (set out (get_or places k 0) v) i d) (sym (f refl)) ∙ get_or-set_same out (get_or places k 0) v d l ∙ read
     each false f g = get_or-set_other out (get_or places k 0) q v d (λ s. g refl (sym s)) ∙ h
 

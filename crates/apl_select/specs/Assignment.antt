@@ -9,7 +9,7 @@ use Rattle.apl_arrays.specs.Index.{indices, position_in, size_of}
 use Rattle.apl_arrays.specs.Cells.{Arr, Items, Numbers, Characters}
 use Rattle.apl_arrays.specs.Results.{and_then, ok_map}
 use Rattle.apl_arrays.specs.Checks.{demand, limited, same, count_of}
-use Rattle.apl_select.specs.Lined.{extended, item_or}
+use Rattle.apl_select.specs.Lined.{place_served, item_or}
 use Rattle.apl_select.specs.Indexing.{Places, slots_of, joined_shape, led_to}
 
 -- the lengths other than 1
@@ -46,7 +46,7 @@ last_to ps i = option_map (position_in (joined_shape ps)) (last_where (λ j. sam
 -- at each index list the element of ys at the place that `source` gives, of which a single one serves at each, and without a place that of xs
 abbrev pub overlaid : {A : Type 0} → A → List A → List A → List ℕ → (List ℕ → Option ℕ) → List A
 overlaid d xs ys shape source =
-    map (λ i. item_or (slice_index_or xs (position_in shape i) d) ys (option_map (extended (length ys)) (source i))) (indices shape)
+    map (λ i. item_or (slice_index_or xs (position_in shape i) d) ys (option_map (place_served (length ys)) (source i))) (indices shape)
 
 -- the same of elements of one type; of two types nothing is taken
 abbrev pub overlaid_items : Items → Items → List ℕ → (List ℕ → Option ℕ) → Items

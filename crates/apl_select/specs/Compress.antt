@@ -9,7 +9,7 @@ use Rattle.apl_arrays.specs.Cells.{Arr, Items, Numbers, Characters}
 use Rattle.apl_arrays.specs.Results.{and_then, ok_map}
 use Rattle.apl_arrays.specs.Views.{length_of}
 use Rattle.apl_arrays.specs.Checks.{demand, vector_rank, numbers_of, count_of}
-use Rattle.apl_select.specs.Lined.{lined, axis_in, extended, laid_within}
+use Rattle.apl_select.specs.Lined.{lined, axis_in, place_served, laid_within}
 
 -- the number is 1
 abbrev pub is_one : ℤ → Bool
@@ -36,11 +36,11 @@ common_count m n = cond (m == 1) (Ok n) (cond (n == 1) (Ok m) (cond (m == n) (Ok
 
 -- of so many places on an axis of length n those at a 1
 abbrev pub kept : List ℤ → ℕ → ℕ → List (Option ℕ)
-kept bits n count = map (λ k. Some (extended n k)) (filter (λ k. is_one (slice_index_or bits (extended (length bits) k) (pos 0))) (range_with_len 0 count))
+kept bits n count = map (λ k. Some (place_served n k)) (filter (λ k. is_one (slice_index_or bits (place_served (length bits) k) (pos 0))) (range_with_len 0 count))
 
 -- the place on an axis of length n for the bit at k: at a 1 the next one, at a 0 none
 abbrev pub spread_at : List ℤ → ℕ → ℕ → Option ℕ
-spread_at bits n k = cond (is_one (slice_index_or bits k (pos 0))) (Some (extended n (count_by is_one (take k bits)))) None
+spread_at bits n k = cond (is_one (slice_index_or bits k (pos 0))) (Some (place_served n (count_by is_one (take k bits)))) None
 
 -- the same of all bits
 abbrev pub spread : List ℤ → ℕ → List (Option ℕ)

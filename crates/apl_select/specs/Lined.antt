@@ -29,8 +29,8 @@ abbrev pub axis_in : Along → Arr → ℕ → Result ℕ Fault
 axis_in along a origin = ok_map or_first (axis_along along (length a.shape) origin)
 
 -- the place for k among n items, of which a single one serves at each
-abbrev pub extended : ℕ → ℕ → ℕ
-extended n k = cond (n == 1) 0 k
+abbrev pub place_served : ℕ → ℕ → ℕ
+place_served n k = cond (n == 1) 0 k
 
 -- the item at a place, or the fill where there is no place
 abbrev pub item_or : {A : Type 0} → A → List A → Option ℕ → A

@@ -5,7 +5,7 @@ ghost use Rattle.apl_arrays.specs.Checks.{demand};
 ghost use Rattle.apl_arrays.specs.Left.{listed};
 ghost use Rattle.apl_arrays.specs.Results.{ok_map};
 ghost use Rattle.apl_select.specs.Compress.{bits_of, common_count, is_bit, is_one, kept, ones, spread};
-ghost use Rattle.apl_select.specs.Lined.{extended};
+ghost use Rattle.apl_select.specs.Lined.{place_served};
 
 use apl_arrays::{Elements, numbers_in};
 use apl_faults::Fault;
@@ -103,7 +103,7 @@ pub(crate) fn fits_ones(ones: usize, len: usize) -> Result<(), Fault>
 /// The place for `k` among so many items, of which a single one serves at each.
 #[inline(always)]
 pub(crate) fn extended(count: usize, k: usize) -> usize
-    ensures { result ≡ extended count k }
+    ensures { result ≡ place_served count k }
 {
     if count == 1 { 0 } else { k }
 }

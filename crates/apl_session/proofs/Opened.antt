@@ -5,7 +5,7 @@ use Rattle.apl_names.specs.Maps.{Map}
 use Rattle.apl_machine_state.specs.declared.output.Progress.{Progress}
 use Rattle.apl_machine_state.specs.Environment.{World, Context}
 use Rattle.apl_machine_state.specs.Changes.{Change, Rests, Moves, AsksStops, Arrives, change}
-use Rattle.apl_machine_state.specs.State.{State, is_idle, step, steps, steps_progress, last_progress, standing, progress, turn, applied, arrived, comes_to}
+use Rattle.apl_machine_state.specs.State.{State, is_idle, step, steps, steps_progress, last_progress, progress_at, progress, turn, applied, arrived, comes_to}
 use Rattle.apl_vectors.specs.Vectors.{has_line}
 
 -- the state with that definition open, if any
@@ -56,6 +56,6 @@ last_progress-within d before (suc n) s =
     ∙ ap (λ (p : Progress). cond (is_idle s) before p) (last_progress-within d (progress (turn s)) n (step s))
 
 pub progress-within : (d : Option (List Text)) (n : ℕ) (s : State) → steps_progress n (within d s) ≡ steps_progress n s
-progress-within d n s = last_progress-within d (standing s) n s
+progress-within d n s = last_progress-within d (progress_at s) n s
 
 pub ruleset same_steps = (steps-within, progress-within)

@@ -1,6 +1,6 @@
 // A machine that is typed to.
 ghost use Rattle.std.specs.Prelude.{◌≡◌, ◌↔◌, [], ◌∷◌, ℕ, ◌<◌, take, slice_get, not, ◌==◌, find, true, Some, None, IfErr, IfOk, OnOk, OnErr, IsErrOf, IsFalse};
-ghost use Rattle.apl_machine_state.specs.State.{is_idle, standing, steps, steps_progress, interrupt};
+ghost use Rattle.apl_machine_state.specs.State.{is_idle, progress_at, steps, steps_progress, interrupt};
 ghost use Rattle.apl_session.specs.Commands.{commanded};
 ghost use Rattle.apl_session.specs.Defining.{refused, closed, typed_behind_del};
 ghost use Rattle.apl_session.specs.Events as model;
@@ -123,7 +123,7 @@ fn first_mark(text: &[Ch]) -> Option<Ch>
 
 /// What a machine answers that has made no step.
 fn standing(machine: &Machine) -> Progress
-    ensures { result ≡ standing machine.now }
+    ensures { result ≡ progress_at machine.now }
 {
     if machine.is_idle() {
         Progress::Idle

@@ -3,7 +3,7 @@ use Rattle.std.specs.Prelude.{ℕ, List, Option, Some, None, Result, Ok, Err}
 use Rattle.apl_faults.specs.declared.fault.Fault.{Fault}
 use Rattle.apl_faults.specs.declared.fault.Fault.TheVariants.{Syntax}
 use Rattle.apl_arrays.specs.declared.axis_choice.Along.TheVariants.{First, Last}
-use Rattle.apl_arrays.specs.Along.{named}
+use Rattle.apl_arrays.specs.Along.{along_slots}
 use Rattle.apl_arrays.specs.Cells.{Arr}
 use Rattle.apl_symbols.specs.declared.primitive.Primitive.{Primitive}
 use Rattle.apl_symbols.specs.declared.primitive.Primitive.TheVariants as primitives
@@ -32,8 +32,8 @@ plain1 f b origin = Err Syntax
 
 -- `F K B`; a function that takes no axis is SYNTAX ERROR
 abbrev pub along1 : Primitive → List (Option Arr) → Arr → ℕ → Result Arr Fault
-along1 primitives.CircleStile axis b origin = reversed_along (named axis) origin b
-along1 primitives.CircleBar axis b origin = reversed_along (named axis) origin b
+along1 primitives.CircleStile axis b origin = reversed_along (along_slots axis) origin b
+along1 primitives.CircleBar axis b origin = reversed_along (along_slots axis) origin b
 along1 f axis b origin = Err Syntax
 
 -- a function of one array, with an axis or without
@@ -62,13 +62,13 @@ plain2 f a b origin = Err Syntax
 
 -- `B F K B`; a function that takes no axis is SYNTAX ERROR
 abbrev pub along2 : Primitive → List (Option Arr) → Arr → Arr → ℕ → Result Arr Fault
-along2 primitives.Comma axis a b origin = catenated (named axis) origin a b
-along2 primitives.CircleStile axis a b origin = rotated (named axis) origin a b
-along2 primitives.CircleBar axis a b origin = rotated (named axis) origin a b
-along2 primitives.Slash axis a b origin = compressed (named axis) a b origin
-along2 primitives.SlashBar axis a b origin = compressed (named axis) a b origin
-along2 primitives.Slope axis a b origin = expanded (named axis) a b origin
-along2 primitives.SlopeBar axis a b origin = expanded (named axis) a b origin
+along2 primitives.Comma axis a b origin = catenated (along_slots axis) origin a b
+along2 primitives.CircleStile axis a b origin = rotated (along_slots axis) origin a b
+along2 primitives.CircleBar axis a b origin = rotated (along_slots axis) origin a b
+along2 primitives.Slash axis a b origin = compressed (along_slots axis) a b origin
+along2 primitives.SlashBar axis a b origin = compressed (along_slots axis) a b origin
+along2 primitives.Slope axis a b origin = expanded (along_slots axis) a b origin
+along2 primitives.SlopeBar axis a b origin = expanded (along_slots axis) a b origin
 along2 f axis a b origin = Err Syntax
 
 -- a function of two arrays, with an axis or without

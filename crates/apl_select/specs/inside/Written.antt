@@ -3,13 +3,13 @@ use Rattle.std.specs.Prelude.{ℕ, pos, ◌<◌, nat_eq, List, map, length, slic
 use Rattle.std.specs.Option.{option_map}
 use Rattle.std.specs.List.{range_with_len}
 use Rattle.apl_arrays.specs.Cells.{Arr, Items, Numbers, Characters}
-use Rattle.apl_select.specs.Lined.{extended, item_or}
+use Rattle.apl_select.specs.Lined.{place_served, item_or}
 use Rattle.apl_select.specs.Assignment.{last_where}
 
 -- what stands at a place where ys are written to places one after another, so many of them
 abbrev pub put_at : {A : Type 0} → List A → List A → List ℕ → ℕ → ℕ → A → A
 put_at xs ys places count q d =
-    item_or (slice_index_or xs q d) ys (option_map (extended (length ys)) (last_where (λ k. nat_eq (slice_index_or places k 0) q) (range_with_len 0 count)))
+    item_or (slice_index_or xs q d) ys (option_map (place_served (length ys)) (last_where (λ k. nat_eq (slice_index_or places k 0) q) (range_with_len 0 count)))
 
 -- what stands in the end, place by place
 abbrev pub put_all : {A : Type 0} → A → List A → List A → List ℕ → List A
@@ -28,4 +28,4 @@ overwritten v b places = record { shape = v.shape; items = put_items v.items b.i
 
 -- so many items, of which a single one serves at each, are enough for m places
 abbrev pub AreEnough : ℕ → ℕ → Type 0
-AreEnough n m = (k : ℕ) → k < m → extended n k < n
+AreEnough n m = (k : ℕ) → k < m → place_served n k < n
