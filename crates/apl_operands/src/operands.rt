@@ -7,7 +7,7 @@ ghost use Rattle.apl_machine_state.specs.declared.operand.Operand.TheVariants.{V
 ghost use Rattle.apl_operands.specs.Operands.{EndsInValue, FetchesFirst, LeavesBeneath, PassesLast, operand_of, only, one_value};
 ghost use Rattle.apl_machine_state.specs.Items.{constant_at};
 ghost use Rattle.apl_machine_state.specs.Outcomes.{taken_of, taken_one, taken_two, taken_three};
-ghost use Rattle.apl_primitives.specs.Taken.{taken_of};
+ghost use Rattle.apl_primitives.specs.Taken.{as_taken};
 
 use apl_arrays::Array;
 use apl_code::Source;
@@ -95,7 +95,7 @@ fn next(operands: Operands<'_>, source: Option<Source>) -> (Option<Held<'_>>, Op
 
 /// What a phrase takes that takes this alone.
 fn one_argument(b: Option<Held<'_>>) -> Arguments<'_>
-    ensures { taken_of result ≡ taken_one (option_map operand_of b.entry) }
+    ensures { as_taken result ≡ taken_one (option_map operand_of b.entry) }
 {
     match b {
         Some(Held::Value(b)) => Arguments::One(b),
@@ -105,7 +105,7 @@ fn one_argument(b: Option<Held<'_>>) -> Arguments<'_>
 
 /// What a phrase takes that takes these two, from the left.
 fn two_arguments<'a>(first: Option<Held<'a>>, second: Option<Held<'a>>) -> Arguments<'a>
-    ensures { taken_of result ≡ taken_two (option_map operand_of first.entry) (option_map operand_of second.entry) }
+    ensures { as_taken result ≡ taken_two (option_map operand_of first.entry) (option_map operand_of second.entry) }
 {
     match (first, second) {
         (Some(Held::Value(a)), Some(Held::Value(b))) => Arguments::Two(a, b),
@@ -123,7 +123,7 @@ fn three_arguments<'a>(
     second: Option<Held<'a>>,
     third: Option<Held<'a>>,
 ) -> Arguments<'a>
-    ensures { taken_of result ≡ taken_three (option_map operand_of first.entry) (option_map operand_of second.entry) (option_map operand_of third.entry) }
+    ensures { as_taken result ≡ taken_three (option_map operand_of first.entry) (option_map operand_of second.entry) (option_map operand_of third.entry) }
 {
     match (first, second, third) {
         (Some(Held::Value(a)), Some(Held::Slots(axis)), Some(Held::Value(b))) => {
@@ -137,7 +137,7 @@ fn three_arguments<'a>(
 #[tactic(auto, using(crate::proofs::Fetching::first_there, crate::proofs::Fetching::too_few, crate::proofs::Fetching::too_many))]
 pub fn arguments<'a>(sources: &[Option<Source>], operands: Operands<'a>) -> Arguments<'a>
     requires { Offers operands sources.now }
-    ensures { taken_of result ≡ taken_of (fetched_from operands.entry sources.now) }
+    ensures { as_taken result ≡ taken_of (fetched_from operands.entry sources.now) }
 {
     match sources {
         [first] => one_argument(next(operands, *first).0),

@@ -9,7 +9,7 @@ ghost use Rattle.apl_names.specs.Maps.{found};
 ghost use Rattle.apl_machine_state.specs.Environment.{scalar};
 ghost use Rattle.apl_machine_state.specs.Outcomes.{as_origin, assign, assign_by, assign_indexed, assign_indexed_by, assign_one, assign_slots};
 ghost use Rattle.apl_machine_state.specs.Outcomes.{assigned_result, origin_result, origin_set, read, read_by, taken_of};
-ghost use Rattle.apl_primitives.specs.Taken.{taken_of};
+ghost use Rattle.apl_primitives.specs.Taken.{as_taken};
 ghost use Rattle.apl_phrases.specs.Effects.{AssignsIndexed, ComesTo, Does, DoesOf, DoesWith};
 
 use crate::effect::{Deed, Effect};
@@ -130,7 +130,7 @@ pub fn assign(
     variable: &Variable,
     arguments: Arguments<'_>,
 ) -> Result<Effect, AllocError>
-    ensures { IfOk result (DoesOf (taken_of arguments.entry) scene.entry (λ s. assign s variable.now (taken_of arguments.entry))) }
+    ensures { IfOk result (DoesOf (as_taken arguments.entry) scene.entry (λ s. assign s variable.now (as_taken arguments.entry))) }
 {
     match arguments {
         Arguments::One(b) => assign_one(scene, variable, b),
@@ -215,7 +215,7 @@ pub fn assign_indexed(
     variable: &Variable,
     arguments: Arguments<'_>,
 ) -> Result<Effect, AllocError>
-    ensures { IfOk result (DoesOf (taken_of arguments.entry) scene.entry (λ s. assign_indexed s variable.now (taken_of arguments.entry))) }
+    ensures { IfOk result (DoesOf (as_taken arguments.entry) scene.entry (λ s. assign_indexed s variable.now (as_taken arguments.entry))) }
 {
     match arguments {
         Arguments::AlongOne(slots, b) => assign_slots(alloc, scene, variable, slots, b),

@@ -7,7 +7,7 @@ ghost use Rattle.apl_machine_state.specs.declared.operand.Operand.{Operand};
 ghost use Rattle.apl_machine_state.specs.Environment.{index_origin};
 ghost use Rattle.apl_machine_state.specs.Outcomes.{of_result};
 ghost use Rattle.apl_primitives.specs.Tables.{monadic_of};
-ghost use Rattle.apl_primitives.specs.Taken.{taken_of};
+ghost use Rattle.apl_primitives.specs.Taken.{as_taken};
 ghost use Rattle.apl_primitives.specs.Values.{phrase_value};
 ghost use Rattle.apl_phrases.specs.Effects.{ComesTo, Does, seen};
 ghost use Rattle.apl_phrases.specs.inside.Origins.{IsOfNoOrigin};
@@ -103,7 +103,7 @@ pub fn of_row(
     row: &Row,
     arguments: Arguments<'_>,
 ) -> Result<Array, Stop>
-    ensures { (lines : List ℤ) → Answers (λ a. a) (phrase_value row.now (taken_of arguments.entry) (index_origin (seen scene.entry lines))) result }
+    ensures { (lines : List ℤ) → Answers (λ a. a) (phrase_value row.now (as_taken arguments.entry) (index_origin (seen scene.entry lines))) result }
 {
     if asks_origin(row) {
         return phrase_value(alloc, row, arguments, scene.origin());
@@ -118,7 +118,7 @@ pub fn value(
     row: &Row,
     arguments: Arguments<'_>,
 ) -> Result<Effect, AllocError>
-    ensures { IfOk result (Does scene.entry (λ s. of_result (phrase_value row.now (taken_of arguments.entry) (index_origin s)))) }
+    ensures { IfOk result (Does scene.entry (λ s. of_result (phrase_value row.now (as_taken arguments.entry) (index_origin s)))) }
 {
     effect_of(of_row(alloc, scene, row, arguments))
 }

@@ -4,7 +4,7 @@ ghost use Rattle.apl_code.specs.declared.instr.Source.{Source};
 ghost use Rattle.apl_machine_state.specs.declared.operand.Operand.{Operand};
 ghost use Rattle.apl_code.specs.declared.row.Row.TheVariants.{Group};
 ghost use Rattle.apl_machine_state.specs.Outcomes.{Makes, outcome, shown, operand_value, taken_of, of_result};
-ghost use Rattle.apl_primitives.specs.Taken.{taken_of};
+ghost use Rattle.apl_primitives.specs.Taken.{as_taken};
 ghost use Rattle.apl_primitives.specs.Values.{phrase_value};
 ghost use Rattle.apl_operands.specs.Operands.{Offers, fetched_from};
 ghost use Rattle.apl_phrases.specs.Effects.{ComesOf, ComesWith, DoesTo, FetchesSlot, acted};
@@ -26,7 +26,7 @@ use std::alloc::{AllocError, Global};
 /// `( B )`: the value stays as it is.
 #[tactic(auto, using(apl_operands::proofs::Fetching::one_taken))]
 fn group(arguments: Arguments<'_>) -> Effect
-    ensures { ComesOf (taken_of arguments.entry) (of_result (phrase_value Group (taken_of arguments.entry) 1)) result }
+    ensures { ComesOf (as_taken arguments.entry) (of_result (phrase_value Group (as_taken arguments.entry) 1)) result }
 {
     match arguments {
         Arguments::One(_) => Effect::Passes(Deed::Nothing),
@@ -37,7 +37,7 @@ fn group(arguments: Arguments<'_>) -> Effect
 /// `⎕ ← B`
 #[tactic(auto, using(apl_operands::proofs::Fetching::one_taken))]
 fn show(alloc: Global, arguments: Arguments<'_>) -> Result<Effect, AllocError>
-    ensures { IfOk result (ComesOf (taken_of arguments.entry) (shown (taken_of arguments.entry))) }
+    ensures { IfOk result (ComesOf (as_taken arguments.entry) (shown (as_taken arguments.entry))) }
 {
     match arguments {
         Arguments::One(b) => Ok(Effect::Passes(Deed::Writes(said(alloc, display(alloc, b)?)?))),

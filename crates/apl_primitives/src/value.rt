@@ -3,7 +3,7 @@ ghost use Rattle.std.specs.Prelude.{◌≡◌};
 ghost use Rattle.apl_arrays.specs.Answers.{Answers};
 ghost use Rattle.apl_arrays.specs.Origins.{origin_number};
 ghost use Rattle.apl_primitives.specs.Tables.{monadic_of, dyadic_of};
-ghost use Rattle.apl_primitives.specs.Taken.{taken_of};
+ghost use Rattle.apl_primitives.specs.Taken.{as_taken};
 ghost use Rattle.apl_primitives.specs.Values.{by_axis_and_one, by_axis_and_two, by_index_list, by_one, by_two, of_one};
 ghost use Rattle.apl_primitives.specs.Values.{phrase_value, scalar_or_structural1, scalar_or_structural2};
 
@@ -172,7 +172,7 @@ pub fn phrase_value(
     arguments: Arguments<'_>,
     origin: Origin,
 ) -> Result<Array, Stop>
-    ensures { Answers (λ r. r) (phrase_value row.now (taken_of arguments.entry) (origin_number origin)) result }
+    ensures { Answers (λ r. r) (phrase_value row.now (as_taken arguments.entry) (origin_number origin)) result }
 {
     match arguments {
         Arguments::One(b) => by_one(alloc, row, b, origin),
