@@ -5,6 +5,7 @@ mod binding;
 mod function;
 mod global_scope;
 mod names;
+mod recent;
 mod slots;
 
 pub use binding::Binding;
