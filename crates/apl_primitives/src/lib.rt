@@ -7,4 +7,4 @@ mod table;
 mod value;
 
 pub use arguments::Arguments;
-pub use value::phrase_value;
+pub use value::{number_of_two, phrase_value};

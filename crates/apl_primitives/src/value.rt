@@ -1,7 +1,10 @@
 // The values of phrases.
-ghost use Rattle.std.specs.Prelude.{◌≡◌};
+ghost use Rattle.std.specs.Prelude.{◌≡◌, ℕ, IfNone, IfSome, Ok};
+ghost use Rattle.apl_arrays.specs.declared.cell.Cell.TheVariants.{Num};
 ghost use Rattle.apl_arrays.specs.Answers.{Answers};
 ghost use Rattle.apl_arrays.specs.Origins.{origin_number};
+ghost use Rattle.apl_arrays.specs.Simple.{single};
+ghost use Rattle.apl_scalar.specs.Extension.{HasNoNumber};
 ghost use Rattle.apl_primitives.specs.Tables.{monadic_of, dyadic_of};
 ghost use Rattle.apl_primitives.specs.Taken.{as_taken};
 ghost use Rattle.apl_primitives.specs.Values.{by_axis_and_one, by_axis_and_two, by_index_list, by_one, by_two, of_one};
@@ -59,6 +62,15 @@ fn of_one(alloc: Global, function: Primitive, b: &Array, origin: Origin) -> Resu
         Primitive::Format => format1(alloc, b),
         _ => scalar_or_structural1(alloc, function, b, origin),
     }
+}
+
+/// The number that a primitive scalar function of two numbers gives, where it has a value there. Other arrays and primitives give none.
+#[inline]
+pub fn number_of_two(function: Primitive, a: &Array, b: &Array) -> Option<i64>
+    ensures some { IfSome result (λ z. (origin : ℕ) → by_two (Row.Dyadic (Function.Primitive function)) a.now b.now origin ≡ Ok (single (Num z))) }
+    ensures none { IfNone result (IfSome (dyadic_of function) (λ g. HasNoNumber g a.now b.now)) }
+{
+    apl_scalar::number_of_two(dyadic_of(function)?, a, b)
 }
 
 /// A row that takes one value.

@@ -1,5 +1,5 @@
 -- Scalar functions of arrays: an operand of one element extends over the other.
-use Rattle.std.specs.Prelude.{ℕ, ℤ, Bool, false, not, nat_lt, nat_eq, cond, List, length, slice_get, Option, Some, Result, Ok, Err}
+use Rattle.std.specs.Prelude.{ℕ, ℤ, Bool, false, not, nat_lt, nat_eq, cond, List, length, slice_get, Option, Some, IfSome, Result, Ok, Err, IsErr}
 use Rattle.apl_faults.specs.declared.fault.Fault.{Fault}
 use Rattle.apl_faults.specs.declared.fault.Fault.TheVariants.{Domain, Rank, Length}
 use Rattle.apl_arrays.specs.declared.cell.Cell.{Cell}
@@ -8,6 +8,7 @@ use Rattle.apl_arrays.specs.Index.{indices}
 use Rattle.apl_arrays.specs.Cells.{Arr, Numbers, cells_of, cell_at}
 use Rattle.apl_arrays.specs.Checks.{is_single, same}
 use Rattle.apl_arrays.specs.Results.{and_then, ok_map, all_ok}
+use Rattle.apl_arrays.specs.Simple.{number_of_scalar}
 use Rattle.apl_scalar.specs.declared.function.Monadic.{Monadic}
 use Rattle.apl_scalar.specs.declared.function.Dyadic.{Dyadic}
 use Rattle.apl_scalar.specs.declared.function.Dyadic.TheVariants as two
@@ -60,3 +61,7 @@ monadic f b = ok_map (numbers_in b.shape) (all_ok (λ i. monadic_at f (cell_at b
 abbrev pub dyadic : Dyadic → Arr → Arr → Result Arr Fault
 dyadic f a b =
     and_then (extended a.shape b.shape) (λ s. ok_map (numbers_in s) (values_in f a b s))
+
+-- a function of two numbers has no value there; of other arrays nothing is said
+abbrev pub HasNoNumber : Dyadic → Arr → Arr → Type 0
+HasNoNumber f a b = IfSome (number_of_scalar a) (λ x. IfSome (number_of_scalar b) (λ y. IsErr (dyadic_of f x y)))

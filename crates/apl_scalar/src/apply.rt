@@ -1,13 +1,15 @@
 // Scalar functions of arrays.
-ghost use Rattle.std.specs.Prelude.{◌≡◌, ◌<◌, length, cond, true, false, slice_index_or, pos};
+ghost use Rattle.std.specs.Prelude.{◌≡◌, ◌<◌, length, cond, true, false, slice_index_or, pos, IfNone, IfSome, Ok};
 ghost use Rattle.std.specs.List.{range_with_len};
 ghost use Rattle.apl_arrays.specs.Answers.{Answers, FaultsFirst};
+ghost use Rattle.apl_arrays.specs.declared.cell.Cell.TheVariants.{Num};
 ghost use Rattle.apl_arrays.specs.Cells.{cell_at, Numbers};
 ghost use Rattle.apl_arrays.specs.Index.{indices};
 ghost use Rattle.apl_arrays.specs.Results.{all_ok, ok_map};
+ghost use Rattle.apl_arrays.specs.Simple.{single};
 ghost use Rattle.apl_scalar.specs.Functions.{monadic_of, dyadic_of};
 ghost use Rattle.apl_arrays.specs.Checks.{is_single};
-ghost use Rattle.apl_scalar.specs.Extension.{extended, monadic_at, values_in, numbers_in, monadic, dyadic};
+ghost use Rattle.apl_scalar.specs.Extension.{extended, monadic_at, values_in, numbers_in, monadic, dyadic, HasNoNumber};
 ghost use Rattle.apl_scalar.specs.Operands.{Covers, Shows, values_from};
 
 use crate::blocks::apply_all;
@@ -66,6 +68,20 @@ fn dyadic_number(function: Dyadic, x: i64, y: i64) -> Result<i64, Fault>
     ensures { result ≡ dyadic_of function x y }
 {
     function.apply(Pair { x, y })
+}
+
+/// The number that a function of two numbers gives, where it has a value there. Other arrays give none.
+#[inline]
+pub fn number_of_two(function: Dyadic, a: &Array, b: &Array) -> Option<i64>
+    ensures some { IfSome result (λ z. dyadic function a.now b.now ≡ Ok (single (Num z))) }
+    ensures none { IfNone result (HasNoNumber function a.now b.now) }
+{
+    let x = a.as_number()?;
+    let y = b.as_number()?;
+    match dyadic_number(function, x, y) {
+        Ok(number) => Some(number),
+        Err(_) => None,
+    }
 }
 
 /// The value of a function of one number, or its fault.

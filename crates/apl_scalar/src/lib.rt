@@ -15,7 +15,7 @@ mod operand;
 mod overflow;
 mod powers;
 
-pub use apply::{dyadic, monadic};
+pub use apply::{dyadic, monadic, number_of_two};
 pub use arithmetic::{Difference, Maximum, Minimum, Product, Sum};
 pub use comparison::{Equal, Less, NotEqual, NotGreater};
 pub use dispatch::ByFunction;
