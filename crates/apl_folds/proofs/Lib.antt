@@ -12,3 +12,4 @@ pub mod Faults
 pub mod ByPlaces
 pub mod Whole
 pub mod Vectors
+pub mod Stepwise

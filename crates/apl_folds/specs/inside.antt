@@ -1,2 +1,3 @@
 pub mod Fronts
 pub mod Sums
+pub mod Steps

@@ -12,6 +12,7 @@ mod order;
 mod reduction;
 mod running;
 mod scanning;
+mod steps;
 mod sums;
 mod walk;
 

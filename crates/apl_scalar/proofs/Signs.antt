@@ -1,9 +1,11 @@
 -- The sign bits of a sum.
-use Rattle.std.proofs.Common.{◌≡◌, ℕ, ℤ, pos, negsuc, ◌+ℤ◌, ◌-ℤ◌, ◌+◌, ◌-◌, ◌*◌, ◌%◌, ◌^◌, ◌<◌, ◌≤◌, ◌≤ℤ◌, min, max, arith, refl, ap, sym, ◌∙◌, true, false, to_z, of_z, FitsSigned}
+use Rattle.std.proofs.Common.{Bool, ◌<ℤ◌, ◌≡◌, ℕ, ℤ, pos, negsuc, ◌+ℤ◌, ◌-ℤ◌, ◌+◌, ◌-◌, ◌*◌, ◌%◌, ◌^◌, ◌<◌, ◌≤◌, ◌≤ℤ◌, min, max, arith, refl, ap, sym, ◌∙◌, true, false, to_z, of_z, FitsSigned}
 use Rattle.std.specs.Prelude.{bit_and, bit_xor, bit_or}
-use Rattle.std.specs.Int.{bit_at, w64}
+use Rattle.std.specs.Int.{bit_at, w64, int_wrap}
 use Rattle.std.specs.Int.Signed.{lt_z}
-use Rattle.std.proofs.lemmas.Int.{ints}
+use Rattle.std.proofs.lemmas.Int.{ints, to_z-of_z, int_wrap_fits}
+use Rattle.std.specs.Bool.{FalseIff}
+use mir.Val.{bool_byte}
 use Rattle.std.proofs.lemmas.Nat.{xor_lt, or_lt, and_le_l}
 use Rattle.std.proofs.lemmas.Bool.{lt-ltb, le-ltb}
 use Rattle.std.specs.Prelude.{cond, Ok, Err}
@@ -162,3 +164,13 @@ left_sum x y hx hy e = beyond_range (x +ℤ y) (sum_beyond x y hx hy e)
 
 pub left_rest : (x y : ℤ) → FitsSigned w64 x → FitsSigned w64 y → lt_z (to_z w64 (rest_flags (of_z w64 x) (of_z w64 y))) (pos 0) ≡ true → in_range (x -ℤ y) ≡ Err Limit
 left_rest x y hx hy e = beyond_range (x -ℤ y) (rest_beyond x y hx hy e)
+
+-- a flag that is negative where it is said that the number leaves 64 bits
+pub tried_product : (z v : ℤ) (leaves : Bool) → v ≡ int_wrap w64 z → FalseIff leaves (FitsSigned w64 z) → pos 0 ≤ℤ to_z w64 (of_z w64 (pos 0 -ℤ to_z w64 (bool_byte leaves))) → in_range z ≡ Ok (to_z w64 (of_z w64 v))
+tried_product z v true e f h = absurd (omega (arith, ints))
+tried_product z v false e f h =
+    in_range-fits z f ∙ ap (λ (w : ℤ). Ok w) (sym (to_z-of_z w64 z f) ∙ sym (ap (λ (w : ℤ). to_z w64 (of_z w64 w)) (e ∙ int_wrap_fits w64 z f)))
+
+pub left_product : (z : ℤ) (leaves : Bool) → FalseIff leaves (FitsSigned w64 z) → to_z w64 (of_z w64 (pos 0 -ℤ to_z w64 (bool_byte leaves))) <ℤ pos 0 → in_range z ≡ Err Limit
+left_product z true f h = beyond_range z f
+left_product z false f h = absurd (omega (arith, ints))

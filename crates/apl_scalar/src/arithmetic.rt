@@ -4,7 +4,7 @@ ghost use Rattle.apl_scalar.specs.declared.function.Dyadic.TheVariants as two;
 ghost use Rattle.apl_scalar.specs.Functions.{monadic_of, dyadic_of};
 
 use crate::function::Scalar;
-use crate::overflow::{flagged_difference, flagged_sum, product};
+use crate::overflow::{flagged_difference, flagged_product, flagged_sum};
 use apl_faults::Fault;
 
 /// The number itself, also rounded up or down.
@@ -117,10 +117,17 @@ impl Scalar for Product {
 
     #[inline(always)]
     fn apply(x: i64, y: i64) -> Result<i64, Fault> {
-        match product(x, y) {
-            Some(value) => Ok(value),
-            None => Err(Fault::Limit),
+        let (value, flag) = flagged_product(x, y);
+        if flag < 0 {
+            Err(Fault::Limit)
+        } else {
+            Ok(value)
         }
+    }
+
+    #[inline(always)]
+    fn tried(x: i64, y: i64) -> (i64, i64) {
+        flagged_product(x, y)
     }
 }
 

@@ -1,5 +1,5 @@
 // Arithmetic that tells where a value leaves 64 bits.
-ghost use Rattle.std.specs.Prelude.{◌≡◌, ◌≤◌, ◌+ℤ◌, ◌-ℤ◌, ◌*ℤ◌, SomeIff, FitsSigned, pos, ◌≤ℤ◌, ◌<ℤ◌, bit_or};
+ghost use Rattle.std.specs.Prelude.{◌≡◌, ◌≤◌, ◌+ℤ◌, ◌-ℤ◌, ◌*ℤ◌, pos, ◌≤ℤ◌, ◌<ℤ◌, bit_or};
 ghost use Rattle.std.specs.Int.{w64, int_bit_or};
 ghost use Rattle.apl_faults.specs.declared.fault.Fault.TheVariants.{Limit};
 ghost use Rattle.apl_scalar.specs.Functions.{in_range};
@@ -25,19 +25,14 @@ pub(crate) fn flagged_difference(x: i64, y: i64) -> (i64, i64)
     (difference, (x ^ y) & (x ^ difference))
 }
 
-/// The product, if it fits 64 bits.
+/// The product that wraps, and a flag that is negative exactly where the product leaves 64 bits.
 #[inline(always)]
-pub(crate) fn product(x: i64, y: i64) -> Option<i64>
-    ensures { SomeIff result (FitsSigned w64 (x *ℤ y)) (x *ℤ y) }
+pub(crate) fn flagged_product(x: i64, y: i64) -> (i64, i64)
+    ensures fits { pos 0 ≤ℤ result.1 → in_range (x *ℤ y) ≡ Ok result.0 }
+    ensures leaves { result.1 <ℤ pos 0 → in_range (x *ℤ y) ≡ Err Limit }
 {
-    let product = x as i128 * y as i128;
-    if product < i64::MIN as i128 {
-        None
-    } else if product > i64::MAX as i128 {
-        None
-    } else {
-        Some(product as i64)
-    }
+    let (product, leaves) = x.overflowing_mul(y);
+    (product, -(leaves as i64))
 }
 
 /// Both flags in one, which is negative where either is.
