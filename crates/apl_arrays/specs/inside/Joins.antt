@@ -1,4 +1,5 @@
 -- The steps of axes that become one: axis m becomes axis axes[m].
+-- A view joined so shows the same cells as `turned` of `Views`, whose steps these are.
 use Rattle.std.specs.Prelude.{ℕ, zero, suc, ◌+◌, ◌-◌, ◌*◌, ◌==◌, cond, List, [], ◌∷◌, map}
 use Rattle.std.specs.List.{range_with_len}
 use Rattle.apl_arrays.specs.declared.axis.Axis.{Axis}

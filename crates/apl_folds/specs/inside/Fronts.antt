@@ -1,4 +1,5 @@
 -- Scans of numbers in row-major order, by their places.
+-- All fronts together are the scan of `Scans`, which folds each front anew.
 use Rattle.std.specs.Prelude.{◌≡◌, ℕ, ℤ, pos, ◌+◌, ◌-◌, ◌*◌, ◌/◌, ◌%◌, ◌^◌, ◌<◌, ◌≤◌, unsigned_abs}
 use Rattle.std.specs.Prelude.{List, length, slice_index_or, Option, None, Some, Result, Ok, Err}
 use Rattle.std.specs.List.{range_with_len}

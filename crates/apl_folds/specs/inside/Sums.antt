@@ -1,4 +1,5 @@
 -- Sums of numbers without bounds, and of their magnitudes.
+-- Where no partial sum leaves the numbers of 64 bits, their sum is the fold by addition of `Folds`.
 use Rattle.std.specs.Prelude.{◌≡◌, ◌+◌, ◌<◌, ◌^◌, ◌+ℤ◌, ℕ, ℤ, pos, List, [], ◌∷◌, Result, unsigned_abs}
 use Rattle.apl_faults.specs.declared.fault.Fault.{Fault}
 use Rattle.apl_scalar.specs.declared.function.Dyadic.TheVariants as two

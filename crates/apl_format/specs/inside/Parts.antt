@@ -1,4 +1,5 @@
 -- What is said of a part of the lines.
+-- All parts together are the lines of `Display`.
 use Rattle.std.specs.Prelude.{◌≡◌, ℕ, ◌==◌, List, [], ◌∷◌, ◌++◌, length, if◌then◌else◌}
 use Rattle.std.specs.List.{flat_map}
 use Rattle.apl_arrays.specs.Index.{size_of}

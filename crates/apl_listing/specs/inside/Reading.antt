@@ -1,4 +1,5 @@
 -- How a line is read. Reading is generous: what is read is compared with the line that it has.
+-- A listing that is read so and written again is that of `Listing`, else it is refused.
 use Rattle.std.specs.Prelude.{ℕ, ◌+◌, ◌-◌, ◌*◌, ◌==◌, nat_le, length, Bool, if◌then◌else◌}
 use Rattle.std.specs.Prelude.{List, [], ◌∷◌, map, Option, Some, None, option_map, codes, slice_index}
 use Rattle.std.specs.List.{insert}

@@ -1,4 +1,5 @@
 -- What a test answers.
+-- It is the answer of a test in the words of a proposition.
 use Rattle.std.specs.Prelude.{Bool, MatchBool}
 
 -- yes where P holds, and no where it doesn't

@@ -1,4 +1,5 @@
 -- For private clauses: the parts that a file holds, list by list.
+-- Together they say what `Spelled` of the saved parts says of a file.
 use Rattle.std.specs.Prelude.{◌≡◌}
 use Rattle.apl_parts.specs.Workspaces.{Pieces}
 use Rattle.apl_workspace_file.specs.declared.fields.File.{File}

@@ -1,4 +1,5 @@
 -- For private clauses: what is made of a context, beside its part.
+-- What is made so is the context that `Spelled` of the saved parts has for the field.
 use Rattle.std.specs.Prelude.{◌≡◌, ◌↔◌, Contains, ℕ, ◌-◌, ◌<◌, ◌≤◌, Bool, true, List, [], ◌∷◌, length, map, reverse, take, Option, Some, None, Ok, slice_get}
 use Rattle.std.specs.List.{AllByRecursion}
 use Rattle.std.specs.declared.cmp.Ordering.TheVariants.{Less}

@@ -1,4 +1,5 @@
 -- Numbers that stand for the elements of two arrays under a function.
+-- A product of the numbers is that of the elements, as `Products` has it.
 use Rattle.std.specs.Prelude.{◌≡◌, ◌<◌, ℕ, ℤ, pos, Bool, nat_eq, List, length, slice_index_or, Option, None, Some, Err}
 use Rattle.apl_faults.specs.declared.fault.Fault.TheVariants.{Domain}
 use Rattle.apl_arrays.specs.Cells.{Items, cells_of}

@@ -1,4 +1,5 @@
 -- Marks of lines.
+-- The lines that are marked are those that `Watching` chooses.
 use Rattle.std.specs.Prelude.{ℕ, suc, ℤ, pos, Bool, ◌||◌, List, [], ◌∷◌, map, Option, option_map, if◌then◌else◌}
 use Rattle.std.specs.List.{list_any}
 use Rattle.std.specs.Ordering.{int_eq}

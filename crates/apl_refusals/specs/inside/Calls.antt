@@ -1,4 +1,5 @@
 -- What a call of a session stands for.
+-- The events are those of `Events`, by which sessions are defined.
 use Rattle.std.specs.Prelude.{ℕ, List}
 use Rattle.apl_session.specs.Events as model
 use Rattle.apl_refusals.specs.declared.player.Call.{Call}

@@ -1,4 +1,5 @@
 -- What is asked of an axis where a part of an array is taken, and whether there is so much.
+-- By it one loop takes the part that `Take` defines of `↑` and `↓`.
 use Rattle.std.specs.Prelude.{ℕ, ℤ, ◌-◌, ◌&&◌, nat_le, unsigned_abs, Bool, true, false, if◌then◌else◌, List, [], ◌∷◌}
 use Rattle.std.specs.Int.{is_negative}
 use Rattle.apl_reshape.specs.declared.lengths.Asked.{Asked}

@@ -1,4 +1,5 @@
 -- Rows made of a block of one operand's items and a block of another's.
+-- The rows end to end are the items that `Catenate` defines place by place.
 use Rattle.std.specs.Prelude.{ℕ, pos, ◌+◌, ◌*◌, ◌≤◌, ◌++◌, Bool, true, false, if◌then◌else◌}
 use Rattle.std.specs.Prelude.{List, [], ◌∷◌, map, length, slice_index_or}
 use Rattle.std.specs.List.{flat_map, range_with_len}

@@ -1,4 +1,5 @@
 -- Scalars and vectors joined in a vector.
+-- It is the catenation of `Catenate` for operands of one axis at the most.
 use Rattle.std.specs.Prelude.{◌+◌, ◌++◌, [], ◌∷◌, Result}
 use Rattle.apl_faults.specs.declared.fault.Fault.{Fault}
 use Rattle.apl_arrays.specs.Cells.{Arr, Items, Numbers, Characters}

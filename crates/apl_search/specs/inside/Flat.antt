@@ -1,4 +1,5 @@
 -- Bases and digits by places among the elements.
+-- They are the values of `Decoded`, whose digits are taken index by index.
 use Rattle.std.specs.Prelude.{ℕ, ◌+◌, ◌*◌, ℤ, pos, List, length, map, slice_index_or, Result}
 use Rattle.std.specs.List.{range_with_len}
 use Rattle.apl_faults.specs.declared.fault.Fault.{Fault}

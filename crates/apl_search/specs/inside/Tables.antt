@@ -1,4 +1,5 @@
 -- Tables of first places.
+-- A place that is looked up in one is the first place of `Found`.
 use Rattle.std.specs.Prelude.{ℕ, ℤ, pos, ◌+◌, ◌+ℤ◌, ◌≤ℤ◌, ◌<◌, ◌≡◌, List, length, slice_index}
 use Rattle.std.specs.Ordering.{int_eq}
 use Rattle.std.specs.List.{All, position_or_len}

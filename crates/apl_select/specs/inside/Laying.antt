@@ -1,4 +1,5 @@
 -- Elements laid plane by plane.
+-- They are the elements that `Lined` takes index by index.
 use Rattle.std.specs.Prelude.{ℕ, ◌+◌, ◌*◌, ◌<◌, List, map, Option, None, Some}
 use Rattle.std.specs.Option.{option_map}
 use Rattle.std.specs.List.{flat_map, range_with_len}

@@ -1,4 +1,5 @@
 -- Places in a ravel that slots lead to, axis after axis.
+-- They are the places of the cells that `Indexing` picks index by index.
 use Rattle.std.specs.Prelude.{◌≡◌, ℕ, ◌+◌, ◌*◌, ◌<◌, List, [], ◌∷◌, map, length}
 use Rattle.std.specs.List.{All, flat_map}
 use Rattle.apl_arrays.specs.Index.{indices, position_in, size_of}

@@ -1,4 +1,5 @@
 -- The one place that numbers name, one for each axis.
+-- It is the only place of those that `Indexing` picks.
 use Rattle.std.specs.Prelude.{◌≡◌, ℕ, ◌+◌, ◌*◌, true, List, [], ◌∷◌, map, Option, None, Some, Ok}
 use Rattle.std.specs.Option.{option_and_then}
 use Rattle.std.specs.Result.{result_ok}

@@ -1,4 +1,5 @@
 -- Elements written over others, place by place.
+-- They are the cells of `Assignment`, of which the last that is written stands.
 use Rattle.std.specs.Prelude.{ℕ, pos, ◌<◌, nat_eq, List, map, length, slice_index_or}
 use Rattle.std.specs.Option.{option_map}
 use Rattle.std.specs.List.{range_with_len}

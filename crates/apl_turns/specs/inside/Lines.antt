@@ -1,5 +1,6 @@
 -- Lines along an axis, by places in the ravel: planes one after another, in each as many rows as the axis is long, and in each row an
 -- element of each of the plane's lines.
+-- They are the elements of the reversal and the rotation, which are defined index by index.
 use Rattle.std.specs.Prelude.{ℕ, ℤ, pos, ◌+◌, ◌*◌, ◌/◌, ◌%◌, ◌==◌, unsigned_abs, if◌then◌else◌}
 use Rattle.std.specs.Prelude.{List, map, length, drop, slice_index_or}
 use Rattle.std.specs.Int.{int_rem_euclid}
