@@ -1,5 +1,6 @@
 // Sums of products, whole rows of the second table at a time.
-ghost use Rattle.std.specs.Prelude.{◌≡◌, ◌<◌, ◌≤◌, ◌+◌, ◌*◌, ◌^◌, ◌*ℤ◌, ◌+ℤ◌, ℕ, FitsSigned, unsigned_abs, length, slice_index_or, pos, Ok, IsTrue, IfOk, IfSome};
+ghost use Rattle.std.specs.Prelude.{◌≡◌, ◌<◌, ◌≤◌, ◌+◌, ◌*◌, ◌^◌, ◌*ℤ◌, ◌+ℤ◌, ℕ, FitsSigned, unsigned_abs};
+ghost use Rattle.std.specs.Prelude.{length, slice_index_or, pos, Ok, IsTrue, IfOk, IfSome};
 ghost use Rattle.std.specs.Int.{w64};
 ghost use Rattle.apl_scalar.specs.declared.function.Dyadic.TheVariants as two;
 ghost use Rattle.apl_scalar.specs.Functions.{dyadic_of};
@@ -48,7 +49,8 @@ fn more(sum: i64, x: i64, y: i64) -> i64
 #[inline(never)]
 fn add_row(x: i64, row: &[i64], sums: &mut [i64])
     requires { length row.now ≡ length sums.old }
-    ensures { (j : ℕ) → j < length sums.old → IsMore x (slice_index_or row.now j (pos 0)) (slice_index_or sums.old j (pos 0)) (slice_index_or sums.new j (pos 0)) }
+    ensures { (j : ℕ) → j < length sums.old →
+        IsMore x (slice_index_or row.now j (pos 0)) (slice_index_or sums.old j (pos 0)) (slice_index_or sums.new j (pos 0)) }
 {
     for j in 0..sums.len() {
         sums[j] = more(sums[j], x, row[j]);
@@ -96,7 +98,14 @@ fn sum_rows(alloc: Global, xs: &[i64], ys: &[i64], joint: &Joint) -> Result<Vec<
     let mut sums = vec![in alloc; 0i64; joint.columns]?;
     for r in 0..joint.rows {
         let from = r * joint.joined;
-        sum_columns(xs, from, joint.joined, ys, none.as_slice(), sums.as_mut_slice());
+        sum_columns(
+            xs,
+            from,
+            joint.joined,
+            ys,
+            none.as_slice(),
+            sums.as_mut_slice(),
+        );
         out.extend_from_slice(sums.as_slice())?;
     }
     Ok(out)
