@@ -5,3 +5,4 @@ pub mod Folding
 pub mod Meeting
 pub mod Others
 pub mod SmallNumbers
+pub mod SumsOfProducts

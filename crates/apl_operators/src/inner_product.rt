@@ -5,6 +5,7 @@ ghost use Rattle.apl_arrays.specs.Answers.{Answers, FaultsFirst};
 ghost use Rattle.apl_arrays.specs.Cells.{cells_of};
 ghost use Rattle.apl_arrays.specs.Left.{listed};
 ghost use Rattle.apl_arrays.specs.Results.{all_ok, ok_map, and_then};
+ghost use Rattle.apl_scalar.specs.declared.function.Dyadic.TheVariants as two;
 ghost use Rattle.apl_scalar.specs.Functions.{dyadic_of};
 ghost use Rattle.apl_folds.specs.Folds.{folded};
 ghost use Rattle.apl_operators.specs.Products.{axes_joined, other_axes, inner_shape, inner_folds, inner_product};
@@ -14,6 +15,7 @@ use crate::joint::{Joint, joined, without_first, without_last};
 use crate::line::{Stepped, meet};
 use crate::small::SmallProduct;
 use crate::standing::standing;
+use crate::sums_of_products::sums_of_products;
 use apl_arrays::{Array, Cells, Elements, Ravel, Stop, View, joined_shape, size, within_limits};
 use apl_faults::Fault;
 use apl_folds::{fold_numbers, in_order};
@@ -139,6 +141,27 @@ impl<'a> ByFunction for Meeting<'a> {
     }
 }
 
+/// The folds of the products of rows and columns. Sums of small numbers are taken a whole row at a time.
+fn fold_products(
+    alloc: Global,
+    function: Dyadic,
+    xs: &[i64],
+    ys: &[i64],
+    joint: &Joint,
+) -> Result<Vec<i64>, Stop>
+    requires joint { Joins joint.now (length xs.now) (length ys.now) }
+    requires small { joint.now.rows * joint.now.columns < 2 ^ 63 }
+    ensures { Answers (λ v. v.items) (folds_met function (met (dyadic_of two.Times) xs.now ys.now joint.now) joint.now) result }
+{
+    match function {
+        Dyadic::Plus => match sums_of_products(alloc, xs, ys, joint)? {
+            Some(sums) => Ok(sums),
+            None => fold_met::<SmallProduct>(alloc, function, xs, ys, joint),
+        },
+        _ => fold_met::<SmallProduct>(alloc, function, xs, ys, joint),
+    }
+}
+
 /// The folds of what a function makes of rows and columns.
 fn fold_met_by(
     alloc: Global,
@@ -153,7 +176,7 @@ fn fold_met_by(
     ensures { Answers (λ v. v.items) (folds_met outer_function (met (dyadic_of inner_function) xs.now ys.now joint.now) joint.now) result }
 {
     match inner_function {
-        Dyadic::Times => fold_met::<SmallProduct>(alloc, outer_function, xs, ys, joint),
+        Dyadic::Times => fold_products(alloc, outer_function, xs, ys, joint),
         _ => inner_function.apply(Meeting {
             alloc,
             function: outer_function,

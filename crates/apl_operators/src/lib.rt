@@ -7,6 +7,7 @@ mod line;
 mod outer_product;
 mod small;
 mod standing;
+mod sums_of_products;
 
 pub use apl_folds::{reduce, scan};
 pub use inner_product::inner;

@@ -9,7 +9,7 @@ use apl_scalar::{Product, Scalar, wider};
 
 /// The product where it fits, and some number elsewhere.
 #[inline(always)]
-fn times(x: i64, y: i64) -> i64
+pub(crate) fn times(x: i64, y: i64) -> i64
     ensures { FitsSigned w64 (x *ℤ y) → result ≡ x *ℤ y }
 {
     x.wrapping_mul(y)

@@ -4,3 +4,4 @@ pub mod Blocks
 pub mod Rotated
 pub mod Numbered
 pub mod Named
+pub mod FromTheEnd

@@ -25,7 +25,7 @@ use Rattle.apl_turns.proofs.Rounds.{round_is}
 use Rattle.apl_turns.proofs.Blocks.{source_at, source_in_at, in_plane}
 
 -- elements at index lists are elements at places
-each_sourced : {A : Type 0} (xs : List A) (d : A) (s : List ℕ) (place : List ℕ → ℕ) (src : ℕ → ℕ) → length xs ≡ size_of s → ((i : List ℕ) → is_within s i ≡ true → place i ≡ src (position_in s i)) →
+pub each_sourced : {A : Type 0} (xs : List A) (d : A) (s : List ℕ) (place : List ℕ → ℕ) (src : ℕ → ℕ) → length xs ≡ size_of s → ((i : List ℕ) → is_within s i ≡ true → place i ≡ src (position_in s i)) →
     map (λ i. get_or xs (place i) d) (indices s) ≡ map (λ p. get_or xs (src p) d) (range_with_len 0 (length xs))
 each_sourced xs d s place src e h =
     map_same (λ i. is_within s i ≡ true) (λ i. get_or xs (place i) d) (λ i. get_or xs (src (position_in s i)) d) (λ i w. ap (λ p. get_or xs p d) (h i w)) (indices s) (all_within s)

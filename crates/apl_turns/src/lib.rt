@@ -2,6 +2,7 @@
 #![tactic(auto)]
 
 mod lines;
+mod mirrored;
 mod numbered_axes;
 mod rotation;
 mod views;

@@ -45,7 +45,7 @@ fn wrapped(number: usize, count: usize) -> usize
 }
 
 /// The piece of a slice that comes after so many others, of so many elements each.
-fn piece<T>(items: &[T], number: usize, size: usize) -> &[T]
+pub(crate) fn piece<T>(items: &[T], number: usize, size: usize) -> &[T]
     requires { number * size + size ≤ length items.now }
     ensures { result.now ≡ take size (drop (number * size) items.now) }
 {

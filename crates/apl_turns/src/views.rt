@@ -1,14 +1,16 @@
 // Results that are copied out of views.
-ghost use Rattle.std.specs.Prelude.{◌≡◌, ◌-◌, ◌≤◌, map, Ok};
+ghost use Rattle.std.specs.Prelude.{◌≡◌, ◌+◌, ◌-◌, ◌<◌, ◌≤◌, map, length, Ok, IfOk};
 ghost use Rattle.std.specs.List.{range_with_len};
 ghost use Rattle.apl_arrays.specs.Answers.{Answers, FaultsFirst};
 ghost use Rattle.apl_arrays.specs.Origins.{origin_number};
+ghost use Rattle.apl_arrays.specs.Views.{reversed};
 ghost use Rattle.apl_turns.specs.Turns.{transposed, transposed_by, reversed_along};
 
+use crate::mirrored::reverse_last;
 use crate::numbered_axes::named_axes;
 use apl_arrays::{Along, Array, MAX_RANK, Origin, Stop, View};
 use arrayvec::ArrayVec;
-use std::alloc::Global;
+use std::alloc::{AllocError, Global};
 
 /// What each of so many axes becomes, where they stand in the other order.
 fn other_order(rank: usize) -> ArrayVec<usize, MAX_RANK>
@@ -43,6 +45,18 @@ pub fn transpose_by(alloc: Global, a: &Array, b: &Array, origin: Origin) -> Resu
     Ok(View::whole(b).turned(axes.as_slice()).copied(alloc)?)
 }
 
+/// An array with one of its axes taken the other way.
+fn reverse_axis(alloc: Global, b: &Array, axis: usize) -> Result<Array, AllocError>
+    requires { axis < length b.now.shape }
+    ensures { IfOk result (λ turned. turned ≡ reversed axis b.now) }
+{
+    let rank = b.rank();
+    if axis + 1 == rank {
+        return reverse_last(alloc, b, axis);
+    }
+    View::whole(b).reversed(axis).copied(alloc)
+}
+
 /// An array with an axis taken the other way. A scalar stays.
 ///
 /// The faults are those of [`Along::axis`], and are found before memory is asked for.
@@ -51,7 +65,7 @@ pub fn reverse(alloc: Global, along: Along<'_>, b: &Array, origin: Origin) -> Re
     ensures at_once { FaultsFirst (reversed_along along.entry (origin_number origin) b.now) result }
 {
     match along.axis(b.rank(), origin)? {
-        Some(axis) => Ok(View::whole(b).reversed(axis).copied(alloc)?),
+        Some(axis) => Ok(reverse_axis(alloc, b, axis)?),
         None => Ok(b.copy()?),
     }
 }

@@ -1,0 +1,22 @@
+use Rattle.std.proofs.Common.{◌≡◌, ◌+◌, ◌*◌, ◌≤◌, [], length, map, get_or, arith, ap, sym, ◌∙◌}
+use Rattle.std.specs.Prelude.{reverse}
+use Rattle.std.specs.List.{range_with_len}
+use Rattle.apl_turns.specs.inside.Mirrored.{mirror}
+use Rattle.apl_turns.proofs.Blocks.{run_step, piece_fits}
+use Rattle.apl_turns.proofs.FromTheEnd.{line_mirrored}
+use Rattle.apl_turns.proofs.mirrored.reverse_lines.Goals as goal
+
+pub piece-requires : goal.piece-requires
+piece-requires g c = omega (arith, piece_fits c.loop-line.line c.args.lines c.args.size c.loop-line-test.true, c.requires)
+
+pub loop-line-preserved : goal.loop-line-preserved
+loop-line-preserved g c =
+    let fits : c.loop-line.line * c.args.size + c.args.size ≤ length c.args.raw.now = omega (arith, piece_fits c.loop-line.line c.args.lines c.args.size c.loop-line-test.true, c.requires) in
+    λ d.
+    run_step (λ place. get_or c.args.raw.now (mirror c.args.size place) d) [] c.loop-line.out.items c.push_line.new.out.items (reverse c.piece.result.now) c.loop-line.line c.args.size (c.loop-line.invariant d) c.in_ok-push_line.ensures
+    (line_mirrored d c.args.raw.now c.piece.result.now c.args.size c.loop-line.line c.piece.ensures fits)
+
+pub returns : goal.returns
+returns g c =
+    let end : c.loop-line.line ≡ c.args.lines = omega arith in
+    λ d. c.loop-line.invariant d ∙ ap (λ n. map (λ place. get_or c.args.raw.now (mirror c.args.size place) d) (range_with_len 0 n)) (ap (λ p. p * c.args.size) end ∙ sym c.requires)
