@@ -20,3 +20,4 @@ pub mod Restored
 pub mod Held
 pub mod Few
 pub mod Frequently
+pub mod Written

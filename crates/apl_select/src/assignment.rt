@@ -124,6 +124,8 @@ pub fn index_assign_into(
         return Ok(());
     }
     let places = places_assigned(alloc, array, slots, value, first)?;
-    *array = overwritten(alloc, array, value, places.as_slice())?;
+    let changed = overwritten(alloc, array, value, places.as_slice())?;
+    // Its copies share the elements, as those of a value that is assigned as a whole.
+    *array = changed.shared(alloc)?;
     Ok(())
 }
