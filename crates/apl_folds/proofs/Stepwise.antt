@@ -21,7 +21,7 @@ use Rattle.apl_folds.specs.inside.Steps.{line_fronts, AreSteps, AreNear}
 use Rattle.apl_folds.specs.inside.Sums.{total}
 use Rattle.apl_folds.proofs.Associative.{chain_first, chain_next}
 use Rattle.apl_folds.proofs.Rows.{length-line, line_at, line_more, line_within, take_range}
-use Rattle.apl_folds.proofs.Totals.{fits_below, total_more}
+use Rattle.apl_folds.proofs.Totals.{abs-add, fits_below, total_more}
 
 -- lines that lie side by side lie within
 pub row_within : (axis : Axis) (p count n : ℕ) → axis.up ≡ 1 → axis.down ≡ 0 → 0 < count → ((k : ℕ) → k < count → IsLine n axis p (k + 1)) → p + count ≤ n

@@ -1,4 +1,4 @@
-use Rattle.std.proofs.Common.{◌≡◌, ℕ, ◌<◌, ◌+◌, ◌-◌, ◌≤ℤ◌, pos, get_or, Ok}
+use Rattle.std.proofs.Common.{◌≡◌, ℕ, ◌<◌, ◌+◌, ◌-◌, ◌≤◌, ◌≤ℤ◌, pos, get_or, Ok}
 use Rattle.apl_folds.proofs.steps.fill_fronts.Given as goal
 
 -- the last number written; and while no flag is raised, each number so far is the value
