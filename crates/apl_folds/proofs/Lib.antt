@@ -12,4 +12,3 @@ pub mod Faults
 pub mod ByPlaces
 pub mod Whole
 pub mod Vectors
-pub mod Stepwise

@@ -16,7 +16,7 @@ use Rattle.apl_folds.specs.Lines.{fold_by, line_of}
 use Rattle.apl_folds.specs.inside.Sums.{total, magnitudes, IsRunning}
 use Rattle.apl_folds.proofs.Rows.{line_more}
 
-pub abs-add : (x y : ℤ) → unsigned_abs (x +ℤ y) ≤ unsigned_abs x + unsigned_abs y
+abs-add : (x y : ℤ) → unsigned_abs (x +ℤ y) ≤ unsigned_abs x + unsigned_abs y
 abs-add x y = omega (arith, ints)
 
 pub total_small : (xs : List ℤ) → unsigned_abs (total xs) ≤ magnitudes xs

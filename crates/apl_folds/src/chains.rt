@@ -1,13 +1,10 @@
 // Folds of lines of numbers by associative functions, each front from the one before it.
-ghost use Rattle.std.specs.Prelude.{◌≡◌, ◌<◌, ◌+◌, ℕ, length, Ok};
-ghost use Rattle.apl_arrays.specs.Answers.{Appends};
+ghost use Rattle.std.specs.Prelude.{◌≡◌, ◌<◌, ◌+◌, length, Ok};
 ghost use Rattle.apl_folds.specs.Chains.{IsAssociative};
 ghost use Rattle.apl_folds.specs.Lines.{line_fold, IsLine};
-ghost use Rattle.apl_folds.specs.inside.Steps.{line_fronts};
 
 use crate::columns::push_columns;
-use crate::line::{fold_line, nth, row};
-use crate::steps::{is_row, push_steps};
+use crate::line::{fold_line, nth};
 use crate::walk::Leaf;
 use apl_arrays::{Axis, Stop};
 use apl_faults::Fault;
@@ -43,26 +40,6 @@ fn longer<F: Scalar>(
     F::apply(before, number)
 }
 
-impl<'a, F: Scalar> Chain<'a, F> {
-    /// Appends the fronts of a line, each tested before the next.
-    fn push_tested(&self, at: usize, count: usize, out: &mut Vec<i64>) -> Result<(), Stop>
-        requires { (k : ℕ) → k < count → IsLine (length self.now.numbers.now) self.now.axis at (k + 1) × IsAssociative F.meaning }
-        ensures { Appends out.old.items out.new.items (line_fronts F.meaning self.now.numbers.now self.now.axis at count) result }
-    {
-        let mut front = 0i64;
-        for k in 0..count {
-            match longer::<F>(self.numbers, &self.axis, front, at, k) {
-                Ok(value) => {
-                    out.push(value)?;
-                    front = value;
-                }
-                Err(fault) => return Err(Stop::Fault(fault)),
-            }
-        }
-        Ok(())
-    }
-}
-
 impl<'a, F: Scalar> Leaf for Chain<'a, F> {
     ghost has = { λ s p count. IsLine (length s.numbers.now) s.axis p count × IsAssociative F.meaning };
 
@@ -73,13 +50,17 @@ impl<'a, F: Scalar> Leaf for Chain<'a, F> {
     }
 
     fn push_fronts(&self, at: usize, length: usize, out: &mut Vec<i64>) -> Result<(), Stop> {
-        if !is_row(&self.axis, length) {
-            return self.push_tested(at, length, out);
+        let mut front = 0i64;
+        for k in 0..length {
+            match longer::<F>(self.numbers, &self.axis, front, at, k) {
+                Ok(value) => {
+                    out.push(value)?;
+                    front = value;
+                }
+                Err(fault) => return Err(Stop::Fault(fault)),
+            }
         }
-        if push_steps::<F>(row(self.numbers, at, length), out)? {
-            return Ok(());
-        }
-        self.push_tested(at, length, out)
+        Ok(())
     }
 
     fn push_columns(

@@ -12,7 +12,6 @@ mod order;
 mod reduction;
 mod running;
 mod scanning;
-mod steps;
 mod sums;
 mod walk;
 

@@ -1,15 +1,12 @@
 // Sums of lines of numbers, each front from the one before it.
-ghost use Rattle.std.specs.Prelude.{◌≡◌, ◌^◌, ◌<◌, ◌+◌, ◌∷◌, ◌++◌, [], ℕ, ℤ, List, length, pos, unsigned_abs};
-ghost use Rattle.apl_arrays.specs.Answers.{Appends};
+ghost use Rattle.std.specs.Prelude.{◌≡◌, ◌^◌, ◌<◌, ◌+◌, ◌∷◌, ◌++◌, [], ℤ, List, length, pos, unsigned_abs};
 ghost use Rattle.apl_scalar.specs.declared.function.Dyadic.TheVariants as two;
 ghost use Rattle.apl_scalar.specs.Functions.{dyadic_of};
 ghost use Rattle.apl_folds.specs.Lines.{line_fold, line_of, IsLine};
-ghost use Rattle.apl_folds.specs.inside.Steps.{line_fronts};
 ghost use Rattle.apl_folds.specs.inside.Sums.{IsRunning};
 
 use crate::columns::push_columns;
-use crate::line::{nth, row};
-use crate::steps::{is_row, push_sums};
+use crate::line::nth;
 use crate::sums::{add, sum_line};
 use crate::walk::Leaf;
 use apl_arrays::{Axis, Stop};
@@ -65,25 +62,6 @@ impl<'a> Total<'a> {
         }
         sum_line(self.numbers, &self.axis, at, count)
     }
-
-    /// Appends the sums of the first numbers of a line, each tested before the next.
-    fn push_tested(&self, at: usize, count: usize, out: &mut Vec<i64>) -> Result<(), Stop>
-        requires { (k : ℕ) → k < count → IsLine (length self.now.numbers.now) self.now.axis at (k + 1) }
-        ensures { Appends out.old.items out.new.items (line_fronts (dyadic_of two.Plus) self.now.numbers.now self.now.axis at count) result }
-    {
-        let mut running = Running {
-            sum: 0,
-            magnitude: 0,
-        };
-        for k in 0..count {
-            running = more(running, nth(self.numbers, &self.axis, at, k));
-            match self.front(running, at, k + 1) {
-                Ok(value) => out.push(value)?,
-                Err(fault) => return Err(Stop::Fault(fault)),
-            }
-        }
-        Ok(())
-    }
 }
 
 impl<'a> Leaf for Total<'a> {
@@ -96,13 +74,18 @@ impl<'a> Leaf for Total<'a> {
     }
 
     fn push_fronts(&self, at: usize, length: usize, out: &mut Vec<i64>) -> Result<(), Stop> {
-        if !is_row(&self.axis, length) {
-            return self.push_tested(at, length, out);
+        let mut running = Running {
+            sum: 0,
+            magnitude: 0,
+        };
+        for k in 0..length {
+            running = more(running, nth(self.numbers, &self.axis, at, k));
+            match self.front(running, at, k + 1) {
+                Ok(value) => out.push(value)?,
+                Err(fault) => return Err(Stop::Fault(fault)),
+            }
         }
-        if push_sums(row(self.numbers, at, length), out)? {
-            return Ok(());
-        }
-        self.push_tested(at, length, out)
+        Ok(())
     }
 
     fn push_columns(

@@ -1,19 +1,34 @@
-use Rattle.std.proofs.Common.{arith, ◌≡◌, ◌+◌, ◌≤◌, ℤ, List, pos, length, Ok, refl, ap, sym, ◌∙◌}
-use Rattle.apl_folds.specs.Chains.{IsAssociative}
-use Rattle.apl_folds.specs.Lines.{line_of}
-use Rattle.apl_folds.specs.inside.Steps.{HasSteps}
-use Rattle.apl_folds.proofs.Rows.{side_by_side}
-use Rattle.apl_folds.proofs.Stepwise.{chain_fronts, row_within}
+use Rattle.std.proofs.Common.{rules, ◌+◌, ℤ, pos, Ok, ap, sym, ◌∙◌, w64}
+use Rattle.std.proofs.lemmas.Int.{to_z-of_z}
+use mir.Val.{SFits}
+use Rattle.apl_arrays.proofs.InTurn.{turns_step, turns_fault, after_err}
+use Rattle.apl_folds.specs.Lines.{fold_by, line_of}
 use Rattle.apl_folds.proofs.chains.ChainLeaf.push_fronts.Goals as goal
 
-pub returns-then-branch : goal.returns-then-branch
-returns-then-branch g c =
-    let row = c.if-not-is_row.ensures refl in
-    let associative : IsAssociative g.F.Scalar.meaning = let r = c.requires 0 (omega (arith, row.2)) in r.1 in
-    let within : c.args.at + c.args.length ≤ length c.args.self.now.numbers.now =
-    row_within c.args.self.now.axis c.args.at c.args.length (length c.args.self.now.numbers.now) row.0 row.1 (omega (arith, row.2)) (λ k h. let r = c.requires k h in r.0) in
-    let line : c.row.result.now ≡ line_of (pos 0) c.args.self.now.numbers.now c.args.self.now.axis c.args.at c.args.length =
-    c.row.ensures ∙ side_by_side (pos 0) c.args.self.now.numbers.now c.args.self.now.axis c.args.at c.args.length row.0 row.1 within in
-    let s : HasSteps g.F.Scalar.meaning c.row.result.now c.args.out.now.items c.push_steps.new.out.items = rw c.if-branch.true at c.in_ok-push_steps.ensures in
-    chain_fronts g.F.Scalar.meaning associative c.args.self.now.numbers.now c.args.self.now.axis c.args.at c.args.length c.row.result.now s.fronts c.args.out.now.items line s.steps
-    ∙ ap (λ (l : List ℤ). Ok l) (sym s.added)
+pub longer-requires-clause-line : goal.longer-requires-clause-line
+longer-requires-clause-line g c = let r = c.requires c.loop-k.k c.loop-k-test.true in r.0
+
+pub longer-requires-clause-associative : goal.longer-requires-clause-associative
+longer-requires-clause-associative g c = let r = c.requires c.loop-k.k c.loop-k-test.true in r.1
+
+pub longer-requires-clause-known : goal.longer-requires-clause-known
+longer-requires-clause-known g c = c.loop-k.invariant.front
+
+pub returns-in-Err : goal.returns-in-Err
+returns-in-Err g c =
+    after_err _ _ c.in-Err.fault
+    (sym c.loop-k.invariant.so_far
+    ∙ turns_fault (λ k. fold_by g.F.Scalar.meaning (line_of (pos 0) c.args.self.now.numbers.now c.args.self.now.axis c.args.at (k + 1))) c.loop-k.out.items c.in-Err.fault c.loop-k.k c.args.length c.loop-k-test.true
+    (sym c.longer.ensures ∙ c.in-Err.is))
+
+pub loop-k-preserved : goal.loop-k-preserved
+loop-k-preserved g c =
+    let fits : SFits w64 c.in-Ok.value = search rules in
+    record {
+      front = λ h. sym c.longer.ensures ∙ c.in-Ok.is ∙ ap (λ (x : ℤ). Ok x) (sym (to_z-of_z w64 c.in-Ok.value fits));
+      so_far =
+          turns_step (λ k. fold_by g.F.Scalar.meaning (line_of (pos 0) c.args.self.now.numbers.now c.args.self.now.axis c.args.at (k + 1))) c.loop-k.out.items _ c.in-Ok.value c.loop-k.k c.args.length c.loop-k-test.true
+          (sym c.longer.ensures ∙ c.in-Ok.is)
+          (simp to_z-of_z at c.in_ok-push-in-Ok.ensures.items)
+          ∙ c.loop-k.invariant.so_far;
+    }
