@@ -309,21 +309,29 @@ impl Array {
     }
 
     /// Writes a number in the place of another, and says whether it did. It did not where there is no number at the place, or where a copy
-    /// shares the elements.
+    /// shares the elements. A scalar shares none.
     pub fn set_number(&mut self, place: usize, number: i64) -> bool
         ensures value { self.new ≡ cond result (number_written self.old place number) self.old }
         ensures there { IsTrue result → (are_numbers self.old.items ≡ true) × (place < length (cells_of self.old.items)) }
+        ensures scalar { self.old.shape ≡ [] → are_numbers self.old.items ≡ true → place ≡ 0 → IsTrue result }
     {
         match &mut self.kept {
             Kept::Num(kept) if place == 0 => {
                 *kept = number;
                 true
             }
-            Kept::Own(dense) => dense.set_number(place, number),
-            Kept::Dense(dense) => match Rc::get_mut(dense) {
-                Some(dense) => dense.set_number(place, number),
-                None => false,
-            },
+            // What is kept so has axes, and is no scalar.
+            Kept::Own(dense) => {
+                let _axes = dense.shape();
+                dense.set_number(place, number)
+            }
+            Kept::Dense(dense) => {
+                let _axes = dense.shape();
+                match Rc::get_mut(dense) {
+                    Some(dense) => dense.set_number(place, number),
+                    None => false,
+                }
+            }
             _ => false,
         }
     }
