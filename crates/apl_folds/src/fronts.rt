@@ -7,7 +7,7 @@ ghost use Rattle.apl_folds.specs.inside.Fronts.{index_along, front_folds, Chains
 
 use crate::running::EXACT;
 use apl_arrays::{Axis, Stop};
-use apl_scalar::{And, Dyadic, Logical, Maximum, Minimum, Or, Scalar, Sum, wider};
+use apl_scalar::{And, Dyadic, Logical, Maximum, Minimum, Or, Scalar, Sum, widest};
 use std::alloc::Global;
 
 /// Appends the fronts of a row of numbers that are not the first along the axis: each is made of the front a row before.
@@ -73,17 +73,6 @@ fn chain_rows<F: Scalar>(
         push_row::<F>(numbers, axis, row, &mut out)?;
     }
     Ok(out)
-}
-
-/// A number that is no less than any magnitude, and less than twice the largest.
-fn widest(numbers: &[i64]) -> u64
-    ensures { (k : ℕ) → k < length numbers.now → unsigned_abs (slice_index_or numbers.now k (pos 0)) ≤ result }
-{
-    let mut bound = 0u64;
-    for number in numbers {
-        bound = wider(bound, number.unsigned_abs());
-    }
-    bound
 }
 
 /// Whether so many of these numbers are known to have a sum that fits, in whatever order they are added.

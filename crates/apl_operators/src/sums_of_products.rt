@@ -9,7 +9,7 @@ ghost use Rattle.apl_operators.specs.inside.SumsOfProducts.{product_of, sum_from
 
 use crate::joint::Joint;
 use crate::small::times;
-use apl_scalar::wider;
+use apl_scalar::widest;
 use std::alloc::{AllocError, Global};
 
 /// Below this many columns a row is so short that a fold of each place costs less.
@@ -17,17 +17,6 @@ const FEW: usize = 8;
 
 /// No magnitude below this leaves the range.
 const EXACT: u64 = 0x8000_0000_0000_0000;
-
-/// A number that is no less than any magnitude, and less than twice the largest.
-fn widest(numbers: &[i64]) -> u64
-    ensures { (k : ℕ) → k < length numbers.now → unsigned_abs (slice_index_or numbers.now k (pos 0)) ≤ result }
-{
-    let mut bound = 0u64;
-    for number in numbers {
-        bound = wider(bound, number.unsigned_abs());
-    }
-    bound
-}
 
 /// Whether so many products of a number of each of two lists are known to have a sum that fits, in whatever order they are added.
 fn fit_together(xs: &[i64], ys: &[i64], count: usize) -> bool

@@ -23,5 +23,5 @@ pub use division::{Quotient, Residue};
 pub use examples::{residues, worked_arrays, worked_values};
 pub use function::{Dyadic, Monadic, Scalar, Swapped};
 pub use logic::{And, Connective, Logical, Nand, Nor, Or};
-pub use overflow::{either, wider};
+pub use overflow::{either, wider, widest};
 pub use powers::Power;

@@ -1,5 +1,6 @@
 // Arithmetic that tells where a value leaves 64 bits.
-ghost use Rattle.std.specs.Prelude.{◌≡◌, ◌≤◌, ◌+ℤ◌, ◌-ℤ◌, ◌*ℤ◌, pos, ◌≤ℤ◌, ◌<ℤ◌, bit_or};
+ghost use Rattle.std.specs.Prelude.{◌≡◌, ◌<◌, ◌≤◌, ◌+ℤ◌, ◌-ℤ◌, ◌*ℤ◌, ℕ, pos, ◌≤ℤ◌, ◌<ℤ◌, bit_or, length, slice_index_or, unsigned_abs};
+ghost use Rattle.std.specs.List.{fold};
 ghost use Rattle.std.specs.Int.{w64, int_bit_or};
 ghost use Rattle.apl_faults.specs.declared.fault.Fault.TheVariants.{Limit};
 ghost use Rattle.apl_scalar.specs.Functions.{in_range};
@@ -52,4 +53,16 @@ pub fn wider(x: u64, y: u64) -> u64
     ensures y { y ≤ result }
 {
     x | y
+}
+
+/// All magnitudes in one: a number that is no less than any, and less than twice the largest.
+pub fn widest(numbers: &[i64]) -> u64
+    ensures exact { result ≡ fold (λ bound z. bit_or bound (unsigned_abs z)) 0 numbers.now }
+    ensures each { (k : ℕ) → k < length numbers.now → unsigned_abs (slice_index_or numbers.now k (pos 0)) ≤ result }
+{
+    let mut bound = 0u64;
+    for number in numbers {
+        bound = wider(bound, number.unsigned_abs());
+    }
+    bound
 }
