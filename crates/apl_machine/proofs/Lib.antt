@@ -2,7 +2,6 @@ pub mod Environments
 pub mod Phrases
 pub mod Leaves
 pub mod Steps
-pub mod Faulty
 pub mod Sound
 pub mod There
 pub mod Lines

@@ -4,6 +4,7 @@
 
 mod branching;
 mod change;
+mod departure;
 mod entering;
 mod executing;
 mod frequent;

@@ -6,7 +6,6 @@ use Rattle.apl_operands.specs.Operands.{fetched}
 use Rattle.apl_contexts.specs.Contexts.{lines_in}
 use Rattle.apl_phrases.specs.Effects.{acted, seen}
 use Rattle.apl_phrases.proofs.Effects.{asks_it, ends_in, executes_it, fails_it, line_numbers_it}
-use Rattle.apl_machine.proofs.Faulty.{faulty_phrase}
 use Rattle.apl_machine.proofs.change.reduce.Goals as goal
 
 pub last_operand-requires-clause-value : goal.last_operand-requires-clause-value
@@ -15,14 +14,14 @@ last_operand-requires-clause-value c =
     let ps = fetched c.args.operands.constants.now c.as_slice-sources.result.now (reverse c.args.operands.stack.now) in
     ends_in lines c.in_ok-operand.field-0 c.in-Passes.deed (acted (seen c.args.scene lines) c.args.instr.now.action ps) ps c.in-Passes.is (c.in_ok-operand.ensures lines)
 
-pub returns-in-Fails : goal.returns-in-Fails
-returns-in-Fails c =
+pub returns-in_ok-report-in-Fails : goal.returns-in_ok-report-in-Fails
+returns-in_ok-report-in-Fails c =
     let i = c.args.instr.now in
     let lines = lines_in c.args.contexts.now in
     let ps = fetched c.args.operands.constants.now i.arguments (reverse c.args.operands.stack.now) in
     let o = acted (seen c.args.scene lines) i.action ps in
     let h = rw c.as_slice-sources.ensures at (c.in_ok-operand.ensures lines) in
-    faulty_phrase c.failing.result c.in-Fails.fault o c.args.operands.stack.now i.arguments c.args.contexts.now i.at (fails_it lines c.in_ok-operand.field-0 c.in-Fails.fault o ps c.in-Fails.is h) c.failing.ensures
+    λ ms. (c.in-Fails.fault, fails_it lines c.in_ok-operand.field-0 c.in-Fails.fault o ps c.in-Fails.is h, c.in_ok-report-in-Fails.ensures ms)
 
 pub returns-in_ok-numbers-in-GivesLineNumbers : goal.returns-in_ok-numbers-in-GivesLineNumbers
 returns-in_ok-numbers-in-GivesLineNumbers c =
