@@ -4,7 +4,7 @@ use Rattle.apl_code.specs.Code.{is_end}
 use Rattle.apl_frames.specs.declared.frame.Stage.TheVariants.{Emptied}
 use Rattle.apl_frames.specs.Ends.{has_place}
 use Rattle.apl_frames.proofs.Standing.{at_end, no_both}
-use Rattle.apl_machine.proofs.Steps.{comes_to_phrase, is_ready, fetches_value, end_is, not_end, empties_well, ends_well}
+use Rattle.apl_machine.proofs.Steps.{is_ready, fetches_value, end_is, empties_well, ends_well}
 use Rattle.apl_machine.specs.Worlds.{settings}
 use Rattle.apl_machine.proofs.departure.departure_of.Goals as goal
 
