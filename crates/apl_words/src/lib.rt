@@ -1,6 +1,11 @@
 //! The words of the command line of the program `apl`.
 #![tactic(auto)]
 
+ghost use Rattle.std.specs.Prelude.{◌≡◌, IfNone, IfOk, IfSome};
+ghost use Rattle.apl_words.specs.declared.Plan.TheVariants.{Run, Show};
+ghost use Rattle.apl_words.specs.declared.Running.{Running};
+ghost use Rattle.apl_words.specs.declared.WordsError.TheVariants.{Memory};
+
 use clap::error::ErrorKind;
 use clap::{Arg, ArgAction, ArgMatches, Command, value_parser};
 use std::alloc::{AllocError, Global};
@@ -58,6 +63,8 @@ pub enum WordsError {
 }
 
 impl From<AllocError> for WordsError {
+    ghost from_gives = { λ _ e. e ≡ Memory };
+
     fn from(_error: AllocError) -> WordsError {
         WordsError::Memory
     }
@@ -169,7 +176,10 @@ fn plan_of(
     matches: &ArgMatches<'_>,
     workspace: Option<String>,
     function: Option<String>,
-) -> Result<Plan, AllocError> {
+) -> Result<Plan, AllocError>
+    ensures shown { IfOk result (λ plan. IfSome workspace (λ file. IfSome function (λ name. plan ≡ Show (record { workspace = file; function = name })))) }
+    ensures run { IfOk result (λ plan. IfNone function ((run : Running) × (plan ≡ Run run) × (run.workspace ≡ workspace))) }
+{
     let steps = matches.get_one::<u64>("steps").unwrap_or(1_000_000);
     match (workspace, function) {
         (Some(workspace), Some(function)) => Ok(Plan::Show(Shown {
