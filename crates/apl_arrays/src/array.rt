@@ -308,6 +308,17 @@ impl Array {
         Ok(Array { kept })
     }
 
+    /// Becomes a number, as a scalar. It takes no memory, and a number is written in the place of another.
+    #[inline]
+    pub fn put_number(&mut self, number: i64)
+        ensures { self.new ≡ record { shape = []; items = Numbers (number ∷ []) } }
+    {
+        match &mut self.kept {
+            Kept::Num(kept) => *kept = number,
+            kept => *kept = Kept::Num(number),
+        }
+    }
+
     /// Writes a number in the place of another, and says whether it did. It did not where there is no number at the place, or where a copy
     /// shares the elements. A scalar shares none.
     pub fn set_number(&mut self, place: usize, number: i64) -> bool

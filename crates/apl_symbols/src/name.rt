@@ -71,8 +71,13 @@ impl PartialEq for Name {
 
     ghost laws = { partial_equiv_from_equiv nat_list_eq_equiv };
 
+    #[inline]
     fn eq(&self, other: &Name) -> bool {
-        self.as_slice() == other.as_slice()
+        match (self.as_slice(), other.as_slice()) {
+            // Most names are that short, and need no loop.
+            ([one], [like]) => one == like,
+            (text, like) => text == like,
+        }
     }
 }
 
