@@ -14,3 +14,4 @@ pub mod Joining
 pub mod ByIndex
 pub mod Nth
 pub mod Single
+pub mod Scalars

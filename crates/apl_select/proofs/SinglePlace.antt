@@ -22,6 +22,7 @@ use Rattle.apl_arrays.specs.Results.{and_then, ok_map}
 use Rattle.apl_arrays.specs.Simple.{lone_number, number_of_scalar, single}
 use Rattle.apl_arrays.specs.Views.{picked, selected}
 use Rattle.apl_arrays.specs.Written.{number_written, with_number}
+use Rattle.apl_arrays.proofs.Scalars.{number_alone}
 use Rattle.apl_arrays.proofs.Places.{both, position_in-lt, rest_of, within_head}
 use Rattle.apl_select.specs.Assignment.{assigned, assigned_at, typed, written}
 use Rattle.apl_select.specs.Indexing.{Places, all_picked, indexed, joined_shape, led_to, picked_by, place_numbered}
@@ -31,21 +32,6 @@ use Rattle.apl_select.specs.inside.Written.{overwritten, put_all, put_items}
 use Rattle.apl_select.proofs.Lists.{rest_from}
 use Rattle.apl_select.proofs.Picking.{numbered_below}
 use Rattle.apl_select.proofs.Writing.{put_step, put_whole, written_is}
-
--- a scalar that is a number
-pub number_alone : (a : Arr) (z : ℤ) → number_of_scalar a ≡ Some z → a ≡ single (Num z)
-number_alone a z e = of a.shape a.items e
-  where
-    none : (b : Bool) (o : Option ℤ) → b ≡ false → cond b o None ≡ Some z → ⊥
-    none true o f e = absurd (cc)
-    none false o f e = absurd (cc)
-
-    of : (shape : List ℕ) (items : Items) → number_of_scalar (record { shape = shape; items = items }) ≡ Some z → record { shape = shape; items = items } ≡ single (Num z)
-    of [] (Numbers []) e = absurd (cc)
-    of [] (Numbers (y ∷ [])) e = let s : y ≡ z = cc in ap (λ (x : ℤ). single (Num x)) s
-    of [] (Numbers (y ∷ x ∷ zs)) e = absurd (cc)
-    of [] (Characters cs) e = absurd (cc)
-    of (n ∷ ns) items e = absurd (none (length (n ∷ ns) == 0) (lone_number items) (ne_eqb (length (n ∷ ns)) 0 (λ h. omega arith)) e)
 
 -- a slot that counts a place picks it alone
 counts_picks : (n origin : ℕ) (slot : Option Arr) (k : ℕ) → counted_by n origin slot ≡ Some k → (picked_by n origin slot ≡ Ok (record { shape = []; places = k ∷ [] })) × (k < n)
