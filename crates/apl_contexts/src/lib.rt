@@ -13,5 +13,5 @@ pub use beginning::begin_line;
 pub use context::{Call, Context, Statement};
 pub use contexts::Contexts;
 pub use lines::Lines;
-pub use moves::Move;
+pub use moves::{Light, Move};
 pub use stack::Stack;

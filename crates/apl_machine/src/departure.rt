@@ -28,14 +28,14 @@ use apl_phrases::said;
 use apl_vectors::Vectors;
 use std::alloc::{AllocError, Global};
 
-/// How a line is left at which no phrase begins. It is small beside what a phrase makes of a machine,
-/// for lines end often.
+/// How a line is left at which no phrase begins. It is small, for lines end often: a value is kept
+/// apart.
 #[derive(Drop)]
 pub enum Departure {
     /// The line of a statement or a call ends, and these lines are written.
     Ends(Vec<OutLine>),
     /// A text that is executed ends with this value, or without one.
-    Answers(Option<Array>),
+    Answers(Box<Option<Array>>),
     /// The line branches to the line of this number, or on, and these lines are written.
     Branches(Option<usize>, Vec<OutLine>),
     /// `→` alone drops the contexts through the nearest statement, and these lines are written.
@@ -108,7 +108,7 @@ fn finishing(alloc: Global, traces: &Vectors, contexts: &Contexts) -> Result<Dep
     ensures { IfOk result (Leaves (finished (executes contexts.now) None [] [] []) traces.now contexts.now) }
 {
     if executes(contexts) {
-        return Ok(Departure::Answers(None));
+        return Ok(Departure::Answers(Box::new(alloc, None)?));
     }
     Ok(Departure::Ends(trace(alloc, traces, contexts.call(), &[])?))
 }
@@ -123,7 +123,8 @@ fn hiding(
     ensures { IfOk result (Leaves (finished (executes contexts.now) (Some value.now) [] blank (display value.now)) traces.now contexts.now) }
 {
     if executes(contexts) {
-        return Ok(Departure::Answers(Some(value.copy()?)));
+        let answer = Box::new(alloc, Some(value.copy()?))?;
+        return Ok(Departure::Answers(answer));
     }
     let mark = [Ch::ascii(b' ')];
     let lines = trace_value(alloc, traces, contexts.call(), &mark, value)?;
@@ -140,7 +141,8 @@ fn showing(
     ensures { IfOk result (Leaves (finished (executes contexts.now) (Some value.now) (display value.now) blank (display value.now)) traces.now contexts.now) }
 {
     if executes(contexts) {
-        return Ok(Departure::Answers(Some(value.copy()?)));
+        let answer = Box::new(alloc, Some(value.copy()?))?;
+        return Ok(Departure::Answers(answer));
     }
     let mark = [Ch::ascii(b' ')];
     let mut lines = said(alloc, display(alloc, value)?)?;

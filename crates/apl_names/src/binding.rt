@@ -21,6 +21,20 @@ pub enum Binding {
     Function(DefinedFunction),
 }
 
+/// Swaps two arrays. Of two numbers the numbers alone are moved.
+#[inline]
+fn exchange(one: &mut Array, other: &mut Array)
+    ensures one { one.new ≡ other.old }
+    ensures other { other.new ≡ one.old }
+{
+    if let (Some(first), Some(second)) = (one.as_number(), other.as_number()) {
+        one.put_number(second);
+        other.put_number(first);
+        return;
+    }
+    mem::swap(one, other);
+}
+
 impl Binding {
     /// Its value, if it has one.
     pub(crate) fn value(&self) -> Option<&Array>
@@ -64,7 +78,7 @@ impl Binding {
     {
         match self {
             Binding::Value(own) => {
-                mem::swap(own, value);
+                exchange(own, value);
                 true
             }
             Binding::Unset | Binding::Label(_) | Binding::Function(_) => false,

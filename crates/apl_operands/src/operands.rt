@@ -1,5 +1,5 @@
 //! Operands of instructions.
-ghost use Rattle.std.specs.Prelude.{◌≡◌, ◌≤◌, ◌<◌, IfOk, length, reverse, take, List, [], ◌∷◌, Option, Some, option_copied, option_map};
+ghost use Rattle.std.specs.Prelude.{◌≡◌, ◌≤◌, ◌<◌, IfOk, IfSome, length, reverse, take, List, [], ◌∷◌, Option, Some, option_copied, option_map};
 ghost use Rattle.apl_code.specs.declared.instr.Source.{Source};
 ghost use Rattle.apl_operands.specs.Operands.{Offers, fetched_from, fetched_one, unfetched_one, unfetched};
 ghost use Rattle.apl_arrays.specs.Cells.{Arr};
@@ -180,6 +180,22 @@ pub fn left(sources: &[Option<Source>], stack: &[Operand]) -> usize
         left = left_beneath(*source, left, stack);
     }
     left
+}
+
+/// How many operands are left up to the last one, where that lies on the stack and so can stay there.
+pub fn stays(sources: &[Option<Source>], operands: Operands<'_>) -> Option<usize>
+    requires there { Offers operands sources.now }
+    ensures within { IfSome result (λ left. left ≤ length operands.entry.stack.now) }
+    ensures value { IfSome result (λ left. PassesLast operands.entry sources.now Given.Stays left) }
+{
+    let (last, others) = sources.split_last()?;
+    let Some(last) = last else {
+        return None;
+    };
+    match last {
+        Source::Stack => Some(left(others, operands.stack)),
+        Source::Constant(_) => None,
+    }
 }
 
 /// What a phrase gives.

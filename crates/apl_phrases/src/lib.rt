@@ -16,7 +16,9 @@ mod watch;
 pub use assign::origin_scalar;
 pub use effect::{Deed, Effect};
 pub use execute::colon_of;
-pub use frequent::{assigned, assigned_indexed, given, number_given};
+pub use frequent::{
+    NumberAssigned, assigned, assigned_indexed, given, number_assigned, number_given,
+};
 pub use lines::said;
 pub use phrase::perform;
 pub use scene::{Scene, origin_name};
