@@ -30,7 +30,7 @@ pub enum Light {
 
 impl Light {
     /// One more phrase of a line is done: it gave this, with so many operands left.
-    #[inline]
+    #[inline(always)]
     pub(crate) fn apply(self, line: &mut FrameBuf, left: usize)
         requires { CanMove (Move.GoesOn (given_of self) left) line.old }
         ensures { line.new ≡ moved_by (Move.GoesOn (given_of self) left) line.old }

@@ -33,7 +33,8 @@ impl Workspace {
                 .lines
                 .begin(&self.names, &mut self.cache, call.function(), at, tokens)?;
             self.contexts.leave();
-            self.contexts.begin_line(at, line);
+            let before = self.contexts.begin_line(at, line);
+            self.lines.put_away(before);
             return Ok(());
         }
         let (given, mut report) = returning(self.alloc, &self.names, call, below.beneath())?;

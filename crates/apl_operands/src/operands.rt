@@ -31,6 +31,7 @@ pub struct Operands<'a> {
 }
 
 /// An operand, and what is left beneath it.
+#[inline(always)]
 pub fn fetch(operands: Operands<'_>, source: Source) -> (Held<'_>, Operands<'_>)
     requires { Offers operands (Some source ∷ []) }
     ensures held { operand_of result.0 ≡ fetched_one operands.entry.constants.now source (reverse operands.entry.stack.now) }
@@ -79,6 +80,7 @@ pub fn one_value<'a>(sources: &[Option<Source>], operands: Operands<'a>) -> Opti
 }
 
 /// An operand, if an instruction takes one here, and what is left beneath it.
+#[inline(always)]
 fn next(operands: Operands<'_>, source: Option<Source>) -> (Option<Held<'_>>, Operands<'_>)
     requires { Offers operands (source ∷ []) }
     ensures held { FetchesFirst operands.entry source result.0 result.1 }
@@ -94,6 +96,7 @@ fn next(operands: Operands<'_>, source: Option<Source>) -> (Option<Held<'_>>, Op
 }
 
 /// What a phrase takes that takes this alone.
+#[inline(always)]
 fn one_argument(b: Option<Held<'_>>) -> Arguments<'_>
     ensures { as_taken result ≡ taken_one (option_map operand_of b.entry) }
 {
@@ -104,6 +107,7 @@ fn one_argument(b: Option<Held<'_>>) -> Arguments<'_>
 }
 
 /// What a phrase takes that takes these two, from the left.
+#[inline(always)]
 fn two_arguments<'a>(first: Option<Held<'a>>, second: Option<Held<'a>>) -> Arguments<'a>
     ensures { as_taken result ≡ taken_two (option_map operand_of first.entry) (option_map operand_of second.entry) }
 {
@@ -118,6 +122,7 @@ fn two_arguments<'a>(first: Option<Held<'a>>, second: Option<Held<'a>>) -> Argum
 }
 
 /// What a phrase takes that takes these three, from the left.
+#[inline(always)]
 fn three_arguments<'a>(
     first: Option<Held<'a>>,
     second: Option<Held<'a>>,
@@ -135,6 +140,7 @@ fn three_arguments<'a>(
 
 /// The values and index lists that an instruction takes: what stands further left lies nearer the top.
 #[tactic(auto, using(crate::proofs::Fetching::first_there, crate::proofs::Fetching::too_few, crate::proofs::Fetching::too_many))]
+#[inline(always)]
 pub fn arguments<'a>(sources: &[Option<Source>], operands: Operands<'a>) -> Arguments<'a>
     requires { Offers operands sources.now }
     ensures { as_taken result ≡ taken_of (fetched_from operands.entry sources.now) }
@@ -155,6 +161,7 @@ pub fn arguments<'a>(sources: &[Option<Source>], operands: Operands<'a>) -> Argu
 }
 
 /// How many operands are left beneath this one, where there are so many.
+#[inline(always)]
 fn left_beneath(source: Option<Source>, left: usize, stack: &[Operand]) -> usize
     requires { left ≤ length stack.now }
     ensures within { result ≤ length stack.now }
@@ -171,6 +178,7 @@ fn left_beneath(source: Option<Source>, left: usize, stack: &[Operand]) -> usize
 }
 
 /// How many operands an instruction leaves beneath those that it takes.
+#[inline(always)]
 pub fn left(sources: &[Option<Source>], stack: &[Operand]) -> usize
     ensures within { result ≤ length stack.now }
     ensures left { unfetched sources.now (reverse stack.now) ≡ reverse (take result stack.now) }
@@ -183,6 +191,7 @@ pub fn left(sources: &[Option<Source>], stack: &[Operand]) -> usize
 }
 
 /// How many operands are left up to the last one, where that lies on the stack and so can stay there.
+#[inline(always)]
 pub fn stays(sources: &[Option<Source>], operands: Operands<'_>) -> Option<usize>
     requires there { Offers operands sources.now }
     ensures within { IfSome result (λ left. left ≤ length operands.entry.stack.now) }
