@@ -1,9 +1,8 @@
-use Rattle.std.proofs.Common.{ℤ, List, Option, Result}
+use Rattle.std.proofs.Common.{ℤ, List, Result}
 use Rattle.std.proofs.lemmas.Result.{IfOk-weaker}
 use Rattle.apl_arrays.specs.Answers.{Answers}
 use Rattle.apl_arrays.specs.Cells.{Arr}
 use Rattle.apl_faults.specs.declared.fault.Fault.{Fault}
-use Rattle.apl_machine_state.specs.declared.operand.Operand.{Operand}
 use Rattle.apl_machine_state.specs.Environment.{index_origin}
 use Rattle.apl_machine_state.specs.Outcomes.{of_result}
 use Rattle.apl_primitives.specs.Taken.{as_taken}
