@@ -3,3 +3,4 @@ pub mod Moves
 pub mod Contexts
 pub mod Stacks
 pub mod Kept
+pub mod Typed

@@ -8,6 +8,7 @@ mod contexts;
 mod lines;
 mod moves;
 mod stack;
+mod typed;
 
 pub use beginning::begin_line;
 pub use context::{Call, Context, Statement};

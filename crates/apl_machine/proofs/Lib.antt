@@ -20,3 +20,4 @@ pub mod Held
 pub mod Few
 pub mod Frequently
 pub mod Written
+pub mod Silent

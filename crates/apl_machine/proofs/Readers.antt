@@ -7,19 +7,19 @@ use Rattle.apl_names.specs.declared.binding.Binding.{Binding}
 use Rattle.apl_names.specs.Maps.{Map, Text, assigned, class_in, first_map, found, last_map, said, value_in, with_entry, with_global}
 use Rattle.apl_machine_state.specs.Items.{Rest}
 use Rattle.apl_machine_state.specs.Environment as model
-use Rattle.apl_machine_state.specs.Environment.{World, class_of, environment, rest_at}
+use Rattle.apl_machine_state.specs.Environment.{World, class_of, environment, rest_at, scene}
 use Rattle.apl_defn.specs.Definitions.{Definition, is_line}
-use Rattle.apl_machine_state.specs.Calls.{begun_line}
+use Rattle.apl_machine_state.specs.Calls.{begun_line, call_map}
 use Rattle.apl_machine_state.specs.Changes.{Arrives, Moves, branch_to, escape_to, line_from, resumed, returns}
 use Rattle.apl_machine_state.specs.State.{State, applied, arrived, comes_to, value_of}
 use Rattle.apl_vectors.specs.Vectors.{has_line}
 use Rattle.apl_frames.specs.Flat.{flat_rest}
 use Rattle.apl_contexts.specs.declared.context.Context.{Context}
 use Rattle.apl_contexts.specs.declared.context.Context.TheVariants.{Statement, Call, Execute}
-use Rattle.apl_contexts.specs.Contexts.{calls, dressed, line_in, rest_in, under}
+use Rattle.apl_contexts.specs.Contexts.{call_in, calls, dressed, line_in, rest_in, under}
 use Rattle.apl_machine.specs.Changes.{ended}
 use Rattle.apl_machine.specs.Executing.{executes}
-use Rattle.apl_machine.specs.Spaces.{Space, IsSound, IsStatement, branched_in, state_of}
+use Rattle.apl_machine.specs.Spaces.{Space, IsSound, IsStatement, arrival, awaiting_in, branched_in, called_in, state_of, world_of}
 use Rattle.apl_machine.proofs.Environments.{env_is}
 use Rattle.apl_machine.proofs.There.{IsThere}
 use Rattle.apl_machine.specs.Worlds.{Settings, world_at}
@@ -119,6 +119,24 @@ arrived_ends true s w d n locals below lines = by_stop (has_line d.header.name n
     by_stop true = refl
     by_stop false = refl
 arrived_ends false s w d n locals below lines = refl
+
+pub arrival_ends : (s : State) (ms : List Map) (kept : Settings) (cs : List Context) (n : ℕ) (texts : List Text) → is_some (call_in cs) ≡ true → (arrival s ms kept cs n texts).ended ≡ true
+arrival_ends s ms kept [] n texts h = cc
+arrival_ends s ms kept (Statement q ∷ cs) n texts h = cc
+arrival_ends s ms kept (Call c ∷ cs) n texts h = arrived_ends (is_line c.definition n) s (world_at ms kept (Call c ∷ cs)) c.definition n (first_map ms) (dressed (drop 1 ms) cs) texts
+arrival_ends s ms kept (Execute q ∷ cs) n texts h = arrival_ends s ms kept cs n texts h
+
+-- a call that begins goes on but where it stops
+call_goes : (line : Bool) (s : State) (w : World) (d : Definition) (n : ℕ) (locals : Map) (below : List model.Context) (lines : List Text) → (arrived line s w d n locals below lines false).ended ≡ (arrived line s w d n locals below lines false).stopped
+call_goes true s w d n locals below lines = by_stop (has_line d.header.name n s.stops)
+  where
+    by_stop : (stop : Bool) → (comes_to stop s w d n locals below lines false).ended ≡ (comes_to stop s w d n locals below lines false).stopped
+    by_stop true = refl
+    by_stop false = refl
+call_goes false s w d n locals below lines = refl
+
+pub called_goes : (s : Space) (d : Definition) (a b : Option Arr) (left : ℕ) → (called_in s d a b left).ended ≡ (called_in s d a b left).stopped
+called_goes s d a b left = call_goes (is_line d 1) (state_of s) (world_of s) d 1 (call_map (scene (world_of s) (dressed s.maps s.contexts)) d a b) (awaiting_in s left) []
 
 -- a typed branch ends its line, and comes to no stop
 by_test : (line : Bool) (s : State) (w : World) (contexts : List model.Context) (d : Definition) (locals : Map) (below : List model.Context) → ((applied s (if line then Moves w contexts [] true else returns w d locals below [] true)).ended ≡ true) × ((applied s (if line then Moves w contexts [] true else returns w d locals below [] true)).stopped ≡ false)

@@ -5,7 +5,7 @@ ghost use Rattle.apl_contexts.specs.Contexts.{behind, line_in};
 ghost use Rattle.apl_machine.specs.Spaces.{IsSound, IsStatement, branched_in, escaped_in, left_behind, state_of};
 
 use crate::returns::returning;
-use crate::workspace::Workspace;
+use crate::workspace::{Workspace, put_away};
 use apl_machine_state::OutLine;
 use std::alloc::AllocError;
 
@@ -20,26 +20,26 @@ impl Workspace {
         ensures err { OnErr result (self.new ≡ self.old) }
     {
         let Some(at) = aim else {
-            self.contexts.leave();
+            put_away(&mut self.lines, self.contexts.leave());
             return Ok(());
         };
         let below = self.contexts.stack().beneath();
         let Some(call) = below.call() else {
-            self.contexts.leave();
+            put_away(&mut self.lines, self.contexts.leave());
             return Ok(());
         };
         if let Some(tokens) = call.definition().tokens(at) {
-            let line = self
+            let bound = self
                 .lines
-                .begin(&self.names, &mut self.cache, call.function(), at, tokens)?;
-            self.contexts.leave();
-            let before = self.contexts.begin_line(at, line);
-            self.lines.put_away(before);
+                .line(&self.names, &mut self.cache, call.function(), at, tokens)?;
+            let line = self.lines.begin(bound)?;
+            put_away(&mut self.lines, self.contexts.leave());
+            self.contexts.put_line(at, line);
             return Ok(());
         }
         let (given, mut report) = returning(self.alloc, &self.names, call, below.beneath())?;
         self.output.append(&mut report)?;
-        self.contexts.leave();
+        put_away(&mut self.lines, self.contexts.leave());
         self.leave(given);
         Ok(())
     }
@@ -72,10 +72,10 @@ impl Workspace {
         ensures { self.new ≡ record self.old { maps = left_behind self.old.maps self.old.contexts; contexts = behind self.old.contexts } }
     {
         while self.contexts.call().is_some() {
-            self.contexts.leave();
+            put_away(&mut self.lines, self.contexts.leave());
             self.names.leave();
         }
-        self.contexts.leave();
+        put_away(&mut self.lines, self.contexts.leave());
     }
 
     /// The contexts from the newest through the nearest statement go; one that was typed goes before
@@ -87,7 +87,7 @@ impl Workspace {
         ensures state { state_of self.new ≡ escaped_in self.old [] }
     {
         if self.contexts.call().is_none() {
-            self.contexts.leave();
+            put_away(&mut self.lines, self.contexts.leave());
         }
         self.drop_statement();
     }

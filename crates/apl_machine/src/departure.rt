@@ -45,7 +45,7 @@ pub enum Departure {
 }
 
 /// Whether a branch to this array is to a character.
-fn leads_nowhere(array: &Array) -> bool
+pub(crate) fn leads_nowhere(array: &Array) -> bool
     ensures { result ≡ leads_nowhere array.now.items }
 {
     match array.items() {
@@ -62,7 +62,7 @@ fn line_number(number: i64) -> usize
 }
 
 /// Where a branch to this array goes: to the line of its first number, or on where it has none.
-fn aim(array: &Array) -> Option<usize>
+pub(crate) fn aim(array: &Array) -> Option<usize>
     ensures { result ≡ aim array.now.items }
 {
     match array.items() {

@@ -31,9 +31,10 @@ impl Workspace {
         let Some(tokens) = function.definition().tokens(1) else {
             unreachable!()
         };
-        let line = self
+        let bound = self
             .lines
-            .begin(&self.names, &mut self.cache, &function, 1, tokens)?;
+            .line(&self.names, &mut self.cache, &function, 1, tokens)?;
+        let line = self.lines.begin(bound)?;
         let call = Call::new(function, 1, line);
         self.contexts.enter(Context::Call(call), left)?;
         Ok(())

@@ -5,6 +5,7 @@
 mod branching;
 mod change;
 mod departure;
+mod ending;
 mod entering;
 mod executing;
 mod frequent;

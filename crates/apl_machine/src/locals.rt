@@ -14,13 +14,13 @@ use std::alloc::{AllocError, Global};
 /// Adds a name, where there is one.
 fn push_named(
     names: &mut Vec<(Name, Binding)>,
-    name: Option<Name>,
+    name: Option<&Name>,
     binding: Binding,
 ) -> Result<(), AllocError>
-    ensures { OnOk result (names.new.items ≡ names.old.items ++ bound_name name binding) }
+    ensures { OnOk result (names.new.items ≡ names.old.items ++ bound_name (option_copied name.entry) binding) }
 {
     if let Some(name) = name {
-        names.push((name, binding))?;
+        names.push((*name, binding))?;
     }
     Ok(())
 }
@@ -61,11 +61,14 @@ pub(crate) fn names_of_call(
     ensures { IfOk result (λ names. (lines : List ℤ) → names.items ≡ names_of_call (seen scene.entry lines) definition.now left right) }
 {
     let header = definition.header();
-    let mut names = Vec::new(alloc);
-    push_named(&mut names, header.result, Binding::Unset)?;
-    push_named(&mut names, header.left, bound_to(left))?;
-    push_named(&mut names, header.right, bound_to(right))?;
-    push_locals(&mut names, scene, header.locals.as_slice())?;
-    push_labels(&mut names, definition.labels())?;
+    let locals = header.locals.as_slice();
+    let labels = definition.labels();
+    let count = locals.len().saturating_add(labels.len()).saturating_add(3);
+    let mut names = Vec::with_capacity(alloc, count)?;
+    push_named(&mut names, header.result.as_ref(), Binding::Unset)?;
+    push_named(&mut names, header.left.as_ref(), bound_to(left))?;
+    push_named(&mut names, header.right.as_ref(), bound_to(right))?;
+    push_locals(&mut names, scene, locals)?;
+    push_labels(&mut names, labels)?;
     Ok(names)
 }

@@ -7,9 +7,9 @@ ghost use Rattle.apl_machine_state.specs.Frames.{IsFrame};
 ghost use Rattle.apl_machine_state.specs.Objects.{cleared, erased, globals, levels, vectors_of};
 ghost use Rattle.apl_machine_state.specs.State.{State, clear, definition_of, interrupt, is_global_variable, is_idle};
 ghost use Rattle.apl_machine_state.specs.State.{progress, step, turn, value_of, with_function, with_lines};
-ghost use Rattle.apl_machine_state.specs.Beginning.{begun, started};
-ghost use Rattle.apl_tokens.specs.Tokens.{tokens_of};
+ghost use Rattle.apl_machine_state.specs.Beginning.{begun};
 ghost use Rattle.apl_contexts.specs.Contexts.{line_in};
+ghost use Rattle.apl_contexts.specs.Typed.{IsTyped};
 ghost use Rattle.apl_names.specs.Maps.{IsMap};
 ghost use Rattle.apl_machine.specs.Refusals.{error_number};
 ghost use Rattle.apl_machine.specs.Spaces.{IsSound, state_of};
@@ -20,7 +20,7 @@ use crate::stepping::{abandon, make, progress_of};
 use crate::workspace::Workspace;
 use apl_arrays::{Array, Origin};
 use apl_charset::{Ch, Text};
-use apl_contexts::{Context, Contexts, Lines, Statement, begin_line};
+use apl_contexts::{Context, Contexts, Lines, Statement};
 use apl_defn::Definition;
 use apl_faults::Fault;
 use apl_frames::Frame;
@@ -28,12 +28,13 @@ use apl_machine_state::{Level, OutLine, Progress};
 use apl_names::Names;
 use apl_phrases::{colon_of, said};
 use apl_symbols::{Class, Name};
-use apl_tokens::{Token, tokens};
-use apl_translate::Cache;
+use apl_tokens::tokens;
+use apl_translate::{Cache, Translated};
 use apl_vectors::Vectors;
 use std::alloc::{AllocError, Global};
 use std::marker::Model;
 use std::mem;
+use std::rc::Rc;
 use thiserror::Error;
 
 /// A workspace with what runs in it.
@@ -97,9 +98,21 @@ fn begin(workspace: &mut Workspace, text: &[Ch]) -> Result<(), AllocError>
     ensures ok { OnOk result (state_of workspace.new ≡ begun (state_of workspace.old) text.now) }
     ensures err { OnErr result (workspace.new ≡ workspace.old) }
 {
+    if let Some(line) = workspace.lines.typed(&workspace.names, text) {
+        let line = line.clone()?;
+        return start(workspace, text, line);
+    }
     let mut lines = match tokens(workspace.alloc, text) {
         Ok(tokens) => match colon_of(tokens.as_slice()) {
-            None => return begin_statement(workspace, text, tokens.as_slice()),
+            None => {
+                let line = workspace.lines.bind_typed(
+                    &workspace.names,
+                    &mut workspace.cache,
+                    text,
+                    tokens.as_slice(),
+                )?;
+                return start(workspace, text, line);
+            }
             Some(column) => typed_fault(workspace.alloc, Fault::Syntax, text, column)?,
         },
         Err(error) => token_fault(workspace.alloc, error, text)?,
@@ -108,26 +121,17 @@ fn begin(workspace: &mut Workspace, text: &[Ch]) -> Result<(), AllocError>
     Ok(())
 }
 
-/// Begins the statement of these tokens, a typed text's, on an idle machine. After an error nothing
+/// Begins the statement of a typed text, whose line this is, on an idle machine. After an error nothing
 /// has changed.
-fn begin_statement(
-    workspace: &mut Workspace,
-    text: &[Ch],
-    tokens: &[Token],
-) -> Result<(), AllocError>
+fn start(workspace: &mut Workspace, text: &[Ch], line: Rc<Translated>) -> Result<(), AllocError>
     requires sound { IsSound workspace.old }
     requires idle { line_in workspace.old.contexts ≡ None }
-    requires read { tokens_of text.now ≡ Ok tokens.now }
+    requires typed { IsTyped workspace.old.maps text.now line.value.bound }
     ensures sound { IsSound workspace.new }
-    ensures ok { OnOk result (state_of workspace.new ≡ started (state_of workspace.old) text.now tokens.now None) }
+    ensures ok { OnOk result (state_of workspace.new ≡ begun (state_of workspace.old) text.now) }
     ensures err { OnErr result (workspace.new ≡ workspace.old) }
 {
-    let line = begin_line(
-        workspace.alloc,
-        &workspace.names,
-        &mut workspace.cache,
-        tokens,
-    )?;
+    let line = workspace.lines.begin(line)?;
     let text = Text::new(Vec::from_slice(workspace.alloc, text)?);
     workspace
         .contexts

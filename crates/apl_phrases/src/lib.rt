@@ -17,7 +17,8 @@ pub use assign::origin_scalar;
 pub use effect::{Deed, Effect};
 pub use execute::colon_of;
 pub use frequent::{
-    NumberAssigned, assigned, assigned_indexed, given, number_assigned, number_given,
+    FunctionCalled, NumberAssigned, assigned, assigned_indexed, called, given, number_assigned,
+    number_given,
 };
 pub use lines::said;
 pub use phrase::perform;

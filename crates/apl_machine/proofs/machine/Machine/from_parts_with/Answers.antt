@@ -1,4 +1,3 @@
-use Rattle.std.proofs.Common.{◌≤◌, sym, subst}
 use Rattle.apl_arrays.specs.Origins.{origin_number}
 use Rattle.apl_machine.specs.Worlds.{settings}
 use Rattle.apl_machine.proofs.Held.{restored_held}

@@ -1,6 +1,3 @@
-use Rattle.std.proofs.Common.{◌≤◌, sym, subst}
-use Rattle.apl_contexts.specs.Contexts.{standing}
-use Rattle.apl_machine.specs.Spaces.{Space}
 use Rattle.apl_machine.proofs.Few.{few_calls}
 use Rattle.apl_machine.proofs.Held.{step_held}
 use Rattle.apl_machine.proofs.machine.Machine.step.Goals as goal
