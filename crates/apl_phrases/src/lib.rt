@@ -14,6 +14,7 @@ mod scene;
 mod watch;
 
 pub use assign::origin_scalar;
+pub use calls::copied;
 pub use effect::{Deed, Effect};
 pub use execute::colon_of;
 pub use frequent::{
