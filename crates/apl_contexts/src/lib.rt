@@ -10,7 +10,6 @@ mod moves;
 mod stack;
 mod typed;
 
-pub use beginning::begin_line;
 pub use context::{Call, Context, Statement};
 pub use contexts::Contexts;
 pub use lines::Lines;

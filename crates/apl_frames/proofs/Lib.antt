@@ -6,3 +6,4 @@ pub mod Going
 pub mod Pendent
 pub mod Depth
 pub mod Missing
+pub mod Stacking

@@ -1,2 +1,3 @@
 pub mod Flat
 pub mod Ends
+pub mod Stacked

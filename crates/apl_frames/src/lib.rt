@@ -2,5 +2,7 @@
 #![tactic(auto)]
 
 mod frame;
+mod stack;
 
 pub use frame::{Frame, FrameBuf, Stage};
+pub use stack::OperandStack;

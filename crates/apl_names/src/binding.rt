@@ -1,5 +1,7 @@
 //! What a name stands for.
 ghost use Rattle.std.specs.Prelude.{◌≡◌, is_some, unwrap_or, option_copied, Some, IfOk};
+ghost use Rattle.apl_arrays.specs.declared.cell.Cell.TheVariants.{Num};
+ghost use Rattle.apl_arrays.specs.Simple.{single};
 ghost use Rattle.apl_names.specs.Maps.{value_in, class_in, is_function, with_value};
 
 use crate::function::DefinedFunction;
@@ -79,6 +81,20 @@ impl Binding {
         match self {
             Binding::Value(own) => {
                 exchange(own, value);
+                true
+            }
+            Binding::Unset | Binding::Label(_) | Binding::Function(_) => false,
+        }
+    }
+
+    /// Writes a number in the place of its value, if it has one, and says whether it has one.
+    pub(crate) fn put_number(&mut self, number: i64) -> bool
+        ensures told { result ≡ is_some (value_in (Some self.old)) }
+        ensures put { Some self.new ≡ with_value (single (Num number)) (Some self.old) }
+    {
+        match self {
+            Binding::Value(own) => {
+                own.put_number(number);
                 true
             }
             Binding::Unset | Binding::Label(_) | Binding::Function(_) => false,

@@ -1,18 +1,23 @@
 //! `⍎`, a text that is executed.
-ghost use Rattle.std.specs.Prelude.{◌≡◌, ◌≢◌, ℤ, IfErr, IfOk, List, Ok, Option, option_copied};
+ghost use Rattle.std.specs.Prelude.{◌≡◌, ◌≢◌, ℤ, IfErr, IfOk, IfSome, List, Ok, Option, Some, option_copied, true};
 ghost use Rattle.apl_machine_state.specs.declared.operand.Operand.{Operand};
 ghost use Rattle.apl_machine_state.specs.Outcomes.{execute, executed_as, executed_by, text_in};
+ghost use Rattle.apl_machine_state.specs.Watching.{is_list};
 ghost use Rattle.apl_machine_state.specs.Texts.{colon_of, fault_of};
 ghost use Rattle.apl_tokens.specs.Tokens.{tokens_of};
-ghost use Rattle.apl_phrases.specs.Effects.{Does};
+ghost use Rattle.apl_operands.specs.Operands.{Offers, fetched_from};
+ghost use Rattle.apl_phrases.specs.Effects.{Does, ExecutesAs, acted};
 
 use crate::effect::Effect;
 use crate::scene::{MAX_CALLS, Scene};
 use crate::watch::is_list;
 use apl_arrays::{Array, Elements};
 use apl_charset::{Ch, Text};
+use apl_code::{Action, Function, Row, Source};
 use apl_faults::Fault;
-use apl_symbols::Symbol;
+use apl_operands::{Operands, arguments};
+use apl_primitives::Arguments;
+use apl_symbols::{Primitive, Symbol};
 use apl_tokens::{Kind, Token, TokenError, tokens};
 use std::alloc::{AllocError, Global};
 
@@ -58,6 +63,36 @@ fn fault_of(error: TokenError) -> Result<Fault, AllocError>
     }
 }
 
+/// The text that `⍎ B` executes, if it is a line without a label, where `B` is a list of characters and not too many calls and executes
+/// stand. It isn't read here.
+pub fn executed<'a>(
+    scene: Scene<'_>,
+    action: &Action,
+    sources: &[Option<Source>],
+    operands: Operands<'a>,
+) -> Option<&'a [Ch]>
+    requires { Offers operands sources.now }
+    ensures { IfSome result (λ text. ExecutesAs scene.entry (λ s. acted s action.now (fetched_from operands.entry sources.now)) text.now) }
+{
+    let Action::Phrase(Row::Monadic(Function::Primitive(Primitive::Execute))) = action else {
+        return None;
+    };
+    if scene.standing >= MAX_CALLS {
+        return None;
+    }
+    match arguments(sources, operands) {
+        Arguments::One(b) => list_text(b),
+        _ => None,
+    }
+}
+
+/// The text that a list is.
+fn list_text(b: &Array) -> Option<&[Ch]>
+    ensures { IfSome result (λ text. (is_list b.now ≡ true) × (text_in b.now.items ≡ Some text.now)) }
+{
+    if is_list(b) { text_in(b) } else { None }
+}
+
 /// What is done where a text of these tokens is executed.
 fn executed_as(
     alloc: Global,
@@ -79,7 +114,7 @@ fn executed_as(
 }
 
 /// What is done where a text is executed.
-fn executed(alloc: Global, scene: Scene<'_>, text: &[Ch]) -> Result<Effect, AllocError>
+fn executed_text(alloc: Global, scene: Scene<'_>, text: &[Ch]) -> Result<Effect, AllocError>
     ensures { IfOk result (Does scene.entry (λ s. executed_by s text.now (tokens_of text.now))) }
 {
     match tokens(alloc, text) {
@@ -96,7 +131,7 @@ pub fn execute(alloc: Global, scene: Scene<'_>, b: &Array) -> Result<Effect, All
         return Ok(Effect::Fails(Fault::Rank));
     }
     match text_in(b) {
-        Some(text) => executed(alloc, scene, text),
+        Some(text) => executed_text(alloc, scene, text),
         None => Ok(Effect::Fails(Fault::Domain)),
     }
 }

@@ -16,7 +16,7 @@ mod watch;
 pub use assign::origin_scalar;
 pub use calls::copied;
 pub use effect::{Deed, Effect};
-pub use execute::colon_of;
+pub use execute::{colon_of, executed};
 pub use frequent::{
     FunctionCalled, NumberAssigned, assigned, assigned_indexed, called, given, number_assigned,
     number_given,

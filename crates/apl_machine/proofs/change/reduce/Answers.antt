@@ -64,4 +64,4 @@ returns-in-Executes c =
     let h = rw c.as_slice-sources.ensures at (c.in_ok-operand.ensures lines) in
     let executes = executes_it lines c.in_ok-operand.field-0 c.in-Executes.text c.in-Executes.tokens o ps c.in-Executes.is h in
     let beneath = rw c.as_slice-sources.ensures at c.left-left-in-Executes.ensures.left in
-    λ ms. (c.left-left-in-Executes.ensures.within, beneath, executes.0, executes.1)
+    λ ms. (c.left-left-in-Executes.ensures.within, beneath, executes.0, executes.1, executes.2)

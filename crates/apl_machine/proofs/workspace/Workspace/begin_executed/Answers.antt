@@ -1,4 +1,4 @@
-use Rattle.std.proofs.Common.{◌≡◌, true, List, refl, sym, ap, ◌∙◌, subst}
+use Rattle.std.proofs.Common.{◌≡◌, true, List, Result, Ok, refl, sym, ap, ◌∙◌, subst}
 use Rattle.std.specs.Prelude.{is_some}
 use Rattle.apl_arrays.specs.Origins.{origin_number}
 use Rattle.apl_contexts.specs.declared.context.Context.{Context}
@@ -6,7 +6,14 @@ use Rattle.apl_contexts.specs.Contexts.{line_in}
 use Rattle.apl_machine.specs.Spaces.{Space, IsSound, executed_in}
 use Rattle.apl_machine.specs.Worlds.{settings, state_at}
 use Rattle.apl_machine.proofs.Executed.{executed_is, executed_sound}
-use Rattle.apl_machine.proofs.workspace.Workspace.execute.Goals as goal
+use Rattle.apl_machine_state.specs.Items.{fresh}
+use Rattle.apl_tokens.specs.declared.token.Token.{Token}
+use Rattle.apl_tokens.specs.declared.line.TokenError.{TokenError}
+use Rattle.apl_contexts.specs.Typed.{IsTyped}
+use Rattle.apl_machine.proofs.workspace.Workspace.begin_executed.Goals as goal
+
+one_reading : {a b : List Token} → ◌≡◌ {A = Result (List Token) TokenError} (Ok a) (Ok b) → a ≡ b
+one_reading h = cc
 
 pub returns-clause-sound : goal.returns-clause-sound
 returns-clause-sound c =
@@ -17,9 +24,12 @@ returns-clause-sound c =
     (executed_sound s (record { text = c.args.text; line = c.in_ok-line.line }) c.args.left sound runs c.in_ok-line.ensures.ready)
 
 pub returns-clause-ok : goal.returns-clause-ok
-returns-clause-ok c =
+returns-clause-ok c tokens read =
     let s : Space = record { maps = c.self.inside.names; kept = settings c.self.inside.stops c.self.inside.traces (origin_number c.self.inside.io); contexts = c.self.inside.contexts; output = c.self.inside.output.items } in
     let sound : IsSound s = subst IsSound (sym c.self.view_is) c.requires.sound in
+    let t : IsTyped s.maps c.args.text c.args.line.value.bound = subst (λ (x : Space). IsTyped x.maps c.args.text c.args.line.value.bound) (sym c.self.view_is) c.requires.line in
+    let same : t.0 ≡ tokens = one_reading (sym t.1.0 ∙ read) in
     ap (λ (l : List Context). state_at s.maps s.kept l s.output) c.in_ok-enter.ensures.ok
-    ∙ executed_is s.maps s.kept s.output s.contexts (record { text = c.args.text; line = c.in_ok-line.line }) c.args.text c.args.tokens.now c.args.left sound.contexts.as_many refl c.in_ok-line.ensures.rest
-    ∙ ap (λ (x : Space). executed_in x c.args.text c.args.tokens.now c.args.left) c.self.view_is
+    ∙ executed_is s.maps s.kept s.output s.contexts (record { text = c.args.text; line = c.in_ok-line.line }) c.args.text t.0 c.args.left sound.contexts.as_many refl (c.in_ok-line.ensures.rest ∙ ap fresh t.1.2)
+    ∙ ap (λ (ts : List Token). executed_in s c.args.text ts c.args.left) same
+    ∙ ap (λ (x : Space). executed_in x c.args.text tokens c.args.left) c.self.view_is
