@@ -1,5 +1,5 @@
 //! `⍎`, a text that is executed.
-ghost use Rattle.std.specs.Prelude.{◌≡◌, ◌≢◌, ℤ, IfErr, IfOk, IfSome, List, Ok, Option, Some, option_copied, true};
+ghost use Rattle.std.specs.Prelude.{◌≡◌, ◌≢◌, ℤ, IfErr, IfOk, IfSome, List, None, Ok, Option, Some, option_copied, true};
 ghost use Rattle.apl_machine_state.specs.declared.operand.Operand.{Operand};
 ghost use Rattle.apl_machine_state.specs.Outcomes.{execute, executed_as, executed_by, text_in};
 ghost use Rattle.apl_machine_state.specs.Watching.{is_list};
@@ -88,7 +88,8 @@ pub fn executed<'a>(
 
 /// The text that a list is.
 fn list_text(b: &Array) -> Option<&[Ch]>
-    ensures { IfSome result (λ text. (is_list b.now ≡ true) × (text_in b.now.items ≡ Some text.now)) }
+    ensures text { IfSome result (λ text. (is_list b.now ≡ true) × (text_in b.now.items ≡ Some text.now)) }
+    ensures none { option_copied result ≡ None → is_list b.now ≡ true → text_in b.now.items ≡ None }
 {
     if is_list(b) { text_in(b) } else { None }
 }
