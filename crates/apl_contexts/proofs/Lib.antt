@@ -1,4 +1,5 @@
 pub mod Bindable
+pub mod Deciding
 pub mod LineNumbers
 pub mod Kept
 pub mod Nearest

@@ -1,6 +1,8 @@
+pub mod Bound
 pub mod Callers
 pub mod Moves
 pub mod Contexts
 pub mod Stacks
 pub mod Kept
+pub mod Known
 pub mod Typed

@@ -2,14 +2,16 @@
 //! place, and how their lines begin.
 #![tactic(auto)]
 
-mod beginning;
+mod bound;
 mod context;
 mod contexts;
+mod known;
 mod lines;
 mod moves;
 mod stack;
 mod typed;
 
+pub use bound::Bound;
 pub use context::{Call, Context, Statement};
 pub use contexts::Contexts;
 pub use lines::Lines;

@@ -32,7 +32,8 @@ impl Workspace {
             let bound = self
                 .lines
                 .line(&self.names, &mut self.cache, call.function(), at, tokens)?;
-            let line = self.lines.begin(bound)?;
+            let translated = bound.line().clone()?;
+            let line = self.lines.begin(translated)?;
             put_away(&mut self.lines, self.contexts.leave());
             self.contexts.put_line(at, line);
             return Ok(());

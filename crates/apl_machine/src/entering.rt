@@ -34,7 +34,8 @@ impl Workspace {
         let bound = self
             .lines
             .line(&self.names, &mut self.cache, &function, 1, tokens)?;
-        let line = self.lines.begin(bound)?;
+        let translated = bound.line().clone()?;
+        let line = self.lines.begin(translated)?;
         let call = Call::new(function, 1, line);
         self.contexts.enter(Context::Call(call), left)?;
         Ok(())

@@ -17,7 +17,7 @@ returns-clause-ok c =
     let sound : IsSound s = subst IsSound (sym c.workspace.view_is) c.requires.sound in
     let t : IsTyped s.maps c.args.text.now c.args.line.value.bound = subst (λ (x : Space). IsTyped x.maps c.args.text.now c.args.line.value.bound) (sym c.workspace.view_is) c.requires.typed in
     ap (λ (l : List Context). state_at s.maps s.kept l s.output) c.in_ok-push.ensures.ok
-    ∙ started_is s.maps s.kept s.output s.contexts (record { text = c.new-text.result; line = c.in_ok-line.line }) c.args.text.now t.0 sound.contexts.as_many (c.new-text.ensures ∙ c.in_ok-from_slice.ensures.items) (c.in_ok-line.ensures.rest ∙ ap fresh t.1.2)
+    ∙ started_is s.maps s.kept s.output s.contexts (record { text = c.new-text.result; line = c.in_ok-line.line }) c.args.text.now t.0 sound.contexts.as_many (c.new-text.ensures ∙ c.in_ok-from_slice.ensures.items) (c.in_ok-line.ensures.rest ∙ ap fresh t.2)
     ∙ ap (started (state_of s) c.args.text.now t.0) (sym t.1.1)
     ∙ ap (begun_by (state_of s) c.args.text.now) (sym t.1.0)
     ∙ ap (λ (x : Space). begun (state_of x) c.args.text.now) c.workspace.view_is

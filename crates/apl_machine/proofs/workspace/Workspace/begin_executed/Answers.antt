@@ -30,6 +30,6 @@ returns-clause-ok c tokens read =
     let t : IsTyped s.maps c.args.text c.args.line.value.bound = subst (λ (x : Space). IsTyped x.maps c.args.text c.args.line.value.bound) (sym c.self.view_is) c.requires.line in
     let same : t.0 ≡ tokens = one_reading (sym t.1.0 ∙ read) in
     ap (λ (l : List Context). state_at s.maps s.kept l s.output) c.in_ok-enter.ensures.ok
-    ∙ executed_is s.maps s.kept s.output s.contexts (record { text = c.args.text; line = c.in_ok-line.line }) c.args.text t.0 c.args.left sound.contexts.as_many refl (c.in_ok-line.ensures.rest ∙ ap fresh t.1.2)
+    ∙ executed_is s.maps s.kept s.output s.contexts (record { text = c.args.text; line = c.in_ok-line.line }) c.args.text t.0 c.args.left sound.contexts.as_many refl (c.in_ok-line.ensures.rest ∙ ap fresh t.2)
     ∙ ap (λ (ts : List Token). executed_in s c.args.text ts c.args.left) same
     ∙ ap (λ (x : Space). executed_in x c.args.text tokens c.args.left) c.self.view_is
