@@ -43,6 +43,8 @@ impl Light {
 }
 
 impl Move {
+    /// What becomes of a line.
+    #[inline(always)]
     pub(crate) fn apply(self, line: &mut FrameBuf)
         requires { CanMove self line.old }
         ensures { line.new ≡ moved_by self line.old }

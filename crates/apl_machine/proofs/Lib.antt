@@ -8,6 +8,7 @@ pub mod Lines
 pub mod Given
 pub mod Resumed
 pub mod CallNames
+pub mod CameIn
 pub mod Entered
 pub mod Ends
 pub mod Executed

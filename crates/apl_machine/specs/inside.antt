@@ -1,4 +1,5 @@
 pub mod Leaving
+pub mod Locals
 pub mod Next
 pub mod Paces
 pub mod Reduced

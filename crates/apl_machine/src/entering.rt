@@ -1,23 +1,24 @@
 //! Calls begin.
 ghost use Rattle.std.specs.Prelude.{◌≡◌, ◌<◌, true, slice_get, IfOk, IfSome, IsSome, OnErr, OnOk, Some};
+ghost use Rattle.apl_arrays.specs.Origins.{origin_number};
 ghost use Rattle.apl_code.specs.declared.instr.Instr.{Instr};
 ghost use Rattle.apl_defn.specs.Definitions.{is_line};
 ghost use Rattle.apl_frames.specs.Ends.{IsColumn};
 ghost use Rattle.apl_machine_state.specs.declared.operand.Operand.TheVariants.{Value};
 ghost use Rattle.apl_contexts.specs.Contexts.{line_in, suspended};
 ghost use Rattle.apl_contexts.specs.Moves.{CanMove};
-ghost use Rattle.apl_machine.specs.Spaces.{HasEntered, IsSound, called_in, entered_in, nothing_in, state_of, stopped_in};
+ghost use Rattle.apl_machine.specs.inside.Locals.{entered_with};
+ghost use Rattle.apl_machine.specs.Spaces.{HasComeIn, HasEntered, IsSound, called_in, nothing_in, state_of, stopped_in};
 
-use crate::locals::names_of_call;
+use crate::locals::{open_scope, origin_for};
 use crate::reports::context_fault;
 use crate::traces::stop_report;
 use crate::workspace::Workspace;
-use apl_arrays::Array;
+use apl_arrays::{Array, Origin};
 use apl_contexts::{Call, Context, Move};
 use apl_faults::Fault;
-use apl_names::{Binding, DefinedFunction};
+use apl_names::DefinedFunction;
 use apl_phrases::Scene;
-use apl_symbols::Name;
 use std::alloc::AllocError;
 
 impl Workspace {
@@ -41,34 +42,39 @@ impl Workspace {
         Ok(())
     }
 
-    /// A call of a function with these names is suspended before its first line, which is reported.
-    /// After an error nothing has changed.
-    fn stop_call(
-        &mut self,
-        function: DefinedFunction,
-        names: Vec<(Name, Binding)>,
-        left: usize,
-    ) -> Result<(), AllocError>
-        requires sound { IsSound self.old }
+    /// A call of a function, whose names stand in the newest scope, is suspended before its first line,
+    /// which is reported. After an error nothing has changed.
+    fn stop_call(&mut self, function: DefinedFunction, left: usize) -> Result<(), AllocError>
         requires can { IfSome (line_in self.old.contexts) (λ f. CanMove (Move.Awaits left) f) }
         requires line { is_line function 1 ≡ true }
-        ensures ok { OnOk result (self.new ≡ stopped_in self.old names.items function left) }
+        ensures ok { OnOk result (self.new ≡ stopped_in self.old function left) }
         ensures err { OnErr result (self.new ≡ self.old) }
     {
         let report = stop_report(self.alloc, function.definition(), 1)?;
         self.output.reserve(1)?;
-        self.names.enter(names)?;
         let call = Call::stopped(function, 1);
-        match self.contexts.enter(Context::Call(call), left) {
-            Ok(()) => {
-                self.output.push(report).unwrap();
-                Ok(())
-            }
-            Err(AllocError) => {
-                self.names.leave();
-                Err(AllocError)
-            }
+        self.contexts.enter(Context::Call(call), left)?;
+        self.output.push(report).unwrap();
+        Ok(())
+    }
+
+    /// A call of a function, whose names stand in the newest scope, is suspended before its first line, or
+    /// begins it. After an error nothing has changed.
+    fn come_in(
+        &mut self,
+        function: DefinedFunction,
+        stops: bool,
+        left: usize,
+    ) -> Result<(), AllocError>
+        requires can { IfSome (line_in self.old.contexts) (λ f. CanMove (Move.Awaits left) f) }
+        requires line { is_line function 1 ≡ true }
+        ensures ok { OnOk result (HasComeIn stops self.old self.new function left) }
+        ensures err { OnErr result (self.new ≡ self.old) }
+    {
+        if stops {
+            return self.stop_call(function, left);
         }
+        self.begin_call(function, left)
     }
 
     /// A function without lines is called from the newest line, and returns at once, without a
@@ -105,12 +111,14 @@ impl Workspace {
         Ok(())
     }
 
-    /// A call of a function with lines and these names begins its first line, or stops before it.
-    /// Tells whether it stopped. After an error nothing has changed.
+    /// A call of a function with lines and these arguments, whose local `⎕IO` has this origin at first,
+    /// begins its first line, or stops before it. Tells whether it stopped. After an error nothing has
+    /// changed.
     fn call_with(
         &mut self,
         function: DefinedFunction,
-        names: Vec<(Name, Binding)>,
+        arguments: (Option<Array>, Option<Array>),
+        origin: Origin,
         left: usize,
     ) -> Result<bool, AllocError>
         requires sound { IsSound self.old }
@@ -118,17 +126,21 @@ impl Workspace {
         requires line { is_line function 1 ≡ true }
         requires runs { IsSome (line_in self.old.contexts) }
         ensures sound { IsSound self.new }
-        ensures ok { OnOk result (state_of self.new ≡ (entered_in self.old names.items function left).state) }
-        ensures stopped { IfOk result (λ stopped. stopped ≡ (entered_in self.old names.items function left).stopped) }
+        ensures ok { OnOk result (state_of self.new ≡ (entered_with self.old (origin_number origin) function arguments.0 arguments.1 left).state) }
+        ensures stopped { IfOk result (λ stopped. stopped ≡ (entered_with self.old (origin_number origin) function arguments.0 arguments.1 left).stopped) }
         ensures err { OnErr result (self.new ≡ self.old) }
     {
-        if self.stops.has(&function.definition().header().name, 1) {
-            self.stop_call(function, names, left)?;
-            return Ok(true);
-        }
-        self.names.enter(names)?;
-        match self.begin_call(function, left) {
-            Ok(()) => Ok(false),
+        let stops = self.stops.has(&function.definition().header().name, 1);
+        let (first, second) = arguments;
+        open_scope(
+            &mut self.names,
+            origin,
+            function.definition(),
+            first,
+            second,
+        )?;
+        match self.come_in(function, stops, left) {
+            Ok(()) => Ok(stops),
             Err(AllocError) => {
                 self.names.leave();
                 Err(AllocError)
@@ -154,17 +166,17 @@ impl Workspace {
         ensures stopped { IfOk result (λ stopped. stopped ≡ (called_in self.old function arguments.0 arguments.1 left).stopped) }
         ensures err { OnErr result (self.new ≡ self.old) }
     {
+        if function.definition().len() == 0 {
+            self.call_nothing(left)?;
+            return Ok(false);
+        }
         let scene = Scene {
             names: &self.names,
             io: self.io,
             standing: self.contexts.standing(),
         };
-        let (first, second) = arguments;
-        let names = names_of_call(self.alloc, scene, function.definition(), first, second)?;
-        if function.definition().len() == 0 {
-            self.call_nothing(left)?;
-            return Ok(false);
-        }
-        self.call_with(function, names, left)
+        let locals = function.definition().header().locals.as_slice();
+        let origin = origin_for(scene, locals);
+        self.call_with(function, arguments, origin, left)
     }
 }

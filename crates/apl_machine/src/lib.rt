@@ -2,6 +2,7 @@
 //! step.
 #![tactic(auto)]
 
+mod arriving;
 mod branching;
 mod change;
 mod departure;

@@ -1,74 +1,105 @@
 //! The names that a call begins with.
-ghost use Rattle.std.specs.Prelude.{◌≡◌, ◌≤◌, ◌++◌, ℤ, IfOk, List, OnOk, map, option_copied};
-ghost use Rattle.apl_machine_state.specs.Calls.{local_of, bound_name, names_of_call};
+ghost use Rattle.std.specs.Prelude.{◌≡◌, ◌≤◌, ◌∷◌, ℤ, List, OnErr, OnOk, map, option_copied};
+ghost use Rattle.apl_arrays.specs.Origins.{origin_number};
+ghost use Rattle.apl_machine_state.specs.Calls.{bound_name, local_of, names_of_call};
+ghost use Rattle.apl_names.specs.Maps.{AreBeneath, map_of, with_locals};
 ghost use Rattle.apl_phrases.specs.Effects.{seen};
+ghost use Rattle.apl_machine.specs.inside.Locals.{alone};
 
-use apl_arrays::Array;
+use apl_arrays::{Array, Origin};
 use apl_defn::Definition;
-use apl_names::Binding;
-use apl_parts::{bound_to, push_labels};
+use apl_names::{Binding, Names};
+use apl_parts::{bind_labels, bound_to};
 use apl_phrases::{Scene, origin_name, origin_scalar};
 use apl_symbols::Name;
-use std::alloc::{AllocError, Global};
+use std::alloc::AllocError;
 
-/// Adds a name, where there is one.
-fn push_named(
-    names: &mut Vec<(Name, Binding)>,
-    name: Option<&Name>,
-    binding: Binding,
-) -> Result<(), AllocError>
-    ensures { OnOk result (names.new.items ≡ names.old.items ++ bound_name (option_copied name.entry) binding) }
+/// The index origin that a local `⎕IO` has at first, where it is among these locals: the caller's.
+pub(crate) fn origin_for(scene: Scene<'_>, locals: &[Name]) -> Origin
+    ensures { (lines : List ℤ) → map (local_of (seen scene.entry lines)) locals.now ≡ map (local_of (alone (origin_number result))) locals.now }
 {
-    if let Some(name) = name {
-        names.push((*name, binding))?;
+    if locals.is_empty() {
+        return Origin::One;
     }
-    Ok(())
+    if locals.contains(&origin_name()) {
+        return scene.origin();
+    }
+    Origin::One
 }
 
 /// What a local stands for as a call begins: nothing yet, but `⎕IO` has the caller's value.
-fn local_of(scene: Scene<'_>, name: &Name) -> (Name, Binding)
-    ensures { (lines : List ℤ) → result ≡ local_of (seen scene.entry lines) name.now }
+fn local_of(origin: Origin, name: &Name) -> Binding
+    ensures { (name.now, result) ≡ local_of (alone (origin_number origin)) name.now }
 {
     if *name == origin_name() {
-        (*name, Binding::Value(origin_scalar(scene.origin())))
+        Binding::Value(origin_scalar(origin))
     } else {
-        (*name, Binding::Unset)
+        Binding::Unset
     }
 }
 
-/// Adds the locals.
-fn push_locals(
-    names: &mut Vec<(Name, Binding)>,
-    scene: Scene<'_>,
-    locals: &[Name],
-) -> Result<(), AllocError>
-    ensures { OnOk result ((lines : List ℤ) → names.new.items ≡ names.old.items ++ map (local_of (seen scene.entry lines)) locals.now) }
+/// Makes a name, where there is one, stand for this in the newest scope.
+fn bind_named(names: &mut Names, name: Option<&Name>, binding: Binding) -> Result<(), AllocError>
+    ensures ok { OnOk result (names.new ≡ with_locals (bound_name (option_copied name.entry) binding) names.old) }
+    ensures err { OnErr result (names.new ≡ names.old) }
 {
-    for local in locals {
-        names.push(local_of(scene, local))?;
+    match name {
+        Some(name) => names.bind(name, binding),
+        None => Ok(()),
+    }
+}
+
+/// Makes locals stand in the newest scope for what they stand for as a call begins. After an error some
+/// of them do.
+fn bind_locals(names: &mut Names, locals: &[Name], origin: Origin) -> Result<(), AllocError>
+    ensures ok { OnOk result (names.new ≡ with_locals (map (local_of (alone (origin_number origin))) locals.now) names.old) }
+    ensures beneath { AreBeneath names.old names.new }
+{
+    let mut left = locals;
+    while let Some((local, front)) = left.split_last() {
+        names.bind(local, local_of(origin, local))?;
+        left = front;
     }
     Ok(())
 }
 
-/// What the names of a call stand for as it begins.
-pub(crate) fn names_of_call(
-    alloc: Global,
-    scene: Scene<'_>,
+/// Makes all names of a call stand in the newest scope for what they stand for as it begins, the last
+/// first: of two of one name, the first stands. After an error some of them do.
+fn bind_names(
+    names: &mut Names,
+    origin: Origin,
     definition: &Definition,
     left: Option<Array>,
     right: Option<Array>,
-) -> Result<Vec<(Name, Binding)>, AllocError>
-    ensures { IfOk result (λ names. (lines : List ℤ) → names.items ≡ names_of_call (seen scene.entry lines) definition.now left right) }
+) -> Result<(), AllocError>
+    ensures ok { OnOk result (names.new ≡ with_locals (names_of_call (alone (origin_number origin)) definition.now left right) names.old) }
+    ensures beneath { AreBeneath names.old names.new }
 {
     let header = definition.header();
-    let locals = header.locals.as_slice();
-    let labels = definition.labels();
-    let count = locals.len().saturating_add(labels.len()).saturating_add(3);
-    let mut names = Vec::with_capacity(alloc, count)?;
-    push_named(&mut names, header.result.as_ref(), Binding::Unset)?;
-    push_named(&mut names, header.left.as_ref(), bound_to(left))?;
-    push_named(&mut names, header.right.as_ref(), bound_to(right))?;
-    push_locals(&mut names, scene, locals)?;
-    push_labels(&mut names, labels)?;
-    Ok(names)
+    bind_labels(names, definition.labels())?;
+    bind_locals(names, header.locals.as_slice(), origin)?;
+    bind_named(names, header.right.as_ref(), bound_to(right))?;
+    bind_named(names, header.left.as_ref(), bound_to(left))?;
+    bind_named(names, header.result.as_ref(), Binding::Unset)
+}
+
+/// The newest scope is that of a call from now on, with its names. After an error nothing has changed.
+pub(crate) fn open_scope(
+    names: &mut Names,
+    origin: Origin,
+    definition: &Definition,
+    left: Option<Array>,
+    right: Option<Array>,
+) -> Result<(), AllocError>
+    ensures ok { OnOk result (names.new ≡ map_of (names_of_call (alone (origin_number origin)) definition.now left right) ∷ names.old) }
+    ensures err { OnErr result (names.new ≡ names.old) }
+{
+    names.open()?;
+    match bind_names(names, origin, definition, left, right) {
+        Ok(()) => Ok(()),
+        Err(AllocError) => {
+            names.leave();
+            Err(AllocError)
+        }
+    }
 }

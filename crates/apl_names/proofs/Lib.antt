@@ -12,3 +12,4 @@ pub mod Taking
 pub mod ScopeAnswers
 pub mod GlobalKinds
 pub mod Swaps
+pub mod Binds

@@ -162,7 +162,7 @@ not_hidden (e ∷ f) s q h = let n = neither (bytes_eq e.0 q) (has (keys_of f) q
 pub holds_laid : (ks : List Text) (s : Scope) (f : Contents) → Holds ks s → Holds (ks ++ keys_of f) (laid s f)
 holds_laid ks s f h q e = let n = neither (has ks q) (has (keys_of f) q) (sym (either ks (keys_of f) q) ∙ e) in not_hidden f s q n.1 ∙ h q n.0
 
-heads : (s t : Scope) (ss ts : List Scope) → s ∷ ss ≡ t ∷ ts → (s ≡ t) × (ss ≡ ts)
+pub heads : (s t : Scope) (ss ts : List Scope) → s ∷ ss ≡ t ∷ ts → (s ≡ t) × (ss ≡ ts)
 heads s t ss ts h = (cc, cc)
 
 -- the maps are those whose scopes are the stack

@@ -1,5 +1,5 @@
 -- The names in force: maps from names to what they stand for, the newest first and the global one last.
-use Rattle.std.specs.Prelude.{◌≡◌, ℕ, List, [], ◌∷◌, map, Bool, true, false, Option, Some, None, option_map, is_some, if◌then◌else◌}
+use Rattle.std.specs.Prelude.{◌≡◌, ℕ, List, [], ◌∷◌, drop, length, map, Bool, true, false, Option, Some, None, option_map, is_some, if◌then◌else◌}
 use Rattle.std.specs.Option.{option_or}
 use Rattle.std.specs.declared.cmp.Ordering.{Ordering}
 use Rattle.std.specs.declared.cmp.Ordering.TheVariants.{Less}
@@ -69,6 +69,20 @@ assigned [] n b = []
 assigned (m ∷ []) n b = with_entry n b m ∷ []
 assigned (m ∷ k ∷ ms) n b = if is_some (said m n) then with_entry n b m ∷ k ∷ ms else m ∷ assigned (k ∷ ms) n b
 
+-- n stands for b in the newest map
+abbrev pub with_local : Text → Binding → List Map → List Map
+with_local n b [] = []
+with_local n b (m ∷ ms) = with_entry n b m ∷ ms
+
+-- these names stand for that in the newest map; of two of one name, the first stands
+abbrev pub with_locals : List (Text × Binding) → List Map → List Map
+with_locals [] ms = ms
+with_locals (e ∷ es) ms = with_local e.0 e.1 (with_locals es ms)
+
+-- the newest map alone may be another
+abbrev pub AreBeneath : List Map → List Map → Type 0
+AreBeneath old new = (length new ≡ length old) × (drop 1 new ≡ drop 1 old)
+
 -- n stands for b in the global map
 abbrev pub with_global : Text → Binding → List Map → List Map
 with_global n b [] = []
@@ -93,6 +107,17 @@ value_in (Some (Function d)) = None
 abbrev pub with_value : Arr → Option Binding → Option Binding
 with_value a (Some (Value array)) = Some (Value a)
 with_value a binding = binding
+
+-- what a name stands for can become another value in its place: a value, or nothing yet
+abbrev pub takes_value : Option Binding → Bool
+takes_value (Some Unset) = true
+takes_value (Some (Value array)) = true
+takes_value binding = false
+
+-- a binding that has become the value a, if it takes one
+abbrev pub set_value : Arr → Option Binding → Option Binding
+set_value a (Some Unset) = Some (Value a)
+set_value a binding = with_value a binding
 
 -- the class of a name
 abbrev pub class_in : Option Binding → Class

@@ -2,7 +2,7 @@
 ghost use Rattle.std.specs.Prelude.{◌≡◌, is_some, unwrap_or, option_copied, Some, IfOk};
 ghost use Rattle.apl_arrays.specs.declared.cell.Cell.TheVariants.{Num};
 ghost use Rattle.apl_arrays.specs.Simple.{single};
-ghost use Rattle.apl_names.specs.Maps.{value_in, class_in, is_function, with_value};
+ghost use Rattle.apl_names.specs.Maps.{value_in, class_in, is_function, set_value, takes_value, with_value};
 
 use crate::function::DefinedFunction;
 use apl_arrays::Array;
@@ -87,17 +87,21 @@ impl Binding {
         }
     }
 
-    /// Writes a number in the place of its value, if it has one, and says whether it has one.
+    /// Writes a number in the place of its value, or of none yet, and says whether it did: a label or a function takes none.
     pub(crate) fn put_number(&mut self, number: i64) -> bool
-        ensures told { result ≡ is_some (value_in (Some self.old)) }
-        ensures put { Some self.new ≡ with_value (single (Num number)) (Some self.old) }
+        ensures told { result ≡ takes_value (Some self.old) }
+        ensures put { Some self.new ≡ set_value (single (Num number)) (Some self.old) }
     {
         match self {
             Binding::Value(own) => {
                 own.put_number(number);
                 true
             }
-            Binding::Unset | Binding::Label(_) | Binding::Function(_) => false,
+            Binding::Unset => {
+                *self = Binding::Value(Array::number(number));
+                true
+            }
+            Binding::Label(_) | Binding::Function(_) => false,
         }
     }
 

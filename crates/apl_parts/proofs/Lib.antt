@@ -7,3 +7,4 @@ pub mod Clear
 pub mod Lines
 pub mod InOrder
 pub mod Kept
+pub mod Locals

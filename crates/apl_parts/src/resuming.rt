@@ -4,7 +4,8 @@ ghost use Rattle.apl_defn.specs.Definitions.{is_line, line_of};
 ghost use Rattle.apl_frames.specs.declared.frame.Stage.TheVariants.{Pendent};
 ghost use Rattle.apl_frames.specs.Flat.{flat_rest, rest_with};
 ghost use Rattle.apl_machine_state.specs.Calls.{bound_to, label_of};
-ghost use Rattle.apl_names.specs.Maps.{first_map};
+ghost use Rattle.apl_names.specs.declared.binding.Binding.TheVariants.{Label};
+ghost use Rattle.apl_names.specs.Maps.{AreBeneath, first_map, map_of, with_locals};
 ghost use Rattle.apl_tokens.specs.Tokens.{tokens_of};
 ghost use Rattle.apl_translate.specs.Binding.{bound_of};
 ghost use Rattle.apl_parts.specs.Making.{HasAdded, Stand, Waits};
@@ -119,47 +120,53 @@ pub fn bound_to(value: Option<Array>) -> Binding
     }
 }
 
-/// Adds labels with what they stand for in a call: each is the number of its line. After an error a
-/// front of them may have been added.
-pub fn push_labels(
-    names: &mut Vec<(Name, Binding)>,
-    labels: &[(Name, usize)],
-) -> Result<(), AllocError>
-    requires { All (λ l. l.1 ≤ 999) labels.now }
-    ensures { OnOk result (names.new.items ≡ names.old.items ++ map label_of labels.now) }
+/// What a label stands for that is on this line.
+fn label_at(line: usize) -> Binding
+    requires { line ≤ 999 }
+    ensures { result ≡ Label line }
 {
-    for (name, line) in labels {
-        names.push((*name, Binding::Label(*line as u16)))?;
+    Binding::Label(line as u16)
+}
+
+/// Makes labels of the newest scope's stand for the numbers of their lines. Of two of one name, the first stands. After an error some of them
+/// do.
+pub fn bind_labels(names: &mut Names, labels: &[(Name, usize)]) -> Result<(), AllocError>
+    requires { All (λ l. l.1 ≤ 999) labels.now }
+    ensures ok { OnOk result (names.new ≡ with_locals (map label_of labels.now) names.old) }
+    ensures beneath { AreBeneath names.old names.new }
+{
+    let mut left = labels;
+    while let Some(((name, line), front)) = left.split_last() {
+        names.bind(name, label_at(*line))?;
+        left = front;
     }
     Ok(())
 }
 
-/// What locals stand for, in their order.
-fn bindings_of(
-    alloc: Global,
-    locals: Vec<(Name, Option<Array>)>,
-) -> Result<Vec<(Name, Binding)>, AllocError>
-    ensures { IfOk result (λ v. v.items ≡ map (λ l. (l.0, bound_to l.1)) locals.items) }
+/// Makes names of the newest scope's stand for their values, or for none yet. Of two of one name, the first stands.
+fn bind_values(names: &mut Names, mut values: Vec<(Name, Option<Array>)>) -> Result<(), AllocError>
+    ensures { OnOk result (names.new ≡ with_locals (map (λ l. (l.0, bound_to l.1)) values.items) names.old) }
 {
-    let mut names = Vec::new(alloc);
-    for (name, value) in locals {
-        names.push((name, bound_to(value)))?;
+    while let Some(local) = values.pop() {
+        let binding = bound_to(local.1);
+        names.bind(&local.0, binding)?;
     }
-    Ok(names)
+    Ok(())
 }
 
-/// What the names of a call stand for: its locals, and the labels of its function.
-fn names_of_call(
-    alloc: Global,
+/// The newest scope is that of a call with these locals, beside the labels of its function.
+fn open_scope(
+    names: &mut Names,
     locals: Vec<(Name, Option<Array>)>,
     definition: &Definition,
-) -> Result<Vec<(Name, Binding)>, AllocError>
-    ensures { IfOk result (λ v. v.items ≡ map (λ l. (l.0, bound_to l.1)) locals.items ++ map label_of definition.now.labels) }
+) -> Result<(), AllocError>
+    ensures { OnOk result (names.new ≡ map_of (map (λ l. (l.0, bound_to l.1)) locals.items ++ map label_of definition.now.labels) ∷ names.old) }
 {
     let _header = definition.header();
-    let mut names = bindings_of(alloc, locals)?;
-    push_labels(&mut names, definition.labels())?;
-    Ok(names)
+    names.open()?;
+    bind_labels(names, definition.labels())?;
+    bind_values(names, locals)?;
+    Ok(())
 }
 
 /// Puts a call, with its names, on the other contexts.
@@ -179,9 +186,8 @@ fn put_call(
         locals,
         rest,
     } = part;
-    let bindings = names_of_call(alloc, locals, function.definition())?;
+    open_scope(names, locals, function.definition())?;
     let call = call_of(alloc, function, at, rest, cache)?;
-    names.enter(bindings)?;
     contexts.push(Context::Call(call))?;
     Ok(())
 }

@@ -19,7 +19,7 @@ pub use effect::{Deed, Effect};
 pub use execute::{colon_of, executed};
 pub use frequent::{
     FunctionCalled, NumberAssigned, assigned, assigned_indexed, called, given, number_assigned,
-    number_given,
+    number_given, numbers_kept,
 };
 pub use lines::said;
 pub use phrase::perform;

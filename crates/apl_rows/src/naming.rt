@@ -2,7 +2,7 @@
 //!
 //! | Line | What is done |
 //! |---|---|
-//! | `names ACT◊..` | `assign NAME N`; `enter LOCAL..`, each a name, `NAME:N` for a label or `NAME:∇` for a function; `leave`; `leave_with NAME`; `function NAME HEADER`; `erase NAME`; `clear`; and looks: `look NAME`, `global NAME`, `local NAME`, `scope K NAME`, `globals`, `depth` |
+//! | `names ACT◊..` | `assign NAME N`; `number NAME N`, in the place of what it stands for; `enter LOCAL..`, each a name, `NAME:N` for a label or `NAME:∇` for a function; `bind LOCAL`; `leave`; `leave_with NAME`; `function NAME HEADER`; `erase NAME`; `clear`; and looks: `look NAME`, `global NAME`, `local NAME`, `scope K NAME`, `globals`, `depth` |
 //! | `vectors ACT◊..` | `set NAME LINE..`, `remove NAME`, `clear`; and looks: `get NAME`, `has NAME LINE` |
 
 use crate::functions::definition_of;
@@ -56,25 +56,58 @@ fn local_of(page: &mut Page, text: &str) -> Option<Binding> {
     }
 }
 
-/// Adds the local of a word.
-fn push_local(page: &mut Page, locals: &mut Vec<(Name, Binding)>, word: &str) {
+/// The local of a word.
+fn local_in(page: &mut Page, word: &str) -> Option<(Name, Binding)> {
     let (letters, text) = word.split_once(':').unwrap_or((word, ""));
-    let Some(name) = page.name(letters) else {
-        return;
-    };
-    if let Some(local) = local_of(page, text) {
-        page.add(locals, (name, local));
+    let name = page.name(letters)?;
+    let local = local_of(page, text)?;
+    Some((name, local))
+}
+
+/// Makes a local stand in the newest scope.
+fn bind(page: &mut Page, names: &mut Names, name: &Name, binding: Binding) {
+    if let Err(error) = names.bind(name, binding) {
+        page.refuse(error);
     }
 }
 
-/// Adds a scope that has the locals of a text.
-fn enter(page: &mut Page, names: &mut Names, text: &str) {
+/// The same for the local of a word.
+fn bind_word(page: &mut Page, names: &mut Names, word: &str) {
+    if let Some((name, binding)) = local_in(page, word) {
+        bind(page, names, &name, binding);
+    }
+}
+
+/// The locals of a text, in their order.
+fn locals_in(page: &mut Page, text: &str) -> Vec<(Name, Binding)> {
     let mut locals = Vec::new(page.alloc);
     for word in text.split_whitespace() {
-        push_local(page, &mut locals, word);
+        if let Some(local) = local_in(page, word) {
+            page.add(&mut locals, local);
+        }
     }
-    if let Err(error) = names.enter(locals) {
+    locals
+}
+
+/// Adds a scope that has the locals of a text, made last first as those of a call are.
+fn enter(page: &mut Page, names: &mut Names, text: &str) {
+    let mut locals = locals_in(page, text);
+    locals.reverse();
+    if let Err(error) = names.open() {
         page.refuse(error);
+        return;
+    }
+    for (name, binding) in locals {
+        bind(page, names, &name, binding);
+    }
+}
+
+/// Gives a name a number in the place of what it stands for, and writes whether it took one.
+fn put_number(page: &mut Page, names: &mut Names, name: &Name, text: &str) {
+    if names.put_number(name, element(text)) {
+        page.line("put");
+    } else {
+        page.line("not put");
     }
 }
 
@@ -114,6 +147,7 @@ fn write_globals(page: &mut Page, names: &Names) {
 fn act_on_name(page: &mut Page, names: &mut Names, word: &str, name: &Name, text: &str) {
     match word {
         "assign" => assign(page, names, name, text),
+        "number" => put_number(page, names, name, text),
         "leave_with" => leave_with(page, names, name),
         "function" => define(page, names, name, text),
         "erase" => {
@@ -147,6 +181,7 @@ fn act(page: &mut Page, names: &mut Names, part: &str) {
     let (word, text) = next_word(part);
     match word {
         "enter" => enter(page, names, text),
+        "bind" => bind_word(page, names, text),
         "leave" => names.leave(),
         "clear" => names.clear(),
         "scope" => write_in_scope(page, names, text),

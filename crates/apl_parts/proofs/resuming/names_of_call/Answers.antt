@@ -1,5 +1,0 @@
-use Rattle.apl_parts.proofs.Labels.{labels_few}
-use Rattle.apl_parts.proofs.resuming.names_of_call.Goals as goal
-
-pub push_labels-requires : goal.push_labels-requires
-push_labels-requires c = labels_few c.args.definition.now c.labels.result.now c.labels.ensures c.header-header.ensures.defined
