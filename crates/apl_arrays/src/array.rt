@@ -12,6 +12,7 @@ use apl_faults::Fault;
 use arrayvec::ArrayVec;
 use std::alloc::{AllocError, Global};
 use std::marker::Model;
+use std::mem;
 use std::rc::Rc;
 
 /// How an array is kept: a scalar by itself, any other array by itself or shared with its copies.
@@ -296,16 +297,38 @@ impl Array {
         Ok(Array { kept })
     }
 
+    /// Its copies share the elements with it from then on. It is the same array, after an error too.
+    pub fn share(&mut self, alloc: Global) -> Result<(), AllocError>
+        ensures { self.new ≡ self.old }
+    {
+        if !matches!(&self.kept, Kept::Own(_)) {
+            return Ok(());
+        }
+        match mem::replace(&mut self.kept, Kept::Num(0)) {
+            Kept::Own(dense) => match Rc::new(alloc, dense) {
+                Ok(dense) => {
+                    self.kept = Kept::Dense(dense);
+                    Ok(())
+                }
+                Err(refused) => {
+                    self.kept = Kept::Own(refused.value);
+                    Err(AllocError)
+                }
+            },
+            kept => {
+                self.kept = kept;
+                Ok(())
+            }
+        }
+    }
+
     /// The same array, whose copies share the elements with it from then on.
     pub fn shared(self, alloc: Global) -> Result<Array, AllocError>
         ensures { IfOk result (λ array. array ≡ self) }
     {
-        let Array { kept } = self;
-        let kept = match kept {
-            Kept::Own(dense) => Kept::Dense(Rc::new(alloc, dense)?),
-            kept => kept,
-        };
-        Ok(Array { kept })
+        let mut array = self;
+        array.share(alloc)?;
+        Ok(array)
     }
 
     /// Becomes a number, as a scalar. It takes no memory, and a number is written in the place of another.

@@ -22,5 +22,5 @@ pub use frequent::{
     number_given, numbers_kept,
 };
 pub use lines::said;
-pub use phrase::perform;
+pub use phrase::{perform, slots_given};
 pub use scene::{Scene, origin_name};

@@ -1,13 +1,14 @@
 //! What a phrase does with its operands.
-ghost use Rattle.std.specs.Prelude.{◌≡◌, ◌≤◌, IfOk, length, map, reverse, ℤ, List, [], ◌∷◌, Option, Result};
+ghost use Rattle.std.specs.Prelude.{◌≡◌, ◌≤◌, IfOk, IfSome, length, map, reverse, true, ℤ, List, [], ◌∷◌, Option, Result};
 ghost use Rattle.apl_code.specs.declared.instr.Source.{Source};
 ghost use Rattle.apl_machine_state.specs.declared.operand.Operand.{Operand};
 ghost use Rattle.apl_code.specs.declared.row.Row.TheVariants.{Group};
+ghost use Rattle.apl_machine_state.specs.Environment as model;
 ghost use Rattle.apl_machine_state.specs.Outcomes.{Makes, outcome, shown, operand_value, taken_of, of_result};
 ghost use Rattle.apl_primitives.specs.Taken.{as_taken};
 ghost use Rattle.apl_primitives.specs.Values.{phrase_value};
 ghost use Rattle.apl_operands.specs.Operands.{Offers, fetched_from};
-ghost use Rattle.apl_phrases.specs.Effects.{ComesOf, ComesWith, DoesTo, FetchesSlot, acted};
+ghost use Rattle.apl_phrases.specs.Effects.{ComesOf, ComesWith, DoesTo, FetchesSlot, MakesSlots, acted};
 
 use crate::assign::{assign, assign_indexed, read};
 use crate::calls::{call, dyadic, monadic};
@@ -94,6 +95,34 @@ fn index_list(
 {
     let slots = slots(alloc, sources, operands)?;
     Ok(Effect::Gives(Operand::Slots(Slots::new(slots))))
+}
+
+/// Whether an instruction makes an index list.
+fn is_index_list(action: &Action) -> bool
+    ensures { result ≡ true → (s : model.Scene) (os : List (Option Operand)) → acted s action.now os ≡ Makes (map operand_value os) }
+{
+    match action {
+        Action::Box => true,
+        Action::Phrase(Row::Index(_)) => true,
+        _ => false,
+    }
+}
+
+/// The slots of the index list that an instruction makes. One that makes something else has none.
+pub fn slots_given(
+    alloc: Global,
+    action: &Action,
+    sources: &[Option<Source>],
+    operands: Operands<'_>,
+) -> Result<Option<Slots>, AllocError>
+    requires there { Offers operands sources.now }
+    ensures { IfOk result (λ given. IfSome given (MakesSlots (λ s. acted s action.now (fetched_from operands.entry sources.now)))) }
+{
+    if !is_index_list(action) {
+        return Ok(None);
+    }
+    let slots = slots(alloc, sources, operands)?;
+    Ok(Some(Slots::new(slots)))
 }
 
 /// What a phrase of this row does.
