@@ -89,7 +89,9 @@ fn asks_origin(row: &Row) -> bool
     ensures { result ≡ false → IsOfNoOrigin row.now }
 {
     match *row {
+        Row::Monadic(Function::Primitive(Primitive::Rho | Primitive::Comma)) => false,
         Row::Monadic(Function::Primitive(function)) => !goes_by_items(function),
+        Row::Dyadic(Function::Primitive(Primitive::Rho)) => false,
         Row::Dyadic(Function::Primitive(function)) => !function.is_scalar(),
         Row::Reduce(_, _) | Row::Inner(_, _) | Row::Outer(_) => false,
         _ => true,
