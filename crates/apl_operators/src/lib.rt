@@ -4,6 +4,7 @@
 mod inner_product;
 mod joint;
 mod line;
+mod narrow_products;
 mod outer_product;
 mod small;
 mod standing;
