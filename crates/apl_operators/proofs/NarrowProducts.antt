@@ -1,16 +1,16 @@
 -- Sums of products of numbers of 32 bits, by columns that are gathered.
-use Rattle.std.proofs.Common.{zero, suc, ◌≡◌, ◌⊎◌, inl, inr, ⊎_elim, ℕ, ℤ, pos, ◌+ℤ◌, ◌*ℤ◌, ◌+◌, ◌-◌, ◌*◌, ◌/◌, ◌%◌, ◌<◌, ◌≤◌, ◌^◌, List, [], ◌∷◌, ◌++◌, map, length, get_or, FitsSigned, refl, ap, sym, ◌∙◌, subst, arith, w64}
+use Rattle.std.proofs.Common.{zero, suc, ◌≡◌, ◌⊎◌, inl, inr, ⊎_elim, ℕ, ℤ, pos, ◌+ℤ◌, ◌*ℤ◌, ◌+◌, ◌-◌, ◌*◌, ◌<◌, ◌≤◌, ◌^◌, List, [], ◌∷◌, ◌++◌, map, length, get_or, FitsSigned, refl, ap, sym, ◌∙◌, subst, arith, w64}
 use Rattle.std.specs.Prelude.{unsigned_abs}
 use Rattle.std.specs.List.{range_with_len}
 use Rattle.std.proofs.lemmas.Bool.{cases_lt}
 use Rattle.std.proofs.lemmas.Int.{ints, unsigned_abs-mul}
 use Rattle.std.proofs.lemmas.List.FromFn.{map-range_with_len_more}
-use Rattle.std.proofs.Math.Nat.{mul-le-mul_right, div-lt_iff_lt-mul, mod-lt, div-add-mod}
+use Rattle.std.proofs.Math.Nat.{mul-le-mul_right}
 use Rattle.apl_folds.specs.inside.Sums.{total}
 use Rattle.apl_folds.proofs.ByPlaces.{all_small}
 use Rattle.apl_folds.proofs.Totals.{fits_below}
 use Rattle.apl_operators.specs.declared.joint.Joint.{Joint}
-use Rattle.apl_operators.specs.inside.SumsOfProducts.{product_of, AreWithin, FitTogether, AreSums}
+use Rattle.apl_operators.specs.inside.SumsOfProducts.{product_of, AreWithin}
 use Rattle.apl_operators.specs.inside.NarrowProducts.{AreNarrow, IsColumn, Meets, dot, sum_in, SumsBefore}
 
 total_end : (zs : List ℤ) (z : ℤ) → total (zs ++ z ∷ []) ≡ total zs +ℤ z
@@ -59,24 +59,6 @@ pub dot_next_fits : (xs ys : List ℤ) (n : ℕ) (s p : ℤ) → Meets xs ys →
 dot_next_fits xs ys n s p m h known made =
     let P : ℤ → Type 0 = λ z. FitsSigned w64 z in
     subst P (sym (dot_next xs ys n s p known made)) (dot_fits xs ys (n + 1) m (omega arith))
-
--- a row of one table meets a column of another
-pub row_meets : (xs ys row zs : List ℤ) (j : Joint) (r q : ℕ) → AreNarrow xs → AreNarrow ys → FitTogether xs ys j.joined → length row ≡ j.joined →
-    ((k : ℕ) → k < j.joined → get_or row k (pos 0) ≡ get_or xs (r * j.joined + k) (pos 0)) → IsColumn ys j.columns q j.joined zs → Meets row zs
-row_meets xs ys row zs j r q narrow_x narrow_y small size numbers column = record {
-  size = column.size ∙ sym size;
-  left = λ k h. omega (arith, ap unsigned_abs (numbers k (omega arith)), narrow_x (r * j.joined + k));
-  right = λ k h. omega (arith, ap unsigned_abs (column.each k (omega arith)), narrow_y (k * j.columns + q));
-  bound = small.bound;
-  fits = along (length row) j.joined small.bound size small.fits;
-  each = λ k h. bounded (get_or row k (pos 0)) (get_or xs (r * j.joined + k) (pos 0)) (get_or zs k (pos 0)) (get_or ys (k * j.columns + q) (pos 0)) small.bound (numbers k (omega arith)) (column.each k (omega arith)) (small.each (r * j.joined + k) (k * j.columns + q));
-}
-  where
-    along : (m n b : ℕ) → m ≡ n → n * b < 2 ^ 63 → m * b < 2 ^ 63
-    along m n b e h = rw e h
-
-    bounded : (x v y w : ℤ) (b : ℕ) → x ≡ v → y ≡ w → unsigned_abs v * unsigned_abs w ≤ b → unsigned_abs x * unsigned_abs y ≤ b
-    bounded x v y w b e f h = rw (e, f) h
 
 same_total : (p q : ℕ → ℤ) (a n : ℕ) → ((k : ℕ) → k < a + n → p k ≡ q k) → total (map p (range_with_len a n)) ≡ total (map q (range_with_len a n))
 same_total p q a zero h = refl
@@ -158,19 +140,6 @@ group_more xs ys old new j from r within some before rows others first second th
         ⊎_elim (λ (s : q < from + 3). let f : q ≡ from + 2 = omega arith in at (r * c + from + 2) (from + 2) (place p r q c from 2 e f) f e third)
         (λ (s : from + 3 ≤ q). let f : q ≡ from + 3 = omega arith in at (r * c + from + 3) (from + 3) (place p r q c from 3 e f) f e fourth)
         (cases_lt q (from + 3))) (cases_lt q (from + 2))) (cases_lt q (from + 1))) (cases_lt q from)
-
--- the sums of all columns are those of all places
-pub are_sums : (xs ys sums : List ℤ) (j : Joint) (done : ℕ) → 0 < j.columns → j.columns ≤ done → SumsBefore xs ys j done sums → AreSums xs ys j (j.rows * j.columns) sums
-are_sums xs ys sums j done some all before = record {
-  size = before.size;
-  each = λ r h.
-      let row : r / j.columns < j.rows = (div-lt_iff_lt-mul {k = j.columns} {x = r} {y = j.rows} some).1 h in
-      let column : r % j.columns < j.columns = mod-lt r some in
-      ap (λ (m : ℕ). get_or sums m (pos 0)) (place r j.columns) ∙ before.each (r / j.columns) (r % j.columns) row (omega arith);
-}
-  where
-    place : (r c : ℕ) → r ≡ (r / c) * c + r % c
-    place r c = omega (arith, div-add-mod r c)
 
 pub column_along : (ys zs ws : List ℤ) (width column m n : ℕ) → m ≡ n → ws ≡ zs → IsColumn ys width column m zs → IsColumn ys width column n ws
 column_along ys zs ws width column m n e f known = record { size = ap length f ∙ known.size ∙ e; each = λ k h. ap (λ (l : List ℤ). get_or l k (pos 0)) f ∙ known.each k (omega arith) }

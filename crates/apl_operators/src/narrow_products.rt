@@ -1,10 +1,10 @@
-// Sums of products of numbers of 32 bits, four columns of the second table at a time.
+// Sums of products of numbers of 32 bits, four columns of the second table at a time. The columns are gathered, so that rows meet lists
+// that stand as they do: of one number that meets a whole row the compiler forgets, before the loop, that it has 32 bits.
 ghost use Rattle.std.specs.Prelude.{◌≡◌, ◌<◌, ◌≤◌, ◌+◌, ◌*◌, ◌^◌, ◌*ℤ◌, ◌⊎◌, ℕ, length, slice_index_or, unsigned_abs, pos, IfOk};
 ghost use Rattle.apl_operators.specs.inside.SumsOfProducts.{FitTogether, AreSums};
 ghost use Rattle.apl_operators.specs.inside.NarrowProducts.{AreNarrow, IsColumn, Meets, dot, HasRoom, SumsBefore};
 
-use crate::joint::Joint;
-use crate::sums_of_products::row;
+use crate::joint::{Joint, row};
 use std::alloc::{AllocError, Global};
 
 /// How many columns are gathered at a time.

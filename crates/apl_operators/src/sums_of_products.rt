@@ -8,7 +8,7 @@ ghost use Rattle.apl_operators.specs.Joints.{met, folds_met, Joins};
 ghost use Rattle.apl_operators.specs.inside.SumsOfProducts.{product_of, sum_from, IsMore, AreWithin, FitTogether, AreSums};
 ghost use Rattle.apl_operators.specs.inside.NarrowProducts.{AreNarrow};
 
-use crate::joint::Joint;
+use crate::joint::{Joint, row};
 use crate::narrow_products::sum_groups;
 use crate::small::times;
 use apl_scalar::{wider, widest};
@@ -18,7 +18,7 @@ use std::alloc::{AllocError, Global};
 const FEW: usize = 8;
 
 /// Below this many rows a column that is gathered serves too seldom.
-const SOME: usize = 4;
+const SEVERAL: usize = 4;
 
 /// How many sums more may be written for each number of a column.
 const WORTH: usize = 0x4000;
@@ -48,7 +48,7 @@ fn are_narrow(left: u64, right: u64) -> bool
 fn repays_gathering(joint: &Joint) -> bool
     requires { joint.now.rows * joint.now.columns < 2 ^ 63 }
 {
-    if joint.rows < SOME {
+    if joint.rows < SEVERAL {
         return false;
     }
     if joint.joined < FEW {
@@ -75,17 +75,6 @@ fn add_row(x: i64, row: &[i64], sums: &mut [i64])
     for j in 0..sums.len() {
         sums[j] = more(sums[j], x, row[j]);
     }
-}
-
-/// The row of a table after so many others.
-#[inline(always)]
-pub(crate) fn row(numbers: &[i64], number: usize, width: usize) -> &[i64]
-    requires { number * width + width ≤ length numbers.now }
-    ensures size { length result.now ≡ width }
-    ensures numbers { (j : ℕ) → j < width → slice_index_or result.now j (pos 0) ≡ slice_index_or numbers.now (number * width + j) (pos 0) }
-{
-    let from = number * width;
-    &numbers[from..from + width]
 }
 
 /// Makes each sum that of the products of so many numbers, from a place on, with those of a column of a table.
