@@ -7,6 +7,7 @@ mod line;
 mod narrow_products;
 mod outer_product;
 mod small;
+mod small_products;
 mod standing;
 mod sums_of_products;
 
