@@ -4,8 +4,10 @@
 mod inner_product;
 mod joint;
 mod line;
+mod narrow_products;
 mod outer_product;
 mod small;
+mod small_products;
 mod standing;
 mod sums_of_products;
 

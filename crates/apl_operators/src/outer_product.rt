@@ -5,12 +5,14 @@ ghost use Rattle.apl_arrays.specs.Cells.{cells_of, IsArray};
 ghost use Rattle.apl_arrays.specs.Index.{indices};
 ghost use Rattle.apl_arrays.specs.Left.{listed};
 ghost use Rattle.apl_arrays.specs.Results.{all_ok};
+ghost use Rattle.apl_scalar.specs.declared.function.Dyadic.TheVariants as two;
 ghost use Rattle.apl_scalar.specs.Functions.{dyadic_of};
 ghost use Rattle.apl_operators.specs.Products.{paired, outer_shape, outer_product};
 ghost use Rattle.apl_operators.specs.Places.{row_of, crossing, crossing_cells};
 
 use crate::line::{Each, Same, meet};
 use crate::small::SmallProduct;
+use crate::small_products::small_products;
 use crate::standing::standing;
 use apl_arrays::{Array, Cells, Elements, Ravel, Stop, View, joined_shape, within_limits};
 use apl_faults::Fault;
@@ -88,13 +90,24 @@ impl<'a> ByFunction for Crossing<'a> {
     }
 }
 
+/// The products of each number with each of others.
+fn cross_times(alloc: Global, xs: &[i64], ys: &[i64]) -> Result<Vec<i64>, Stop>
+    requires { length xs.now * length ys.now < 2 ^ 63 }
+    ensures { Answers (λ v. v.items) (crossing (dyadic_of two.Times) xs.now ys.now) result }
+{
+    match small_products(alloc, xs, ys)? {
+        Some(products) => Ok(products),
+        None => cross::<SmallProduct>(alloc, xs, ys),
+    }
+}
+
 /// The values of a function of each number with each of others.
 fn cross_by(alloc: Global, function: Dyadic, xs: &[i64], ys: &[i64]) -> Result<Vec<i64>, Stop>
     requires { length xs.now * length ys.now < 2 ^ 63 }
     ensures { Answers (λ v. v.items) (crossing (dyadic_of function) xs.now ys.now) result }
 {
     match function {
-        Dyadic::Times => cross::<SmallProduct>(alloc, xs, ys),
+        Dyadic::Times => cross_times(alloc, xs, ys),
         _ => function.apply(Crossing { alloc, xs, ys }),
     }
 }

@@ -1,29 +1,60 @@
 // Sums of products, whole rows of the second table at a time.
-ghost use Rattle.std.specs.Prelude.{◌≡◌, ◌<◌, ◌≤◌, ◌+◌, ◌*◌, ◌^◌, ◌*ℤ◌, ◌+ℤ◌, ℕ, FitsSigned, unsigned_abs};
+ghost use Rattle.std.specs.Prelude.{◌≡◌, ◌<◌, ◌≤◌, ◌+◌, ◌*◌, ◌^◌, ◌*ℤ◌, ◌+ℤ◌, ℕ, ℤ, List, FitsSigned, unsigned_abs};
 ghost use Rattle.std.specs.Prelude.{length, slice_index_or, pos, Ok, IsTrue, IfOk, IfSome};
 ghost use Rattle.std.specs.Int.{w64};
 ghost use Rattle.apl_scalar.specs.declared.function.Dyadic.TheVariants as two;
 ghost use Rattle.apl_scalar.specs.Functions.{dyadic_of};
 ghost use Rattle.apl_operators.specs.Joints.{met, folds_met, Joins};
-ghost use Rattle.apl_operators.specs.inside.SumsOfProducts.{product_of, sum_from, IsMore, FitTogether, AreSums};
+ghost use Rattle.apl_operators.specs.inside.SumsOfProducts.{product_of, sum_from, IsMore, AreWithin, FitTogether, AreSums};
+ghost use Rattle.apl_operators.specs.inside.NarrowProducts.{AreNarrow};
 
-use crate::joint::Joint;
+use crate::joint::{Joint, row};
+use crate::narrow_products::sum_groups;
 use crate::small::times;
-use apl_scalar::widest;
+use apl_scalar::{wider, widest};
 use std::alloc::{AllocError, Global};
 
 /// Below this many columns a row is so short that a fold of each place costs less.
 const FEW: usize = 8;
 
+/// Below this many rows a column that is gathered serves too seldom.
+const SEVERAL: usize = 4;
+
+/// How many sums more may be written for each number of a column.
+const WORTH: usize = 0x4000;
+
 /// No magnitude below this leaves the range.
 const EXACT: u64 = 0x8000_0000_0000_0000;
 
-/// Whether so many products of a number of each of two lists are known to have a sum that fits, in whatever order they are added.
-fn fit_together(xs: &[i64], ys: &[i64], count: usize) -> bool
-    ensures { IsTrue result → FitTogether xs.now ys.now count }
+/// A number whose magnitude is below this has 32 bits.
+const NARROW: u64 = 0x8000_0000;
+
+/// Whether so many products of numbers within two bounds are known to have a sum that fits, in whatever order they are added.
+pub(crate) fn fit_together(left: u64, right: u64, count: usize) -> bool
+    ensures { IsTrue result → (xs ys : List ℤ) → AreWithin left xs → AreWithin right ys → FitTogether xs ys count }
 {
-    let most = widest(xs).saturating_mul(widest(ys));
+    let most = left.saturating_mul(right);
     (count as u64).saturating_mul(most) < EXACT
+}
+
+/// Whether numbers within two bounds have 32 bits.
+fn are_narrow(left: u64, right: u64) -> bool
+    ensures { IsTrue result → (xs ys : List ℤ) → AreWithin left xs → AreWithin right ys → AreNarrow xs × AreNarrow ys }
+{
+    wider(left, right) < NARROW
+}
+
+/// Whether columns are so long and serve so often that gathering them, and writing the sums column by column, costs less than it saves.
+fn repays_gathering(joint: &Joint) -> bool
+    requires { joint.now.rows * joint.now.columns < 2 ^ 63 }
+{
+    if joint.rows < SEVERAL {
+        return false;
+    }
+    if joint.joined < FEW {
+        return false;
+    }
+    joint.rows * joint.columns / WORTH <= joint.joined
 }
 
 /// A sum and a product more where they fit, and some number elsewhere.
@@ -44,17 +75,6 @@ fn add_row(x: i64, row: &[i64], sums: &mut [i64])
     for j in 0..sums.len() {
         sums[j] = more(sums[j], x, row[j]);
     }
-}
-
-/// The row of a table after so many others.
-#[inline(always)]
-fn row(numbers: &[i64], number: usize, width: usize) -> &[i64]
-    requires { number * width + width ≤ length numbers.now }
-    ensures size { length result.now ≡ width }
-    ensures numbers { (j : ℕ) → j < width → slice_index_or result.now j (pos 0) ≡ slice_index_or numbers.now (number * width + j) (pos 0) }
-{
-    let from = number * width;
-    &numbers[from..from + width]
 }
 
 /// Makes each sum that of the products of so many numbers, from a place on, with those of a column of a table.
@@ -104,7 +124,7 @@ fn sum_rows(alloc: Global, xs: &[i64], ys: &[i64], joint: &Joint) -> Result<Vec<
 fn is_table(joint: &Joint) -> bool
     ensures left { IsTrue result → joint.now.left ≡ joint.now.joined }
     ensures right { IsTrue result → joint.now.right ≡ joint.now.joined }
-    ensures some { IsTrue result → 0 < joint.now.columns }
+    ensures some { IsTrue result → FEW ≤ joint.now.columns }
 {
     if joint.columns < FEW {
         return false;
@@ -113,6 +133,33 @@ fn is_table(joint: &Joint) -> bool
         return false;
     }
     joint.right == joint.joined
+}
+
+/// The sums of the products along each row of one table and each column of another, whose numbers are within two bounds.
+fn sum_all(
+    alloc: Global,
+    xs: &[i64],
+    ys: &[i64],
+    left: u64,
+    right: u64,
+    joint: &Joint,
+) -> Result<Vec<i64>, AllocError>
+    requires left { length xs.now ≡ joint.now.rows * joint.now.joined }
+    requires right { length ys.now ≡ joint.now.joined * joint.now.columns }
+    requires some { FEW ≤ joint.now.columns }
+    requires count { joint.now.rows * joint.now.columns < 2 ^ 63 }
+    requires within_left { AreWithin left xs.now }
+    requires within_right { AreWithin right ys.now }
+    requires small { FitTogether xs.now ys.now joint.now.joined }
+    ensures { IfOk result (λ v. AreSums xs.now ys.now joint.now (joint.now.rows * joint.now.columns) v.items) }
+{
+    if !are_narrow(left, right) {
+        return sum_rows(alloc, xs, ys, joint);
+    }
+    if !repays_gathering(joint) {
+        return sum_rows(alloc, xs, ys, joint);
+    }
+    sum_groups(alloc, xs, ys, joint)
 }
 
 /// The sums of the products along rows and columns, where the numbers are known to be so small that their order is all one, and the rows
@@ -130,8 +177,10 @@ pub(crate) fn sums_of_products(
     if !is_table(joint) {
         return Ok(None);
     }
-    if !fit_together(xs, ys, joint.joined) {
+    let left = widest(xs);
+    let right = widest(ys);
+    if !fit_together(left, right, joint.joined) {
         return Ok(None);
     }
-    Ok(Some(sum_rows(alloc, xs, ys, joint)?))
+    Ok(Some(sum_all(alloc, xs, ys, left, right, joint)?))
 }

@@ -18,6 +18,10 @@ sum_from p k count = total (map p (range_with_len k (count - k)))
 abbrev pub IsMore : ℤ → ℤ → ℤ → ℤ → Type 0
 IsMore x y sum next = FitsSigned w64 (x *ℤ y) → FitsSigned w64 (x *ℤ y +ℤ sum) → next ≡ x *ℤ y +ℤ sum
 
+-- no number has a magnitude beyond a bound
+abbrev pub AreWithin : ℕ → List ℤ → Type 0
+AreWithin bound zs = (k : ℕ) → k < length zs → unsigned_abs (slice_index_or zs k (pos 0)) ≤ bound
+
 -- so many products of a number of each list have a sum that fits, in whatever order they are added
 pub record FitTogether (xs ys : List ℤ) (count : ℕ) : Type 0 where
   pub bound : ℕ
