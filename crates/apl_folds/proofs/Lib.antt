@@ -1,6 +1,7 @@
 pub mod Rights
 pub mod Rows
 pub mod Walks
+pub mod Told
 pub mod Leaves
 pub mod Taken
 pub mod Shapes

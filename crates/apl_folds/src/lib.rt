@@ -6,6 +6,7 @@ mod characters;
 mod columns;
 mod fold;
 mod fronts;
+mod kept;
 mod line;
 mod lines;
 mod order;

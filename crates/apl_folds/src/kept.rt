@@ -1,0 +1,84 @@
+// Fronts of lines, each from what is kept of the numbers before.
+ghost use Rattle.std.specs.Prelude.{◌≡◌, ◌<◌, ◌+◌, ◌∷◌, ◌++◌, [], ℕ, ℤ, List, length, IfOk, IfSome, Ok};
+ghost use Rattle.apl_folds.specs.Lines.{fold_by, IsLine};
+ghost use Rattle.apl_folds.specs.inside.Kept.{IsTold};
+
+use crate::line::nth;
+use apl_arrays::Axis;
+use apl_scalar::Scalar;
+use std::alloc::AllocError;
+
+/// What is kept of one or more numbers, from which their fold by a function may be told, and what is kept with a number more.
+pub(crate) trait Kept<F: Scalar>: Copy {
+    /// What has to be true of the function.
+    ghost given: { Type 0 };
+
+    /// This is kept of these numbers.
+    ghost knows: { Self → List ℤ → Type 0 };
+
+    fn first(number: i64) -> Self
+        requires { given }
+        ensures { knows result (number ∷ []) };
+
+    fn next(self, number: i64) -> Self
+        ensures { (numbers : List ℤ) → 0 < length numbers → knows self numbers → knows result (numbers ++ number ∷ []) };
+
+    /// The fold, unless it has to be made anew.
+    fn fold(self) -> Option<i64>
+        ensures { IfSome result (λ fold. (numbers : List ℤ) → 0 < length numbers → knows self numbers → fold_by F.meaning numbers ≡ Ok fold) };
+}
+
+/// Appends the folds of the first number of a line, of the first two and so on, while they can be told. It answers how many it told.
+#[inline(always)]
+fn push_along<F: Scalar, K: Kept<F>>(
+    numbers: &[i64],
+    axis: &Axis,
+    at: usize,
+    count: usize,
+    out: &mut Vec<i64>,
+) -> Result<usize, AllocError>
+    requires given { 0 < count → K.given }
+    requires lines { (k : ℕ) → k < count → IsLine (length numbers.now) axis.now at (k + 1) }
+    ensures { IfOk result (λ told. IsTold F.meaning numbers.now axis.now at count out.old.items out.new.items told) }
+{
+    if count == 0 {
+        return Ok(0);
+    }
+    let first = nth(numbers, axis, at, 0);
+    out.push(first)?;
+    let mut kept = K::first(first);
+    for k in 1..count {
+        kept = kept.next(nth(numbers, axis, at, k));
+        match kept.fold() {
+            Some(fold) => out.push(fold)?,
+            None => return Ok(k),
+        }
+    }
+    Ok(count)
+}
+
+/// The same, and faster where the numbers lie side by side.
+pub(crate) fn push_told<F: Scalar, K: Kept<F>>(
+    numbers: &[i64],
+    axis: &Axis,
+    at: usize,
+    count: usize,
+    out: &mut Vec<i64>,
+) -> Result<usize, AllocError>
+    requires given { 0 < count → K.given }
+    requires lines { (k : ℕ) → k < count → IsLine (length numbers.now) axis.now at (k + 1) }
+    ensures { IfOk result (λ told. IsTold F.meaning numbers.now axis.now at count out.old.items out.new.items told) }
+{
+    if axis.up != 1 {
+        return push_along::<F, K>(numbers, axis, at, count, out);
+    }
+    if axis.down != 0 {
+        return push_along::<F, K>(numbers, axis, at, count, out);
+    }
+    let beside = Axis {
+        length: axis.length,
+        up: 1,
+        down: 0,
+    };
+    push_along::<F, K>(numbers, &beside, at, count, out)
+}
