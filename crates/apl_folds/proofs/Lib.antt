@@ -8,6 +8,8 @@ pub mod Shapes
 pub mod Along
 pub mod Comparisons
 pub mod Totals
+pub mod Swings
+pub mod LastTwo
 pub mod Associative
 pub mod Faults
 pub mod ByPlaces

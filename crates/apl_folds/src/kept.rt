@@ -1,12 +1,16 @@
 // Fronts of lines, each from what is kept of the numbers before.
 ghost use Rattle.std.specs.Prelude.{◌≡◌, ◌<◌, ◌+◌, ◌∷◌, ◌++◌, [], ℕ, ℤ, List, length, IfOk, IfSome, Ok};
-ghost use Rattle.apl_folds.specs.Lines.{fold_by, IsLine};
+ghost use Rattle.apl_folds.specs.Lines.{fold_by, line_fold, IsLine};
 ghost use Rattle.apl_folds.specs.inside.Kept.{IsTold};
 
-use crate::line::nth;
-use apl_arrays::Axis;
+use crate::columns::push_columns;
+use crate::line::{fold_line, nth};
+use crate::walk::Leaf;
+use apl_arrays::{Axis, Stop};
+use apl_faults::Fault;
 use apl_scalar::Scalar;
 use std::alloc::AllocError;
+use std::marker::PhantomData;
 
 /// What is kept of one or more numbers, from which their fold by a function may be told, and what is kept with a number more.
 pub(crate) trait Kept<F: Scalar>: Copy {
@@ -81,4 +85,38 @@ pub(crate) fn push_told<F: Scalar, K: Kept<F>>(
         down: 0,
     };
     push_along::<F, K>(numbers, &beside, at, count, out)
+}
+
+/// The numbers along an axis, to be folded by a scalar function, with what is kept of the first of them.
+#[derive(Drop)]
+pub(crate) struct Telling<'a, F: Scalar, K: Kept<F>> {
+    pub numbers: &'a [i64],
+    pub axis: Axis,
+    pub by: PhantomData<F>,
+    pub kept: PhantomData<K>,
+}
+
+impl<'a, F: Scalar, K: Kept<F>> Leaf for Telling<'a, F, K> {
+    ghost has = { λ s p count. IsLine (length s.numbers.now) s.axis p count × K.given };
+
+    ghost gives = { λ s p count. line_fold F.meaning s.numbers.now s.axis p count };
+
+    fn value(&self, at: usize, count: usize) -> Result<i64, Fault> {
+        fold_line::<F>(self.numbers, &self.axis, at, count)
+    }
+
+    fn push_fronts(&self, at: usize, length: usize, out: &mut Vec<i64>) -> Result<(), Stop> {
+        let told = push_told::<F, K>(self.numbers, &self.axis, at, length, out)?;
+        self.push_from(at, told, length, out)
+    }
+
+    fn push_columns(
+        &self,
+        from: usize,
+        till: usize,
+        count: usize,
+        out: &mut Vec<i64>,
+    ) -> Result<(), Stop> {
+        push_columns::<F>(self.numbers, &self.axis, from, till, count, out)
+    }
 }

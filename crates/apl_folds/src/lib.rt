@@ -1,9 +1,11 @@
 //! Folds of numbers, and reduction and scan along an axis.
 #![tactic(auto)]
 
+mod alternating;
 mod chains;
 mod characters;
 mod columns;
+mod ends;
 mod fold;
 mod fronts;
 mod kept;

@@ -26,7 +26,7 @@ pub(crate) struct Running {
 
 /// A magnitude with that of one number more, while the sum is below 2^63.
 #[inline(always)]
-fn grown(magnitude: u64, number: i64) -> u64
+pub(crate) fn grown(magnitude: u64, number: i64) -> u64
     ensures { result < 2 ^ 63 → result ≡ magnitude + unsigned_abs number }
 {
     magnitude.saturating_add(number.unsigned_abs())

@@ -1,5 +1,5 @@
 use Rattle.apl_folds.proofs.Told.{told_pushed}
-use Rattle.apl_folds.proofs.chains.ChainLeaf.push_fronts.Goals as goal
+use Rattle.apl_folds.proofs.kept.TellingLeaf.push_fronts.Goals as goal
 
 pub push_told-requires-clause-given : goal.push_told-requires-clause-given
 push_told-requires-clause-given g c some = let r = c.requires 0 some in r.1
