@@ -1,6 +1,6 @@
 // Fronts of lines, each from what is kept of the numbers before.
-ghost use Rattle.std.specs.Prelude.{◌≡◌, ◌<◌, ◌+◌, ◌∷◌, ◌++◌, [], ℕ, ℤ, List, length, IfOk, IfSome, Ok};
-ghost use Rattle.apl_folds.specs.Lines.{fold_by, line_fold, IsLine};
+ghost use Rattle.std.specs.Prelude.{◌≡◌, ◌<◌, ◌≤◌, ◌+◌, ◌∷◌, ◌++◌, [], ℕ, ℤ, pos, List, length, slice_index_or, IfOk, IfSome, Ok};
+ghost use Rattle.apl_folds.specs.Lines.{fold_by, line_fold, line_of, IsLine};
 ghost use Rattle.apl_folds.specs.inside.Kept.{IsTold};
 
 use crate::columns::push_columns;
@@ -61,7 +61,73 @@ fn push_along<F: Scalar, K: Kept<F>>(
     Ok(count)
 }
 
-/// The same, and faster where the numbers lie side by side.
+/// How many folds are told before they are appended together.
+const BLOCK: usize = 128;
+
+/// Fills a room with folds of so many numbers of a line and one more, two more and so on, while they can be told. It answers what is kept then
+/// and how many it told.
+#[inline(always)]
+fn fill<F: Scalar, K: Kept<F>>(
+    numbers: &[i64],
+    axis: &Axis,
+    at: usize,
+    from: usize,
+    before: K,
+    room: &mut [i64],
+) -> (K, usize)
+    requires some { 0 < from }
+    requires line { IsLine (length numbers.now) axis.now at (from + length room.old) }
+    requires few { from + length room.old ≤ usize.MAX }
+    requires kept { K.knows before (line_of (pos 0) numbers.now axis.now at from) }
+    ensures few { result.1 ≤ length room.old }
+    ensures size { length room.new ≡ length room.old }
+    ensures kept { result.1 ≡ length room.old → K.knows result.0 (line_of (pos 0) numbers.now axis.now at (from + length room.old)) }
+    ensures folds { (j : ℕ) → j < result.1 → line_fold F.meaning numbers.now axis.now at (from + j + 1) ≡ Ok (slice_index_or room.new j (pos 0)) }
+{
+    let mut kept = before;
+    for j in 0..room.len() {
+        kept = kept.next(nth(numbers, axis, at, from + j));
+        match kept.fold() {
+            Some(fold) => room[j] = fold,
+            None => return (kept, j),
+        }
+    }
+    (kept, room.len())
+}
+
+/// The same as [`push_along`], block by block.
+#[inline(always)]
+fn push_blocks<F: Scalar, K: Kept<F>>(
+    numbers: &[i64],
+    axis: &Axis,
+    at: usize,
+    count: usize,
+    out: &mut Vec<i64>,
+) -> Result<usize, AllocError>
+    requires some { 0 < count }
+    requires given { K.given }
+    requires line { IsLine (length numbers.now) axis.now at count }
+    ensures { IfOk result (λ told. IsTold F.meaning numbers.now axis.now at count out.old.items out.new.items told) }
+{
+    let first = nth(numbers, axis, at, 0);
+    out.push(first)?;
+    let mut kept = K::first(first);
+    let mut room = [0i64; BLOCK];
+    let mut told = 1;
+    while told < count {
+        let size = (count - told).min(BLOCK);
+        let (next, more) = fill::<F, K>(numbers, axis, at, told, kept, &mut room[..size]);
+        out.extend_from_slice(&room[..more])?;
+        told += more;
+        if more < size {
+            return Ok(told);
+        }
+        kept = next;
+    }
+    Ok(told)
+}
+
+/// The same as [`push_along`], and faster where many numbers lie side by side.
 pub(crate) fn push_told<F: Scalar, K: Kept<F>>(
     numbers: &[i64],
     axis: &Axis,
@@ -84,7 +150,10 @@ pub(crate) fn push_told<F: Scalar, K: Kept<F>>(
         up: 1,
         down: 0,
     };
-    push_along::<F, K>(numbers, &beside, at, count, out)
+    if count < BLOCK {
+        return push_along::<F, K>(numbers, &beside, at, count, out);
+    }
+    push_blocks::<F, K>(numbers, &beside, at, count, out)
 }
 
 /// The numbers along an axis, to be folded by a scalar function, with what is kept of the first of them.
