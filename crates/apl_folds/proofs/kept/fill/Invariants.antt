@@ -1,4 +1,4 @@
-use Rattle.std.proofs.Common.{◌≡◌, ◌<◌, ◌+◌, ℕ, ℤ, pos, length, get_or, Ok}
+use Rattle.std.proofs.Common.{◌≡◌, ◌<◌, ◌+◌, ℕ, pos, length, get_or, Ok}
 use Rattle.apl_folds.specs.Lines.{line_of, line_fold}
 use Rattle.apl_folds.proofs.kept.fill.Given as goal
 

@@ -1,4 +1,4 @@
-use Rattle.std.proofs.Common.{rules, arith, ◌≡◌, ◌+◌, ◌∷◌, ◌++◌, [], ℤ, List, Ok, pos, ap, sym, ◌∙◌, w64}
+use Rattle.std.proofs.Common.{rules, arith, ◌+◌, ◌∷◌, [], ℤ, pos, ap, sym, ◌∙◌, w64}
 use Rattle.std.proofs.lemmas.Int.{to_z-of_z}
 use mir.Val.{SFits}
 use Rattle.apl_folds.specs.Lines.{line_of, fold_by}

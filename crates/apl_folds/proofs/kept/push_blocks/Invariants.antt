@@ -1,4 +1,4 @@
-use Rattle.std.proofs.Common.{◌≡◌, ◌<◌, ◌≤◌, ◌-◌, ℤ, pos}
+use Rattle.std.proofs.Common.{◌≡◌, ◌<◌, ◌≤◌, ◌-◌, pos}
 use Rattle.apl_folds.specs.Lines.{line_of}
 use Rattle.apl_folds.specs.inside.Kept.{fronts_behind}
 use Rattle.apl_folds.proofs.kept.push_blocks.Given as goal

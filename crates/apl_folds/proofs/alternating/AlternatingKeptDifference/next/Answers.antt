@@ -1,4 +1,4 @@
-use Rattle.std.proofs.Common.{rules, ap, sym, ◌∙◌, Bool, not, w64}
+use Rattle.std.proofs.Common.{rules, ap, sym, ◌∙◌, not, w64}
 use Rattle.std.proofs.lemmas.Int.{to_z-of_z}
 use mir.Val.{SFits}
 use Rattle.apl_folds.proofs.Swings.{odd_more, alternating_more}
