@@ -12,6 +12,7 @@ use apl_scalar::{And, Difference, Dyadic, Logical, Maximum, Minimum, Or, Scalar,
 use std::alloc::Global;
 
 /// Appends the fronts of a row of numbers that are not the first along the axis: each is a step from the front a row before.
+#[inline(always)]
 fn push_next<F: Scalar, S: Scalar>(
     numbers: &[i64],
     axis: Axis,
@@ -24,8 +25,9 @@ fn push_next<F: Scalar, S: Scalar>(
     requires so_far { AreFronts F.meaning numbers.now axis from out.old.items }
     ensures { MoreFronts F.meaning numbers.now axis (from + axis.up) out.new.items result }
 {
-    for at in from..from + axis.up {
-        match S::apply(out[at - axis.up], numbers[at]) {
+    let up = axis.up;
+    for at in from..from + up {
+        match S::apply(out[at - up], numbers[at]) {
             Ok(value) => out.push(value)?,
             Err(fault) => return Err(Stop::Fault(fault)),
         }
