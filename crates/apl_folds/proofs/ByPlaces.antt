@@ -1,8 +1,9 @@
 -- Scans by places.
-use Rattle.std.proofs.Common.{zero, suc, ◌≡◌, ℕ, ℤ, pos, ◌+ℤ◌, ◌+◌, ◌-◌, ◌*◌, ◌/◌, ◌%◌, ◌<◌, ◌≤◌, ◌^◌, true, nat_lt, Bool, false, List, [], ◌∷◌, ◌++◌, map, length, get_or, drop, Option, Result, Ok, Err, refl, ap, sym, ◌∙◌, arith, subst, add-one}
+use Rattle.std.proofs.Common.{zero, suc, ◌≡◌, ℕ, ℤ, pos, ◌+ℤ◌, ◌-ℤ◌, ◌+◌, ◌-◌, ◌*◌, ◌/◌, ◌%◌, ◌<◌, ◌≤◌, ◌^◌, true, nat_lt, Bool, false, List, [], ◌∷◌, ◌++◌, map, length, get_or, drop, Option, Result, Ok, Err, refl, ap, sym, ◌∙◌, arith, subst, add-one}
 use Rattle.std.specs.Prelude.{unsigned_abs}
 use Rattle.std.specs.List.{range_with_len, slice_range}
 use Rattle.std.proofs.lemmas.Bool.{ltb-true, ltb-false}
+use Rattle.std.proofs.lemmas.Int.{ints}
 use Rattle.std.proofs.lemmas.List.{length-map, length-append, length-drop, length-take-le, get_or-take, get_or-drop, get_or_append_left, get_or-append_right}
 use Rattle.std.proofs.lemmas.Nat.{div-mul-add, mod-mul-add, div-add-mod'}
 use Rattle.std.proofs.Math.Nat.{mod-lt, mul-le-mul_right}
@@ -23,18 +24,19 @@ use Rattle.apl_arrays.proofs.Places.{both, position_in-lt}
 use Rattle.apl_arrays.proofs.Whole.{lengths-whole, place_at-whole, shown_whole}
 use Rattle.apl_scalar.specs.declared.function.Dyadic.{Dyadic}
 use Rattle.apl_scalar.specs.declared.function.Dyadic.TheVariants as two
-use Rattle.apl_scalar.specs.Functions.{dyadic_of}
+use Rattle.apl_scalar.specs.Functions.{dyadic_of, in_range}
 use Rattle.apl_scalar.proofs.Signs.{in_range-fits}
 use Rattle.apl_scalar.proofs.Whole.{all_values}
 use Rattle.apl_folds.specs.Chains.{IsAssociative}
-use Rattle.apl_folds.specs.inside.Fronts.{index_along, front_fold, front_folds, Chains, AreFronts, MoreFronts, AnswersIfSome, AreSmall}
+use Rattle.apl_folds.specs.inside.Fronts.{index_along, front_fold, front_folds, IsStep, Chains, AreFronts, MoreFronts, AnswersIfSome, AreSmall}
 use Rattle.apl_folds.specs.Lines.{line_of, line_fold}
 use Rattle.apl_folds.specs.Scans.{fronts_along}
-use Rattle.apl_folds.specs.inside.Sums.{total, magnitudes}
+use Rattle.apl_folds.specs.inside.Sums.{total, magnitudes, alternating, signed, is_odd}
 use Rattle.apl_folds.proofs.Along.{fronts_of_lines}
 use Rattle.apl_folds.proofs.Associative.{chain_next}
 use Rattle.apl_folds.proofs.Faults.{first_fault}
 use Rattle.apl_folds.proofs.Rows.{length-line, line_more}
+use Rattle.apl_folds.proofs.Swings.{fold_alternating, alternating_small, one_more, odd_two, even_two}
 use Rattle.apl_folds.proofs.Taken.{lengths-without, place_at-inserted, within-without, index_within}
 use Rattle.apl_folds.proofs.Totals.{fold_total, total_more, total_small, fits_below}
 
@@ -106,10 +108,13 @@ before_front f zs axis q h u later =
     back k h = omega arith
 
 -- an associative function chains
-pub chains : (f : ℤ → ℤ → Result ℤ Fault) → IsAssociative f → (zs : List ℤ) (axis : Axis) → 0 < axis.length → 0 < axis.up → axis.down ≡ 0 → Chains f zs axis
-chains f a zs axis h u d q z up later e =
-    chain_next f a zs axis (q - index_along axis q * axis.up) (index_along axis q) z (get_or zs q (pos 0)) later (ap (λ (p : ℕ). get_or zs p (pos 0)) (on_line axis q d))
-    (sym (before_front f zs axis q h u later) ∙ e)
+pub chains : (f : ℤ → ℤ → Result ℤ Fault) → IsAssociative f → (zs : List ℤ) (axis : Axis) → 0 < axis.length → 0 < axis.up → axis.down ≡ 0 → Chains f f f zs axis
+chains f a zs axis h u d = record { odds = λ q odd. step q (omega arith); evens = λ q later even. step q later }
+  where
+    step : (q : ℕ) → 0 < index_along axis q → IsStep f f zs axis q
+    step q later z e =
+        chain_next f a zs axis (q - index_along axis q * axis.up) (index_along axis q) z (get_or zs q (pos 0)) later (ap (λ (p : ℕ). get_or zs p (pos 0)) (on_line axis q d))
+        (sym (before_front f zs axis q h u later) ∙ e)
 
 -- the first number of a line
 pub front_first : (f : ℤ → ℤ → Result ℤ Fault) (zs : List ℤ) (axis : Axis) (q : ℕ) → axis.down ≡ 0 → index_along axis q ≡ 0 → front_fold f zs axis q ≡ Ok (get_or zs q (pos 0))
@@ -149,23 +154,71 @@ small_total zs axis p count m small h = omega (arith, small.fits, small_line zs 
 abbrev ok_number : ℤ → Result ℤ Fault
 ok_number z = Ok z
 
--- so addition of small numbers chains
-pub sums_chain : (zs : List ℤ) (axis : Axis) → AreSmall zs axis.length → 0 < axis.length → 0 < axis.up → axis.down ≡ 0 → Chains (dyadic_of two.Plus) zs axis
-sums_chain zs axis small h u d q z up later e =
+-- the line of a front is that of the front before and the number at its place
+one_longer : (zs : List ℤ) (axis : Axis) (q : ℕ) → axis.down ≡ 0 →
+    line_of (pos 0) zs axis (q - index_along axis q * axis.up) (index_along axis q) ++ get_or zs q (pos 0) ∷ [] ≡ line_of (pos 0) zs axis (q - index_along axis q * axis.up) (index_along axis q + 1)
+one_longer zs axis q d =
     let k : ℕ = index_along axis q in
     let p : ℕ = q - k * axis.up in
-    let line : List ℤ = line_of (pos 0) zs axis p k in
-    let x : ℤ = get_or zs q (pos 0) in
-    let below : k < axis.length = mod-lt (q / axis.up) h in
-    let some : 0 < length line = omega (arith, length-line (pos 0) zs axis p k) in
-    let longer : 0 < length (line_of (pos 0) zs axis p (k + 1)) = omega (arith, length-line (pos 0) zs axis p (k + 1)) in
-    let known : ok_number z ≡ Ok (total line) = sym e ∙ before_front (dyadic_of two.Plus) zs axis q h u later ∙ fold_total line some (small_total zs axis p axis.length k small (omega arith)) in
-    let sum : z ≡ total line = cc in
-    let next : line ++ x ∷ [] ≡ line_of (pos 0) zs axis p (k + 1) = ap (λ (r : ℕ). line ++ get_or zs r (pos 0) ∷ []) (on_line axis q d) ∙ line_more (pos 0) zs axis p k in
-    let all : z +ℤ x ≡ total (line_of (pos 0) zs axis p (k + 1)) = ap (λ (s : ℤ). s +ℤ x) sum ∙ sym (total_more line x) ∙ ap total next in
-    let bounded : magnitudes (line_of (pos 0) zs axis p (k + 1)) < 2 ^ 63 = small_total zs axis p axis.length (k + 1) small (omega arith) in
-    let fits : unsigned_abs (z +ℤ x) < 2 ^ 63 = omega (arith, total_small (line_of (pos 0) zs axis p (k + 1)), ap unsigned_abs all) in
-    in_range-fits (z +ℤ x) (fits_below (z +ℤ x) fits) ∙ ap (λ (w : ℤ). ok_number w) all ∙ sym (fold_total (line_of (pos 0) zs axis p (k + 1)) longer bounded)
+    ap (λ (r : ℕ). line_of (pos 0) zs axis p k ++ get_or zs r (pos 0) ∷ []) (on_line axis q d) ∙ line_more (pos 0) zs axis p k
+
+-- so addition of small numbers chains
+pub sums_chain : (zs : List ℤ) (axis : Axis) → AreSmall zs axis.length → 0 < axis.length → 0 < axis.up → axis.down ≡ 0 → Chains (dyadic_of two.Plus) (dyadic_of two.Plus) (dyadic_of two.Plus) zs axis
+sums_chain zs axis small h u d = record { odds = λ q odd. step q (omega arith); evens = λ q later even. step q later }
+  where
+    step : (q : ℕ) → 0 < index_along axis q → IsStep (dyadic_of two.Plus) (dyadic_of two.Plus) zs axis q
+    step q later z e =
+        let k : ℕ = index_along axis q in
+        let p : ℕ = q - k * axis.up in
+        let line : List ℤ = line_of (pos 0) zs axis p k in
+        let x : ℤ = get_or zs q (pos 0) in
+        let below : k < axis.length = mod-lt (q / axis.up) h in
+        let some : 0 < length line = omega (arith, length-line (pos 0) zs axis p k) in
+        let longer : 0 < length (line_of (pos 0) zs axis p (k + 1)) = omega (arith, length-line (pos 0) zs axis p (k + 1)) in
+        let known : ok_number z ≡ Ok (total line) = sym e ∙ before_front (dyadic_of two.Plus) zs axis q h u later ∙ fold_total line some (small_total zs axis p axis.length k small (omega arith)) in
+        let sum : z ≡ total line = cc in
+        let all : z +ℤ x ≡ total (line_of (pos 0) zs axis p (k + 1)) = ap (λ (s : ℤ). s +ℤ x) sum ∙ sym (total_more line x) ∙ ap total (one_longer zs axis q d) in
+        let bounded : magnitudes (line_of (pos 0) zs axis p (k + 1)) < 2 ^ 63 = small_total zs axis p axis.length (k + 1) small (omega arith) in
+        let fits : unsigned_abs (z +ℤ x) < 2 ^ 63 = omega (arith, total_small (line_of (pos 0) zs axis p (k + 1)), ap unsigned_abs all) in
+        in_range-fits (z +ℤ x) (fits_below (z +ℤ x) fits) ∙ ap (λ (w : ℤ). ok_number w) all ∙ sym (fold_total (line_of (pos 0) zs axis p (k + 1)) longer bounded)
+
+-- and subtraction, which takes the number at an odd index off the front before, and adds that at an even one
+pub differences_chain : (zs : List ℤ) (axis : Axis) → AreSmall zs axis.length → 0 < axis.length → 0 < axis.up → axis.down ≡ 0 → Chains (dyadic_of two.Minus) (dyadic_of two.Minus) (dyadic_of two.Plus) zs axis
+differences_chain zs axis small h u d = record {
+  odds = λ q odd. λ z e.
+      let k : ℕ = index_along axis q in
+      let x : ℤ = get_or zs q (pos 0) in
+      let less : z -ℤ x ≡ z +ℤ signed (is_odd (length (line_of (pos 0) zs axis (q - k * axis.up) k))) x =
+      taken z x ∙ ap (λ (b : Bool). z +ℤ signed b x) (sym (odd_two k odd) ∙ ap is_odd (sym (length-line (pos 0) zs axis (q - k * axis.up) k))) in
+      step q (omega arith) z (z -ℤ x) e less;
+  evens = λ q later even. λ z e.
+      let k : ℕ = index_along axis q in
+      let x : ℤ = get_or zs q (pos 0) in
+      let more : z +ℤ x ≡ z +ℤ signed (is_odd (length (line_of (pos 0) zs axis (q - k * axis.up) k))) x =
+      ap (λ (b : Bool). z +ℤ signed b x) (sym (even_two k even) ∙ ap is_odd (sym (length-line (pos 0) zs axis (q - k * axis.up) k))) in
+      step q later z (z +ℤ x) e more;
+}
+  where
+    taken : (z x : ℤ) → z -ℤ x ≡ z +ℤ (pos 0 -ℤ x)
+    taken z x = omega (arith, ints)
+
+    step : (q : ℕ) → 0 < index_along axis q → (z w : ℤ) → front_fold (dyadic_of two.Minus) zs axis (q - axis.up) ≡ Ok z →
+        w ≡ z +ℤ signed (is_odd (length (line_of (pos 0) zs axis (q - index_along axis q * axis.up) (index_along axis q)))) (get_or zs q (pos 0)) →
+        in_range w ≡ front_fold (dyadic_of two.Minus) zs axis q
+    step q later z w e g =
+        let k : ℕ = index_along axis q in
+        let p : ℕ = q - k * axis.up in
+        let line : List ℤ = line_of (pos 0) zs axis p k in
+        let x : ℤ = get_or zs q (pos 0) in
+        let below : k < axis.length = mod-lt (q / axis.up) h in
+        let some : 0 < length line = omega (arith, length-line (pos 0) zs axis p k) in
+        let longer : 0 < length (line_of (pos 0) zs axis p (k + 1)) = omega (arith, length-line (pos 0) zs axis p (k + 1)) in
+        let known : ok_number z ≡ Ok (alternating line) = sym e ∙ before_front (dyadic_of two.Minus) zs axis q h u later ∙ fold_alternating line some (small_total zs axis p axis.length k small (omega arith)) in
+        let sum : z ≡ alternating line = cc in
+        let all : w ≡ alternating (line_of (pos 0) zs axis p (k + 1)) = g ∙ ap (λ (s : ℤ). s +ℤ signed (is_odd (length line)) x) sum ∙ sym (one_more line x) ∙ ap alternating (one_longer zs axis q d) in
+        let bounded : magnitudes (line_of (pos 0) zs axis p (k + 1)) < 2 ^ 63 = small_total zs axis p axis.length (k + 1) small (omega arith) in
+        let fits : unsigned_abs w < 2 ^ 63 = omega (arith, alternating_small (line_of (pos 0) zs axis p (k + 1)), ap unsigned_abs all) in
+        in_range-fits w (fits_below w fits) ∙ ap (λ (v : ℤ). ok_number v) all ∙ sym (fold_alternating (line_of (pos 0) zs axis p (k + 1)) longer bounded)
 
 pub all_small : (zs : List ℤ) (bound : ℕ) → ((k : ℕ) → k < length zs → unsigned_abs (get_or zs k (pos 0)) ≤ bound) → (k : ℕ) → unsigned_abs (get_or zs k (pos 0)) ≤ bound
 all_small [] bound h k = omega arith

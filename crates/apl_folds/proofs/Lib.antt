@@ -1,12 +1,15 @@
 pub mod Rights
 pub mod Rows
 pub mod Walks
+pub mod Told
 pub mod Leaves
 pub mod Taken
 pub mod Shapes
 pub mod Along
 pub mod Comparisons
 pub mod Totals
+pub mod Swings
+pub mod LastTwo
 pub mod Associative
 pub mod Faults
 pub mod ByPlaces

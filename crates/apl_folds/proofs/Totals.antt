@@ -27,7 +27,7 @@ pub fits_below : (z : ℤ) → unsigned_abs z < 2 ^ 63 → FitsSigned w64 z
 fits_below z h = omega (arith, ints)
 
 -- what is equal to a number that fits
-fits_along : (x y : ℤ) → x ≡ y → unsigned_abs y < 2 ^ 63 → FitsSigned w64 x
+pub fits_along : (x y : ℤ) → x ≡ y → unsigned_abs y < 2 ^ 63 → FitsSigned w64 x
 fits_along x y e h =
     let P : ℤ → Type 0 = λ z. FitsSigned w64 z in
     subst P (sym e) (fits_below y h)
@@ -71,7 +71,7 @@ pub total_more : (xs : List ℤ) (x : ℤ) → total (xs ++ x ∷ []) ≡ total 
 total_more [] x = turned x (pos 0)
 total_more (y ∷ ys) x = ap (λ t. y +ℤ t) (total_more ys x) ∙ grouped y (total ys) x
 
-magnitudes_more : (xs : List ℤ) (x : ℤ) → magnitudes (xs ++ x ∷ []) ≡ magnitudes xs + unsigned_abs x
+pub magnitudes_more : (xs : List ℤ) (x : ℤ) → magnitudes (xs ++ x ∷ []) ≡ magnitudes xs + unsigned_abs x
 magnitudes_more [] x = omega arith
 magnitudes_more (y ∷ ys) x = omega (arith, magnitudes_more ys x)
 

@@ -3,15 +3,17 @@ ghost use Rattle.std.specs.Prelude.{◌≡◌, ◌<◌, ◌≤◌, ◌+◌, ◌*
 ghost use Rattle.apl_faults.specs.declared.fault.Fault.{Fault};
 ghost use Rattle.apl_arrays.specs.Answers.{Answers};
 ghost use Rattle.apl_scalar.specs.Functions.{dyadic_of};
-ghost use Rattle.apl_folds.specs.inside.Fronts.{index_along, front_folds, Chains, AreFronts, MoreFronts, AnswersIfSome, AreSmall};
+ghost use Rattle.apl_folds.specs.Chains.{IsAssociative};
+ghost use Rattle.apl_folds.specs.inside.Fronts.{front_folds, IsStep, Chains, AreFronts, MoreFronts, AnswersIfSome, AreSmall};
 
 use crate::running::EXACT;
 use apl_arrays::{Axis, Stop};
-use apl_scalar::{And, Dyadic, Logical, Maximum, Minimum, Or, Scalar, Sum, widest};
+use apl_scalar::{And, Difference, Dyadic, Logical, Maximum, Minimum, Or, Scalar, Sum, widest};
 use std::alloc::Global;
 
-/// Appends the fronts of a row of numbers that are not the first along the axis: each is made of the front a row before.
-fn push_next<F: Scalar>(
+/// Appends the fronts of a row of numbers that are not the first along the axis: each is a step from the front a row before.
+#[inline(always)]
+fn push_next<F: Scalar, S: Scalar>(
     numbers: &[i64],
     axis: Axis,
     from: usize,
@@ -19,13 +21,13 @@ fn push_next<F: Scalar>(
 ) -> Result<(), Stop>
     requires before { axis.up ≤ from }
     requires within { from + axis.up ≤ length numbers.now }
-    requires later { (q : ℕ) → from ≤ q → q < from + axis.up → 0 < index_along axis q }
-    requires chains { Chains F.meaning numbers.now axis }
+    requires steps { (q : ℕ) → from ≤ q → q < from + axis.up → IsStep F.meaning S.meaning numbers.now axis q }
     requires so_far { AreFronts F.meaning numbers.now axis from out.old.items }
     ensures { MoreFronts F.meaning numbers.now axis (from + axis.up) out.new.items result }
 {
-    for at in from..from + axis.up {
-        match F::apply(out[at - axis.up], numbers[at]) {
+    let up = axis.up;
+    for at in from..from + up {
+        match S::apply(out[at - up], numbers[at]) {
             Ok(value) => out.push(value)?,
             Err(fault) => return Err(Stop::Fault(fault)),
         }
@@ -34,7 +36,7 @@ fn push_next<F: Scalar>(
 }
 
 /// Appends the fronts of a row of numbers, which all have the same index along the axis.
-fn push_row<F: Scalar>(
+fn push_row<F: Scalar, Odd: Scalar, Even: Scalar>(
     numbers: &[i64],
     axis: Axis,
     row: usize,
@@ -43,7 +45,7 @@ fn push_row<F: Scalar>(
     requires long { 0 < axis.length }
     requires forward { axis.down ≡ 0 }
     requires within { (row + 1) * axis.up ≤ length numbers.now }
-    requires chains { Chains F.meaning numbers.now axis }
+    requires chains { Chains F.meaning Odd.meaning Even.meaning numbers.now axis }
     requires so_far { AreFronts F.meaning numbers.now axis (row * axis.up) out.old.items }
     ensures { MoreFronts F.meaning numbers.now axis ((row + 1) * axis.up) out.new.items result }
 {
@@ -52,11 +54,14 @@ fn push_row<F: Scalar>(
         out.extend_from_slice(&numbers[from..from + axis.up])?;
         return Ok(());
     }
-    push_next::<F>(numbers, axis, from, out)
+    if row % axis.length % 2 == 1 {
+        return push_next::<F, Odd>(numbers, axis, from, out);
+    }
+    push_next::<F, Even>(numbers, axis, from, out)
 }
 
 /// The fronts of so many rows, or the first fault.
-fn chain_rows<F: Scalar>(
+fn chain_rows<F: Scalar, Odd: Scalar, Even: Scalar>(
     alloc: Global,
     numbers: &[i64],
     axis: Axis,
@@ -65,14 +70,31 @@ fn chain_rows<F: Scalar>(
     requires long { 0 < axis.length }
     requires forward { axis.down ≡ 0 }
     requires size { length numbers.now ≡ rows * axis.up }
-    requires chains { Chains F.meaning numbers.now axis }
+    requires chains { Chains F.meaning Odd.meaning Even.meaning numbers.now axis }
     ensures { Answers (λ v. v.items) (front_folds F.meaning numbers.now axis) result }
 {
     let mut out = Vec::with_capacity(alloc, numbers.len())?;
     for row in 0..rows {
-        push_row::<F>(numbers, axis, row, &mut out)?;
+        push_row::<F, Odd, Even>(numbers, axis, row, &mut out)?;
     }
     Ok(out)
+}
+
+/// The same by an associative function.
+fn chain_all<F: Scalar>(
+    alloc: Global,
+    numbers: &[i64],
+    axis: Axis,
+    rows: usize,
+) -> Result<Vec<i64>, Stop>
+    requires long { 0 < axis.length }
+    requires apart { 0 < axis.up }
+    requires forward { axis.down ≡ 0 }
+    requires size { length numbers.now ≡ rows * axis.up }
+    requires associative { IsAssociative F.meaning }
+    ensures { Answers (λ v. v.items) (front_folds F.meaning numbers.now axis) result }
+{
+    chain_rows::<F, F, F>(alloc, numbers, axis, rows)
 }
 
 /// Whether so many of these numbers are known to have a sum that fits, in whatever order they are added.
@@ -92,8 +114,8 @@ fn some(answer: Result<Vec<i64>, Stop>) -> Result<Option<Vec<i64>>, Stop>
     }
 }
 
-/// The scan along an axis by a function whose folds are the same from either end, or the first fault. Of another function, and of numbers
-/// too large to be added in either order, it makes none.
+/// The scan along an axis by a function of which each front is a step from the one before, or the first fault. Of another function, and of
+/// numbers too large to be added in either order, it makes none.
 pub(crate) fn chained(
     alloc: Global,
     function: Dyadic,
@@ -110,15 +132,22 @@ pub(crate) fn chained(
     match function {
         Dyadic::Plus => {
             if are_small(numbers, axis.length) {
-                some(chain_rows::<Sum>(alloc, numbers, axis, rows))
+                some(chain_rows::<Sum, Sum, Sum>(alloc, numbers, axis, rows))
             } else {
                 Ok(None)
             }
         }
-        Dyadic::Maximum => some(chain_rows::<Maximum>(alloc, numbers, axis, rows)),
-        Dyadic::Minimum => some(chain_rows::<Minimum>(alloc, numbers, axis, rows)),
-        Dyadic::And => some(chain_rows::<Logical<And>>(alloc, numbers, axis, rows)),
-        Dyadic::Or => some(chain_rows::<Logical<Or>>(alloc, numbers, axis, rows)),
+        Dyadic::Minus => {
+            if are_small(numbers, axis.length) {
+                some(chain_rows::<Difference, Difference, Sum>(alloc, numbers, axis, rows))
+            } else {
+                Ok(None)
+            }
+        }
+        Dyadic::Maximum => some(chain_all::<Maximum>(alloc, numbers, axis, rows)),
+        Dyadic::Minimum => some(chain_all::<Minimum>(alloc, numbers, axis, rows)),
+        Dyadic::And => some(chain_all::<Logical<And>>(alloc, numbers, axis, rows)),
+        Dyadic::Or => some(chain_all::<Logical<Or>>(alloc, numbers, axis, rows)),
         _ => Ok(None),
     }
 }

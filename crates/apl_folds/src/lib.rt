@@ -1,11 +1,14 @@
 //! Folds of numbers, and reduction and scan along an axis.
 #![tactic(auto)]
 
+mod alternating;
 mod chains;
 mod characters;
 mod columns;
+mod ends;
 mod fold;
 mod fronts;
+mod kept;
 mod line;
 mod lines;
 mod order;

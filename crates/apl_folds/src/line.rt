@@ -3,21 +3,10 @@ ghost use Rattle.std.specs.Prelude.{◌≡◌, ◌^◌, ◌<◌, ◌≤◌, ◌+
 ghost use Rattle.apl_arrays.specs.Strides.{step_at};
 ghost use Rattle.apl_folds.specs.Lines.{line_fold, IsLine};
 
-use crate::columns::push_columns;
 use crate::fold::fold_right;
-use crate::walk::Leaf;
-use apl_arrays::{Axis, Stop, along};
+use apl_arrays::{Axis, along};
 use apl_faults::Fault;
 use apl_scalar::Scalar;
-use std::marker::PhantomData;
-
-/// The numbers along an axis, to be folded by a scalar function.
-#[derive(Drop)]
-pub(crate) struct Fold<'a, F: Scalar> {
-    pub numbers: &'a [i64],
-    pub axis: Axis,
-    pub by: PhantomData<F>,
-}
 
 /// The number at an index of an axis.
 #[inline(always)]
@@ -77,24 +66,4 @@ pub(crate) fn fold_line<F: Scalar>(
         return fold_strided::<F>(numbers, axis, at, count);
     }
     fold_right::<F>(row(numbers, at, count))
-}
-
-impl<'a, F: Scalar> Leaf for Fold<'a, F> {
-    ghost has = { λ s p count. IsLine (length s.numbers.now) s.axis p count };
-
-    ghost gives = { λ s p count. line_fold F.meaning s.numbers.now s.axis p count };
-
-    fn value(&self, at: usize, count: usize) -> Result<i64, Fault> {
-        fold_line::<F>(self.numbers, &self.axis, at, count)
-    }
-
-    fn push_columns(
-        &self,
-        from: usize,
-        till: usize,
-        count: usize,
-        out: &mut Vec<i64>,
-    ) -> Result<(), Stop> {
-        push_columns::<F>(self.numbers, &self.axis, from, till, count, out)
-    }
 }

@@ -4,20 +4,21 @@ ghost use Rattle.apl_arrays.specs.Answers.{Answers};
 ghost use Rattle.apl_arrays.specs.Strides.{reach_of};
 ghost use Rattle.apl_scalar.specs.declared.function.Dyadic.TheVariants as two;
 ghost use Rattle.apl_scalar.specs.Functions.{dyadic_of};
-ghost use Rattle.apl_folds.specs.Chains.{IsAssociative};
 ghost use Rattle.apl_folds.specs.Folds.{identity};
 ghost use Rattle.apl_folds.specs.Lines.{made_of, line_folds, line_comparisons, AreLines, OfEach};
 
-use crate::chains::Chain;
+use crate::alternating::Alternating;
+use crate::chains::Front;
 use crate::characters::Comparison;
+use crate::ends::Ends;
 use crate::fold::identity_of;
-use crate::line::Fold;
+use crate::kept::{Kept, Telling};
 use crate::running::Total;
 use crate::walk::{Leaf, Start, walk};
 use apl_arrays::{Axis, Stop};
 use apl_charset::Ch;
 use apl_faults::Fault;
-use apl_scalar::{And, ByFunction, Dyadic, Logical, Maximum, Minimum, Or, Scalar};
+use apl_scalar::{And, ByFunction, Difference, Dyadic, Logical, Maximum, Minimum, Or, Scalar};
 use std::alloc::Global;
 use std::marker::PhantomData;
 
@@ -43,14 +44,20 @@ fn walked<L: Leaf>(alloc: Global, leaf: &L, lines: &Lines<'_>) -> Result<Vec<i64
 }
 
 /// The folds of the numbers of each line by a scalar function, or the first fault.
-fn fold_each<F: Scalar>(alloc: Global, numbers: &[i64], lines: &Lines<'_>) -> Result<Vec<i64>, Stop>
-    requires { AreLines (length numbers.now) lines.now }
+fn fold_each<F: Scalar, K: Kept<F>>(
+    alloc: Global,
+    numbers: &[i64],
+    lines: &Lines<'_>,
+) -> Result<Vec<i64>, Stop>
+    requires lines { AreLines (length numbers.now) lines.now }
+    requires given { K.given }
     ensures { Answers (λ v. v.items) (line_folds F.meaning numbers.now lines.now) result }
 {
-    let leaf: Fold<'_, F> = Fold {
+    let leaf: Telling<'_, F, K> = Telling {
         numbers,
         axis: lines.inner,
         by: PhantomData,
+        kept: PhantomData,
     };
     walked(alloc, &leaf, lines)
 }
@@ -71,26 +78,8 @@ impl<'a> ByFunction for Folds<'a> {
     ghost gives = { λ s f result. Answers (λ v. v.items) (line_folds f s.numbers.now s.lines.now) result };
 
     fn with<F: Scalar>(self) -> Result<Vec<i64>, Stop> {
-        fold_each::<F>(self.alloc, self.numbers, self.lines)
+        fold_each::<F, Ends>(self.alloc, self.numbers, self.lines)
     }
-}
-
-/// The folds of the numbers of each line by an associative function, or the first fault.
-fn chain_each<F: Scalar>(
-    alloc: Global,
-    numbers: &[i64],
-    lines: &Lines<'_>,
-) -> Result<Vec<i64>, Stop>
-    requires lines { AreLines (length numbers.now) lines.now }
-    requires associative { IsAssociative F.meaning }
-    ensures { Answers (λ v. v.items) (line_folds F.meaning numbers.now lines.now) result }
-{
-    let leaf: Chain<'_, F> = Chain {
-        numbers,
-        axis: lines.inner,
-        by: PhantomData,
-    };
-    walked(alloc, &leaf, lines)
 }
 
 /// The sums of the numbers of each line, or the first fault.
@@ -117,10 +106,11 @@ pub(crate) fn folds_of_numbers(
 {
     match function {
         Dyadic::Plus => sum_each(alloc, numbers, lines),
-        Dyadic::Maximum => chain_each::<Maximum>(alloc, numbers, lines),
-        Dyadic::Minimum => chain_each::<Minimum>(alloc, numbers, lines),
-        Dyadic::And => chain_each::<Logical<And>>(alloc, numbers, lines),
-        Dyadic::Or => chain_each::<Logical<Or>>(alloc, numbers, lines),
+        Dyadic::Minus => fold_each::<Difference, Alternating>(alloc, numbers, lines),
+        Dyadic::Maximum => fold_each::<Maximum, Front>(alloc, numbers, lines),
+        Dyadic::Minimum => fold_each::<Minimum, Front>(alloc, numbers, lines),
+        Dyadic::And => fold_each::<Logical<And>, Front>(alloc, numbers, lines),
+        Dyadic::Or => fold_each::<Logical<Or>, Front>(alloc, numbers, lines),
         _ => function.apply(Folds {
             alloc,
             numbers,

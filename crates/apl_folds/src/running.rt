@@ -2,11 +2,11 @@
 ghost use Rattle.std.specs.Prelude.{◌≡◌, ◌^◌, ◌<◌, ◌+◌, ◌∷◌, ◌++◌, [], ℤ, List, length, pos, unsigned_abs};
 ghost use Rattle.apl_scalar.specs.declared.function.Dyadic.TheVariants as two;
 ghost use Rattle.apl_scalar.specs.Functions.{dyadic_of};
-ghost use Rattle.apl_folds.specs.Lines.{line_fold, line_of, IsLine};
+ghost use Rattle.apl_folds.specs.Lines.{line_fold, IsLine};
 ghost use Rattle.apl_folds.specs.inside.Sums.{IsRunning};
 
 use crate::columns::push_columns;
-use crate::line::nth;
+use crate::kept::{Kept, push_told};
 use crate::sums::{add, sum_line};
 use crate::walk::Leaf;
 use apl_arrays::{Axis, Stop};
@@ -26,7 +26,7 @@ pub(crate) struct Running {
 
 /// A magnitude with that of one number more, while the sum is below 2^63.
 #[inline(always)]
-fn grown(magnitude: u64, number: i64) -> u64
+pub(crate) fn grown(magnitude: u64, number: i64) -> u64
     ensures { result < 2 ^ 63 → result ≡ magnitude + unsigned_abs number }
 {
     magnitude.saturating_add(number.unsigned_abs())
@@ -43,25 +43,40 @@ fn more(running: Running, number: i64) -> Running
     }
 }
 
+impl Kept<Sum> for Running {
+    ghost given = { Unit {0} };
+
+    ghost knows = { IsRunning };
+
+    #[inline(always)]
+    fn first(number: i64) -> Running {
+        let none = Running {
+            sum: 0,
+            magnitude: 0,
+        };
+        more(none, number)
+    }
+
+    #[inline(always)]
+    fn next(self, number: i64) -> Running {
+        more(self, number)
+    }
+
+    #[inline(always)]
+    fn fold(self) -> Option<i64> {
+        if self.magnitude < EXACT {
+            Some(self.sum)
+        } else {
+            None
+        }
+    }
+}
+
 /// The numbers along an axis, to be summed.
 #[derive(Drop)]
 pub(crate) struct Total<'a> {
     pub numbers: &'a [i64],
     pub axis: Axis,
-}
-
-impl<'a> Total<'a> {
-    /// The fold of the first numbers of a line, of which the sums are known where they are small.
-    fn front(&self, running: Running, at: usize, count: usize) -> Result<i64, Fault>
-        requires line { IsLine (length self.now.numbers.now) self.now.axis at count }
-        requires running { IsRunning running (line_of (pos 0) self.now.numbers.now self.now.axis at count) }
-        ensures { result ≡ line_fold (dyadic_of two.Plus) self.now.numbers.now self.now.axis at count }
-    {
-        if running.magnitude < EXACT {
-            return Ok(running.sum);
-        }
-        sum_line(self.numbers, &self.axis, at, count)
-    }
 }
 
 impl<'a> Leaf for Total<'a> {
@@ -74,18 +89,8 @@ impl<'a> Leaf for Total<'a> {
     }
 
     fn push_fronts(&self, at: usize, length: usize, out: &mut Vec<i64>) -> Result<(), Stop> {
-        let mut running = Running {
-            sum: 0,
-            magnitude: 0,
-        };
-        for k in 0..length {
-            running = more(running, nth(self.numbers, &self.axis, at, k));
-            match self.front(running, at, k + 1) {
-                Ok(value) => out.push(value)?,
-                Err(fault) => return Err(Stop::Fault(fault)),
-            }
-        }
-        Ok(())
+        let told = push_told::<Sum, Running>(self.numbers, &self.axis, at, length, out)?;
+        self.push_from(at, told, length, out)
     }
 
     fn push_columns(

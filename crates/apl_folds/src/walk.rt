@@ -24,18 +24,32 @@ pub(crate) trait Leaf {
         requires { has self.now at count }
         ensures { result ≡ gives self.now at count };
 
-    /// Appends what it makes of the first item of a line, of the first two and so on, up to all.
-    fn push_fronts(&self, at: usize, length: usize, out: &mut Vec<i64>) -> Result<(), Stop>
+    /// Appends what it makes of the first items of a line, of one more and so on, up to all, without those of so many.
+    fn push_from(
+        &self,
+        at: usize,
+        from: usize,
+        length: usize,
+        out: &mut Vec<i64>,
+    ) -> Result<(), Stop>
         requires { (k : ℕ) → k < length → has self.now at (k + 1) }
-        ensures { Appends out.old.items out.new.items (all_ok (λ k. gives self.now at (k + 1)) (range_with_len 0 length)) result }
+        ensures { Appends out.old.items out.new.items (all_ok (λ k. gives self.now at (k + 1)) (range_with_len from (length - from))) result }
     {
-        for k in 0..length {
+        for k in from..length {
             match self.value(at, k + 1) {
                 Ok(value) => out.push(value)?,
                 Err(fault) => return Err(Stop::Fault(fault)),
             }
         }
         Ok(())
+    }
+
+    /// Appends what it makes of the first item of a line, of the first two and so on, up to all.
+    fn push_fronts(&self, at: usize, length: usize, out: &mut Vec<i64>) -> Result<(), Stop>
+        requires { (k : ℕ) → k < length → has self.now at (k + 1) }
+        ensures { Appends out.old.items out.new.items (all_ok (λ k. gives self.now at (k + 1)) (range_with_len 0 length)) result }
+    {
+        self.push_from(at, 0, length, out)
     }
 
     /// Appends what it makes of so many items of each of the lines that begin from one place to another, side by side.

@@ -22,11 +22,14 @@ front_fold f zs axis q = line_fold f zs axis (q - index_along axis q * axis.up) 
 abbrev pub front_folds : (ℤ → ℤ → Result ℤ Fault) → List ℤ → Axis → Result (List ℤ) Fault
 front_folds f zs axis = all_ok (front_fold f zs axis) (range_with_len 0 (length zs))
 
--- each of them but the first along the axis is made of the one before it and the number at its place
-abbrev pub Chains : (ℤ → ℤ → Result ℤ Fault) → List ℤ → Axis → Type 0
-Chains f zs axis =
-    (q : ℕ) (z : ℤ) → axis.up ≤ q → 0 < index_along axis q → front_fold f zs axis (q - axis.up) ≡ Ok z →
-    f z (slice_index_or zs q (pos 0)) ≡ front_fold f zs axis q
+-- the one at a place is a step from the one before it along the axis to the number there
+abbrev pub IsStep : (ℤ → ℤ → Result ℤ Fault) → (ℤ → ℤ → Result ℤ Fault) → List ℤ → Axis → ℕ → Type 0
+IsStep f step zs axis q = (z : ℤ) → front_fold f zs axis (q - axis.up) ≡ Ok z → step z (slice_index_or zs q (pos 0)) ≡ front_fold f zs axis q
+
+-- so are those at all places but the first along the axis, by one step at odd indices and by another at even ones
+pub record Chains (f odd even : ℤ → ℤ → Result ℤ Fault) (zs : List ℤ) (axis : Axis) : Type 0 where
+  pub odds : (q : ℕ) → index_along axis q % 2 ≡ 1 → IsStep f odd zs axis q
+  pub evens : (q : ℕ) → 0 < index_along axis q → index_along axis q % 2 ≡ 0 → IsStep f even zs axis q
 
 -- so many of them are known
 pub record AreFronts (f : ℤ → ℤ → Result ℤ Fault) (zs : List ℤ) (axis : Axis) (count : ℕ) (fronts : List ℤ) : Type 0 where

@@ -2,7 +2,7 @@ use Rattle.std.proofs.Common.{◌+◌, sym, ◌∙◌, rules, w64}
 use Rattle.std.proofs.lemmas.Int.{to_z-of_z}
 use mir.Val.{SFits}
 use Rattle.apl_arrays.proofs.InTurn.{turns_step, turns_fault, after_err}
-use Rattle.apl_folds.proofs.walk.Leaf.push_fronts.Goals as goal
+use Rattle.apl_folds.proofs.walk.Leaf.push_from.Goals as goal
 
 pub loop-k-preserved : goal.loop-k-preserved
 loop-k-preserved g c =

@@ -1,0 +1,23 @@
+-- Fronts of lines that are told one after another.
+-- Those told and those to come are the fronts of the line, each the fold of `Lines` anew.
+use Rattle.std.specs.Prelude.{◌≡◌, ℕ, ℤ, ◌+◌, ◌-◌, ◌≤◌, List, ◌++◌, Option, IfSome, Result, Ok}
+use Rattle.std.specs.List.{range_with_len}
+use Rattle.apl_faults.specs.declared.fault.Fault.{Fault}
+use Rattle.apl_arrays.specs.declared.axis.Axis.{Axis}
+use Rattle.apl_arrays.specs.Results.{ok_map, all_ok}
+use Rattle.apl_folds.specs.Chains.{IsAssociative}
+use Rattle.apl_folds.specs.Lines.{fold_by, line_fold}
+
+-- the folds of the first numbers of a line from an index on, of one more and so on, behind what stands
+abbrev pub fronts_behind : (ℤ → ℤ → Result ℤ Fault) → List ℤ → Axis → ℕ → ℕ → List ℤ → ℕ → Result (List ℤ) Fault
+fronts_behind f raw axis p count stands from = ok_map (λ zs. stands ++ zs) (all_ok (λ k. line_fold f raw axis p (k + 1)) (range_with_len from (count - from)))
+
+-- so many of them were told, and stand now
+pub record IsTold (f : ℤ → ℤ → Result ℤ Fault) (raw : List ℤ) (axis : Axis) (p count : ℕ) (old new : List ℤ) (told : ℕ) : Type 0 where
+  pub few : told ≤ count
+  pub others : fronts_behind f raw axis p count new told ≡ fronts_behind f raw axis p count old 0
+
+-- an associative function has this fold of these numbers, if it is told
+pub record IsFront (f : ℤ → ℤ → Result ℤ Fault) (fold : Option ℤ) (xs : List ℤ) : Type 0 where
+  pub associative : IsAssociative f
+  pub value : IfSome fold (λ z. fold_by f xs ≡ Ok z)
