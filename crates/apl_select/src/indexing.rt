@@ -75,6 +75,7 @@ fn elements_picked(
     slots: &[Option<Array>],
     origin: usize,
 ) -> Result<Array, Stop>
+    requires { origin ≤ 1 }
     ensures value { Answers (λ r. r) (indexed b.now slots.now origin) result }
     ensures at_once { FaultsFirst (slots_fit b.now slots.now) result }
 {

@@ -60,12 +60,7 @@ pub(crate) fn numbered(number: i64, len: usize, origin: usize) -> Result<usize, 
 
 /// The same of the number at a place of a list.
 #[inline(always)]
-pub(crate) fn numbered_at(
-    numbers: &[i64],
-    at: usize,
-    len: usize,
-    origin: usize,
-) -> Result<usize, Fault>
+fn numbered_at(numbers: &[i64], at: usize, len: usize, origin: usize) -> Result<usize, Fault>
     requires { at < length numbers.now }
     ensures { result ≡ place_numbered len origin (slice_index_or numbers.now at (pos 0)) }
 {

@@ -7,22 +7,33 @@ ghost use Rattle.apl_arrays.specs.Results.{all_ok, ok_map};
 ghost use Rattle.apl_select.specs.Indexing.{indexed, place_numbered};
 ghost use Rattle.apl_select.specs.inside.Numbered.{at_places, item_numbered};
 
-use crate::slots::numbered_at;
-use apl_arrays::{Array, Elements, Ravel, numbers_in};
+use apl_arrays::{Array, Elements, MAX_ELEMENTS, Ravel, numbers_in};
 use std::alloc::{AllocError, Global};
 
 /// How many elements are read before more room is made.
 const BLOCK: usize = 512;
 
+/// The place that a number counts from the index origin, or one beyond those of any array. It is one subtraction and no test.
+#[inline(always)]
+fn place_from(number: i64, origin: usize) -> usize
+    requires { origin ≤ 1 }
+    ensures { (n : ℕ) → n ≤ MAX_ELEMENTS → result < n → place_numbered n origin number ≡ Ok result }
+{
+    (number.cast_unsigned() as usize).wrapping_sub(origin)
+}
+
 /// Writes the elements at the places that numbers count over as many others, and says whether each number counts one.
 fn write_numbered<T: Copy>(to: &mut [T], raw: &[T], numbers: &[i64], origin: usize) -> bool
-    requires { length to.old ≡ length numbers.now }
+    requires long { length to.old ≡ length numbers.now }
+    requires small { length raw.now ≤ MAX_ELEMENTS }
+    requires origin { origin ≤ 1 }
     ensures { IsTrue result → (k : ℕ) (d : T) → k < length numbers.now → item_numbered raw.now origin d (slice_index_or numbers.now k (pos 0)) ≡ Ok (slice_index_or to.new k d) }
 {
     for k in 0..numbers.len() {
-        let Ok(place) = numbered_at(numbers, k, raw.len(), origin) else {
+        let place = place_from(numbers[k], origin);
+        if raw.len() <= place {
             return false;
-        };
+        }
         to[k] = raw[place];
     }
     true
@@ -35,7 +46,9 @@ fn read_numbered<T: Copy>(
     numbers: &[i64],
     origin: usize,
 ) -> Result<Option<Vec<T>>, AllocError>
-    requires { 0 < length raw.now }
+    requires some { 0 < length raw.now }
+    requires small { length raw.now ≤ MAX_ELEMENTS }
+    requires origin { origin ≤ 1 }
     ensures { IfOk result (λ found. IfSome found (λ v. (d : T) → all_ok (item_numbered raw.now origin d) numbers.now ≡ Ok v.items)) }
 {
     let mut out = Vec::with_capacity(alloc, numbers.len())?;
@@ -59,7 +72,9 @@ fn items_numbered(
     numbers: &[i64],
     origin: usize,
 ) -> Result<Option<Ravel>, AllocError>
-    requires { 0 < length (cells_of (listed items)) }
+    requires some { 0 < length (cells_of (listed items)) }
+    requires small { length (cells_of (listed items)) ≤ MAX_ELEMENTS }
+    requires origin { origin ≤ 1 }
     ensures { IfOk result (λ found. IfSome found (λ r. ok_map (at_places (listed items.entry)) (all_ok (place_numbered (length (cells_of (listed items.entry))) origin) numbers.now) ≡ Ok (items_of r))) }
 {
     match items {
@@ -81,7 +96,8 @@ pub(crate) fn vector_picked(
     a: &Array,
     origin: usize,
 ) -> Result<Option<Array>, AllocError>
-    requires { length b.now.shape ≡ 1 }
+    requires vector { length b.now.shape ≡ 1 }
+    requires origin { origin ≤ 1 }
     ensures { IfOk result (λ found. IfSome found (λ r. indexed b.now (Some a.now ∷ []) origin ≡ Ok r)) }
 {
     let items = b.items();

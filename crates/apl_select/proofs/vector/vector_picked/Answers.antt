@@ -20,7 +20,7 @@ in_shape-requires-clause-full c =
 
 pub returns-in-Some : goal.returns-in-Some
 returns-in-Some c =
-    vector_indexed c.args.b.now c.args.a.now c.args.origin c.in-Ok.numbers.now (items_of c.in-Some.ravel) c.in_shape.result c.requires c.items-items.ensures.full c.items.ensures.full
+    vector_indexed c.args.b.now c.args.a.now c.args.origin c.in-Ok.numbers.now (items_of c.in-Some.ravel) c.in_shape.result c.requires.vector c.items-items.ensures.full c.items.ensures.full
     c.shape.ensures.array.few_axes c.shape.ensures.array.small
     (sym (ap numbers_of c.items.ensures.value) ∙ c.in-Ok.ensures)
     (ap (λ (t : Items). ok_map (at_places t) (all_ok (place_numbered (length (cells_of t)) c.args.origin) c.in-Ok.numbers.now)) (sym c.items-items.ensures.value) ∙ (rw c.in-Some.is at c.in_ok-ravel.ensures))
