@@ -7,6 +7,7 @@ use Rattle.std.specs.List.{flat_map, range_with_len}
 use Rattle.apl_arrays.specs.declared.axis.Axis.{Axis}
 use Rattle.apl_arrays.specs.Index.{indices, is_within}
 use Rattle.apl_arrays.specs.Strides.{lengths, step_at, place_at, reach_of}
+pub use Rattle.apl_arrays.specs.inside.Rows.{rows_from}
 use Rattle.apl_arrays.proofs.InTurn.{range_step, range_none}
 use Rattle.apl_arrays.proofs.Order.{map_map, within_cons}
 use Rattle.apl_arrays.proofs.Steps.{reach_step, no_axis}
@@ -23,10 +24,6 @@ from_none n = omega arith
 
 pub line_start : {A : Type 0} (h : ℕ → A) (out : List A) (n : ℕ) → out ++ map h (range_with_len 0 (n - 0)) ≡ out ++ map h (range_with_len 0 n)
 line_start h out n = ap (λ m. out ++ map h (range_with_len 0 m)) (from_none n)
-
--- the index lists whose first index is i or more
-abbrev pub rows_from : List ℕ → ℕ → ℕ → List (List ℕ)
-rows_from ns i n = flat_map (λ i. map (λ is. i ∷ is) (indices ns)) (range_with_len i (n - i))
 
 pub row_step : {A : Type 0} (h : List ℕ → A) (ns : List ℕ) (i n : ℕ) (out new : List A) → i < n → new ≡ out ++ map (λ is. h (i ∷ is)) (indices ns) → new ++ map h (rows_from ns (i + 1) n) ≡ out ++ map h (rows_from ns i n)
 row_step h ns i n out new l e =

@@ -15,3 +15,4 @@ pub mod ByIndex
 pub mod Nth
 pub mod Single
 pub mod Scalars
+pub mod Fours

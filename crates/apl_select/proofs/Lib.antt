@@ -11,3 +11,4 @@ pub mod Writing
 pub mod Fits
 pub mod Assigned
 pub mod SinglePlace
+pub mod Vectors

@@ -1,10 +1,10 @@
 -- What slots of one number each pick.
-use Rattle.std.proofs.Common.{zero, suc, ◌≡◌, ℕ, ℤ, pos, ◌+◌, ◌*◌, ◌<◌, ◌≤◌, ◌&&◌, ◌==◌, Bool, true, false, nat_lt, cond, List, [], ◌∷◌, map, set, length, get_or, drop, refl, ap, sym, ◌∙◌, arith, rules, subst, Option, None, Some, Result, Ok, Err}
+use Rattle.std.proofs.Common.{zero, suc, ◌≡◌, ℕ, ℤ, pos, ◌+◌, ◌*◌, ◌<◌, ◌≤◌, ◌&&◌, Bool, true, false, nat_lt, cond, List, [], ◌∷◌, map, set, length, get_or, drop, refl, ap, sym, ◌∙◌, arith, rules, subst, Option, None, Some, Result, Ok, Err}
 use Rattle.std.specs.Prelude.{slice_get, slice_set, FitsSigned, IfSome, IsTrue, MatchBool}
 use Rattle.std.specs.Int.{w64}
 use Rattle.std.specs.Option.{option_and_then}
 use Rattle.std.specs.Result.{result_ok}
-use Rattle.std.proofs.lemmas.Bool.{eq-eqb, lt-ltb, ne_eqb}
+use Rattle.std.proofs.lemmas.Bool.{eq-eqb, lt-ltb}
 use Rattle.std.proofs.lemmas.List.{length-map}
 use Rattle.std.proofs.lemmas.List.Elements.{All-nil, All-cons, All-get_or}
 use Rattle.std.proofs.Math.ListN.{length-set}
@@ -19,7 +19,7 @@ use Rattle.apl_arrays.specs.Checks.{demand, limited}
 use Rattle.apl_arrays.specs.Index.{indices, is_within, position_in, size_of}
 use Rattle.apl_arrays.specs.Kinds.{are_numbers}
 use Rattle.apl_arrays.specs.Results.{and_then, ok_map}
-use Rattle.apl_arrays.specs.Simple.{lone_number, number_of_scalar, single}
+use Rattle.apl_arrays.specs.Simple.{number_of_scalar, single}
 use Rattle.apl_arrays.specs.Views.{picked, selected}
 use Rattle.apl_arrays.specs.Written.{number_written, with_number}
 use Rattle.apl_arrays.proofs.Scalars.{number_alone}

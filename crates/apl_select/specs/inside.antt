@@ -2,3 +2,4 @@ pub mod Laying
 pub mod Reached
 pub mod Single
 pub mod Written
+pub mod Numbered

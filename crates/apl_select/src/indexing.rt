@@ -13,6 +13,7 @@ ghost use Rattle.apl_select.specs.inside.Reached.{AreOnAxes};
 use crate::reach::read;
 use crate::single::place_picked;
 use crate::slots::{Picked, joined_shape, picks_of};
+use crate::vector::vector_picked;
 use apl_arrays::{
     Array, Cell, Elements, MAX_ELEMENTS, MAX_RANK, Origin, Ravel, Stop, size, within_limits,
 };
@@ -49,7 +50,7 @@ fn element_picked(b: &Array, slots: &[Option<Array>], origin: usize) -> Option<C
 }
 
 /// The elements that slots pick, axis by axis.
-fn elements_picked(
+fn elements_led_to(
     alloc: Global,
     b: &Array,
     slots: &[Option<Array>],
@@ -64,6 +65,30 @@ fn elements_picked(
     let room = size(shape.as_slice());
     let ravel = read_items(alloc, room, b.items(), b.shape(), picks.as_slice())?;
     Ok(Array::in_shape(shape.as_slice(), ravel))
+}
+
+/// The elements that slots pick. Those of a vector are read in one pass over the numbers. Where that meets a fault, the way by all axes says
+/// which is the first.
+fn elements_picked(
+    alloc: Global,
+    b: &Array,
+    slots: &[Option<Array>],
+    origin: usize,
+) -> Result<Array, Stop>
+    requires { origin ≤ 1 }
+    ensures value { Answers (λ r. r) (indexed b.now slots.now origin) result }
+    ensures at_once { FaultsFirst (slots_fit b.now slots.now) result }
+{
+    let [Some(a)] = slots else {
+        return elements_led_to(alloc, b, slots, origin);
+    };
+    if b.rank() != 1 {
+        return elements_led_to(alloc, b, slots, origin);
+    }
+    match vector_picked(alloc, b, a, origin)? {
+        Some(array) => Ok(array),
+        None => elements_led_to(alloc, b, slots, origin),
+    }
 }
 
 /// The elements of `b` that slots pick, one slot for each axis, in the slots' shapes one after another. An empty slot picks the whole axis.

@@ -12,6 +12,7 @@ mod overwrite;
 mod reach;
 mod single;
 mod slots;
+mod vector;
 
 pub use assignment::{index_assign, index_assign_into};
 pub use compression::{compress, expand};

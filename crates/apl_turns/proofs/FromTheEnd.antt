@@ -2,7 +2,7 @@
 use Rattle.std.proofs.Common.{◌≡◌, ℕ, pos, zero, suc, ◌∷◌, ◌+◌, ◌-◌, ◌*◌, ◌%◌, ◌<◌, ◌≤◌, true, List, [], ◌++◌, map, length, get_or, take, drop, refl, ap, sym, ◌∙◌, arith, append_assoc, append-nil, take-append-drop}
 use Rattle.std.specs.Prelude.{reverse, slice_range}
 use Rattle.std.specs.List.{range_with_len}
-use Rattle.std.proofs.lemmas.List.{length-map, length-reverse, get_or-reverse, reverse-append, drop_all, take_all}
+use Rattle.std.proofs.lemmas.List.{same_lists, length-map, length-reverse, get_or-reverse, reverse-append, drop_all, take_all}
 use Rattle.std.proofs.lemmas.List.FromFn.{length-range_with_len}
 use Rattle.std.proofs.lemmas.Nat.{div-mul-add, mod-mul-add}
 use Rattle.std.proofs.lemmas.Slice.{between_is}
@@ -14,6 +14,12 @@ use Rattle.apl_turns.specs.inside.Mirrored.{mirror, mirrored}
 use Rattle.apl_turns.proofs.Blocks.{grown_by, piece_get, piece_length}
 use Rattle.apl_turns.proofs.Parts.{position_parts, position_on, within_at_axis, behind_below, whole_parts}
 use Rattle.apl_turns.proofs.Rotated.{each_sourced}
+
+-- items that are written the other way over as many
+pub written_back : {A : Type 0} (to items old : List A) (n : ℕ) → length to ≡ length old → length old ≡ length items → length items ≤ n →
+    ((k : ℕ) (d : A) → k < n → get_or to k d ≡ get_or items (length items - 1 - k) d) → to ≡ reverse items
+written_back to items old n e f h each =
+    same_lists to (reverse items) (e ∙ f ∙ sym (length-reverse items)) (λ k d l. each k d (omega (arith, l, e, f)) ∙ sym (get_or-reverse items k d (omega (arith, l, e, f))))
 
 -- a block more of a line, from its end
 take_parts : {A : Type 0} (xs : List A) (i j : ℕ) → i ≤ j → take i xs ++ slice_range xs i j ≡ take j xs

@@ -13,12 +13,15 @@ use std::alloc::{AllocError, Global};
 /// How many elements are appended before they are turned round.
 const BLOCK: usize = 512;
 
-/// Turns round what stands from a place on.
-fn reverse_from<T>(items: &mut [T], from: usize)
-    requires { from ≤ length items.old }
-    ensures { items.new ≡ take from items.old ++ reverse (drop from items.old) }
+/// Writes elements the other way over as many.
+fn write_back<T: Copy>(to: &mut [T], items: &[T])
+    requires { length to.old ≡ length items.now }
+    ensures { to.new ≡ reverse items.now }
 {
-    items.split_at_mut(from).1.reverse();
+    let count = items.len();
+    for place in 0..count {
+        to[place] = items[count - 1 - place];
+    }
 }
 
 /// Appends elements the other way.
@@ -27,7 +30,7 @@ fn push_block<T: Copy>(out: &mut Vec<T>, items: &[T]) -> Result<(), AllocError>
 {
     let before = out.len();
     out.extend_from_slice(items)?;
-    reverse_from(out.as_mut_slice(), before);
+    write_back(out.as_mut_slice().split_at_mut(before).1, items);
     Ok(())
 }
 

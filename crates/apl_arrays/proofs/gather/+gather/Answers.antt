@@ -1,7 +1,8 @@
-use Rattle.std.proofs.Common.{rules, ◌≡◌, ◌+◌, ◌<◌, ◌++◌, ◌∷◌, [], map, get_or, length, arith, refl, ap, sym, ◌∙◌}
+use Rattle.std.proofs.Common.{List, rules, subst, ◌≡◌, ◌+◌, ◌<◌, ◌++◌, ◌∷◌, [], map, get_or, length, arith, refl, ap, sym, ◌∙◌}
 use Rattle.std.proofs.lemmas.List.{nil_from_length}
+use Rattle.apl_arrays.specs.declared.axis.Axis.{Axis}
 use Rattle.apl_arrays.specs.Index.{indices}
-use Rattle.apl_arrays.specs.Strides.{lengths, place_at, step_at}
+use Rattle.apl_arrays.specs.Strides.{lengths, place_at, step_at, AllPlaced}
 use Rattle.apl_arrays.proofs.Steps.{near_axis}
 use Rattle.apl_arrays.proofs.Gathers.{first_axis, other_axes, parts, only_axis, one_axis, placed_row, near_row, row_step, rows_end}
 use Rattle.apl_arrays.proofs.gather.+gather.Goals as goal
@@ -24,6 +25,11 @@ gather_line-requires-clause-placed g t c =
 
 pub along-requires-clause-near : goal.along-requires-clause-near
 along-requires-clause-near g t c = near_axis c.args.at (first_axis c.args.axes.now) (other_axes c.args.axes.now) _ (rw (parts c.args.axes.now (omega arith)) at c.requires.near)
+
+pub gather_fours-requires-clause-placed : goal.gather_fours-requires-clause-placed
+gather_fours-requires-clause-placed g t c =
+    let P : List Axis → Type 0 = λ xs. AllPlaced (length c.args.raw.now) c.args.at xs in
+    subst P (parts c.args.axes.now (omega arith)) c.requires.placed
 
 pub gather-requires : goal.gather-requires
 gather-requires g t c κs within = (

@@ -1,7 +1,7 @@
 use Rattle.std.proofs.Common.{◌≡◌, ◌++◌, ◌∷◌, map, get_or, length}
 use Rattle.apl_arrays.specs.Index.{indices}
 use Rattle.apl_arrays.specs.Strides.{lengths, place_at}
-use Rattle.apl_arrays.proofs.Gathers.{rows_from}
+use Rattle.apl_arrays.specs.inside.Rows.{rows_from}
 use Rattle.apl_arrays.proofs.gather.+gather.Given as goal
 
 abbrev pub decreases-gather : goal.decreases-gather

@@ -10,7 +10,7 @@ use Rattle.apl_arrays.specs.Views.{selected}
 use Rattle.apl_arrays.proofs.Order.{length-indices}
 use Rattle.apl_select.specs.Indexing.{Places, items_led_to, joined_shape, led_to}
 use Rattle.apl_select.proofs.Indexes.{length-picked, index_shaped}
-use Rattle.apl_select.proofs.indexing.elements_picked.Goals as goal
+use Rattle.apl_select.proofs.indexing.elements_led_to.Goals as goal
 
 pub in_shape-requires-clause-full : goal.in_shape-requires-clause-full
 in_shape-requires-clause-full c =
