@@ -6,3 +6,4 @@ pub mod Rests
 pub mod Growth
 pub mod Truths
 pub mod Scalars
+pub mod LowHalves

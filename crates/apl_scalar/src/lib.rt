@@ -14,6 +14,7 @@ mod logic;
 mod operand;
 mod overflow;
 mod powers;
+mod products;
 
 pub use apply::{dyadic, monadic, number_of_two};
 pub use arithmetic::{Difference, Maximum, Minimum, Product, Sum};
