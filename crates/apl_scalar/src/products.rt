@@ -6,6 +6,9 @@ ghost use Rattle.apl_scalar.specs.Operands.{AreValues};
 
 use crate::overflow::wider;
 
+/// What is below it tells that numbers are their low halves.
+const LOW: u64 = 0x1_0000_0000;
+
 /// The low half of a number with its sign, and a number that is below 2^32 only where that half is the whole.
 #[inline(always)]
 fn low_half(x: i64) -> (i32, u64)
@@ -26,6 +29,14 @@ fn low_product(x: i64, y: i64) -> (i64, u64)
     (i64::from(low_x) * i64::from(low_y), wider(far_x, far_y))
 }
 
+/// Whether the first product of a block is that of the low halves. Where it is not, a try at the others would mostly be lost.
+pub(crate) fn begins_low(a: &[i64], b: &[i64]) -> bool {
+    let [x, ..] = a else { return true };
+    let [y, ..] = b else { return true };
+    let (_, beyond) = low_product(*x, *y);
+    beyond < LOW
+}
+
 /// Writes the products of the low halves, each in one instruction, and says whether they are those of the numbers.
 pub(crate) fn fill_low(a: &[i64], b: &[i64], out: &mut [i64]) -> bool
     requires a { length a.now ≡ length out.old }
@@ -38,5 +49,5 @@ pub(crate) fn fill_low(a: &[i64], b: &[i64], out: &mut [i64]) -> bool
         out[i] = product;
         far = wider(far, beyond);
     }
-    far < 0x1_0000_0000
+    far < LOW
 }
