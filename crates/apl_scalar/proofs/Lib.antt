@@ -6,3 +6,7 @@ pub mod Rests
 pub mod Growth
 pub mod Truths
 pub mod Scalars
+pub mod LowHalves
+pub mod Inverses
+pub mod Turns
+pub mod Multiples

@@ -11,7 +11,7 @@ split : (m n : ℕ) → (suc n * (m / suc n) + m % suc n ≡ m) × (m % suc n < 
 split m n = (div-add-mod m (suc n), mod-lt m (omega arith))
 
 -- by a positive divisor
-positive_rest : (y : ℤ) (n : ℕ) → y -ℤ pos (suc n) *ℤ int_div_euclid y (pos (suc n)) ≡ int_rem_euclid y (pos (suc n))
+pub positive_rest : (y : ℤ) (n : ℕ) → y -ℤ pos (suc n) *ℤ int_div_euclid y (pos (suc n)) ≡ int_rem_euclid y (pos (suc n))
 positive_rest (pos m) n = plain m (suc n * (m / suc n)) (m % suc n) (split m n).0
   where
     plain : (m x r : ℕ) → x + r ≡ m → pos m -ℤ pos x ≡ pos r

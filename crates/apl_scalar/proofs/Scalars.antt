@@ -1,12 +1,10 @@
 -- Functions of scalars.
-use Rattle.std.proofs.Common.{◌≡◌, ℤ, List, [], ◌∷◌, ℕ, length, cond, false, Option, Some, None, Result, Ok, Err, refl, ap, sym, ◌∙◌, arith}
-use Rattle.std.specs.Prelude.{◌==◌}
-use Rattle.std.proofs.lemmas.Bool.{ne_eqb}
+use Rattle.std.proofs.Common.{◌≡◌, ℤ, [], ◌∷◌, Some, Result, Ok, Err, refl, ap, sym, ◌∙◌}
 use Rattle.apl_faults.specs.declared.fault.Fault.{Fault}
 use Rattle.apl_arrays.specs.declared.cell.Cell.TheVariants.{Num}
-use Rattle.apl_arrays.specs.Cells.{Arr, Items, Numbers, Characters}
+use Rattle.apl_arrays.specs.Cells.{Arr}
 use Rattle.apl_arrays.specs.Results.{and_then, ok_map}
-use Rattle.apl_arrays.specs.Simple.{single, lone_number, number_of_scalar}
+use Rattle.apl_arrays.specs.Simple.{single, number_of_scalar}
 use Rattle.apl_arrays.proofs.Scalars.{number_alone}
 use Rattle.apl_scalar.specs.declared.function.Dyadic.{Dyadic}
 use Rattle.apl_scalar.specs.Functions.{dyadic_of}

@@ -1,3 +1,4 @@
 pub mod Functions
 pub mod Operands
 pub mod Extension
+pub mod inside

@@ -23,6 +23,10 @@ abbrev pub AreValues : (ℤ → ℤ → Result ℤ Fault) → List ℤ → List 
 AreValues f xs ys zs =
     (k : ℕ) → k < length zs → f (slice_index_or xs k (pos 0)) (slice_index_or ys k (pos 0)) ≡ Ok (slice_index_or zs k (pos 0))
 
+-- each number is this one
+abbrev pub IsEach : ℤ → List ℤ → Type 0
+IsEach x zs = (k : ℕ) → k < length zs → slice_index_or zs k (pos 0) ≡ x
+
 -- there is a number for each place below n
 abbrev pub Covers : Operand → ℕ → Type 0
 Covers (One x) n = Unit {0}

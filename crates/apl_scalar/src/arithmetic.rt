@@ -5,6 +5,7 @@ ghost use Rattle.apl_scalar.specs.Functions.{monadic_of, dyadic_of};
 
 use crate::function::Scalar;
 use crate::overflow::{flagged_difference, flagged_product, flagged_sum};
+use crate::products::{begins_low, fill_low};
 use apl_faults::Fault;
 
 /// The number itself, also rounded up or down.
@@ -128,6 +129,12 @@ impl Scalar for Product {
     #[inline(always)]
     fn tried(x: i64, y: i64) -> (i64, i64) {
         flagged_product(x, y)
+    }
+
+    // A flag costs more than a product of small numbers.
+    #[inline(always)]
+    fn quick(a: &[i64], b: &[i64], out: &mut [i64]) -> bool {
+        begins_low(a, b) && fill_low(a, b, out)
     }
 }
 

@@ -2,6 +2,7 @@
 ghost use Rattle.std.specs.Prelude.{◌≡◌, ◌≤◌, ◌+◌, ◌-◌, length, IsTrue};
 ghost use Rattle.apl_arrays.specs.Answers.{Answers, Appends};
 ghost use Rattle.apl_scalar.specs.Operands.{Covers, values_from, AreValues};
+ghost use Rattle.apl_scalar.specs.inside.Pieces.{Serves};
 
 use crate::function::Scalar;
 use crate::operand::{BLOCK, Blocks, Operand};
@@ -49,6 +50,39 @@ fn fill<F: Scalar>(a: &[i64], b: &[i64], out: &mut [i64]) -> bool
     0 <= flags
 }
 
+/// Writes the values for the places of a block in a quick way, where there is one.
+#[inline(always)]
+fn fill_quickly<F: Scalar>(x: Operand, y: Operand, a: &[i64], b: &[i64], out: &mut [i64]) -> bool
+    requires x { Serves x a.now }
+    requires y { Serves y b.now }
+    requires a { length a.now ≡ length out.old }
+    requires b { length b.now ≡ length out.old }
+    ensures { IsTrue result → AreValues F.meaning a.now b.now out.new }
+{
+    match x {
+        Operand::One(x) => F::quick_by_first(x, a, b, out),
+        Operand::Many(_) => match y {
+            Operand::One(y) => F::quick_by_second(a, y, b, out),
+            Operand::Many(_) => F::quick(a, b, out),
+        },
+    }
+}
+
+/// Writes a number for each place of a block, and says whether all are values.
+#[inline(always)]
+fn fill_block<F: Scalar>(x: Operand, y: Operand, a: &[i64], b: &[i64], out: &mut [i64]) -> bool
+    requires x { Serves x a.now }
+    requires y { Serves y b.now }
+    requires a { length a.now ≡ length out.old }
+    requires b { length b.now ≡ length out.old }
+    ensures { IsTrue result → AreValues F.meaning a.now b.now out.new }
+{
+    if fill_quickly::<F>(x, y, a, b, out) {
+        return true;
+    }
+    fill::<F>(a, b, out)
+}
+
 /// Appends the values for the places of a block. Only where a flag is raised is there a test at each.
 fn push_block<F: Scalar>(
     out: &mut Vec<i64>,
@@ -65,7 +99,9 @@ fn push_block<F: Scalar>(
     ensures { Appends out.old.items out.new.items (values_from F.meaning a.now.operand b.now.operand from (till - from)) result }
 {
     let values = &mut room[..till - from];
-    if fill::<F>(a.piece(from, till), b.piece(from, till), values) {
+    let x = a.piece(from, till);
+    let y = b.piece(from, till);
+    if fill_block::<F>(a.operand, b.operand, x, y, values) {
         out.extend_from_slice(values)?;
         return Ok(());
     }

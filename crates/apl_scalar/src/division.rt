@@ -5,6 +5,7 @@ ghost use Rattle.apl_scalar.specs.declared.function.Dyadic.TheVariants as two;
 ghost use Rattle.apl_scalar.specs.Functions.{monadic_of, dyadic_of, quotient, residue};
 
 use crate::function::Scalar;
+use crate::reciprocals::{fill_left, fill_quotients};
 use apl_faults::Fault;
 
 /// The exact quotient.
@@ -74,6 +75,11 @@ impl Scalar for Quotient {
     fn apply(x: i64, y: i64) -> Result<i64, Fault> {
         exact_quotient(x, y)
     }
+
+    #[inline(always)]
+    fn quick_by_second(a: &[i64], y: i64, _b: &[i64], out: &mut [i64]) -> bool {
+        1 < y && fill_quotients(a, y as u64, out)
+    }
 }
 
 /// What is left of the second number when it is divided by the first.
@@ -85,5 +91,14 @@ impl Scalar for Residue {
     #[inline(always)]
     fn apply(x: i64, y: i64) -> Result<i64, Fault> {
         Ok(residue_by(x, y))
+    }
+
+    #[inline(always)]
+    fn quick_by_first(x: i64, _a: &[i64], b: &[i64], out: &mut [i64]) -> bool {
+        if x <= 0 {
+            return false;
+        }
+        fill_left(x as u64, b, out);
+        true
     }
 }

@@ -1,6 +1,7 @@
 // The scalar functions.
-ghost use Rattle.std.specs.Prelude.{◌≡◌, ◌≤ℤ◌, ℤ, Result, pos, Ok};
+ghost use Rattle.std.specs.Prelude.{◌≡◌, ◌≤ℤ◌, ℤ, Result, pos, Ok, length, IsTrue};
 ghost use Rattle.apl_faults.specs.declared.fault.Fault.{Fault};
+ghost use Rattle.apl_scalar.specs.Operands.{AreValues, IsEach};
 
 use apl_faults::Fault;
 use std::marker::PhantomData;
@@ -87,6 +88,38 @@ pub trait Scalar {
             Ok(value) => (value, 0),
             Err(_) => (0, -1),
         }
+    }
+
+    /// Writes the values for the places of a block in a quick way that numbers often allow, or answers false, and then what it wrote means nothing.
+    #[inline(always)]
+    fn quick(_a: &[i64], _b: &[i64], _out: &mut [i64]) -> bool
+        requires a { length _a.now ≡ length _out.old }
+        requires b { length _b.now ≡ length _out.old }
+        ensures { IsTrue result → AreValues meaning _a.now _b.now _out.new }
+    {
+        false
+    }
+
+    /// The same where each first number is this one.
+    #[inline(always)]
+    fn quick_by_first(_x: i64, a: &[i64], b: &[i64], out: &mut [i64]) -> bool
+        requires x { IsEach _x a.now }
+        requires a { length a.now ≡ length out.old }
+        requires b { length b.now ≡ length out.old }
+        ensures { IsTrue result → AreValues meaning a.now b.now out.new }
+    {
+        Self::quick(a, b, out)
+    }
+
+    /// The same where each second number is this one.
+    #[inline(always)]
+    fn quick_by_second(a: &[i64], _y: i64, b: &[i64], out: &mut [i64]) -> bool
+        requires y { IsEach _y b.now }
+        requires a { length a.now ≡ length out.old }
+        requires b { length b.now ≡ length out.old }
+        ensures { IsTrue result → AreValues meaning a.now b.now out.new }
+    {
+        Self::quick(a, b, out)
     }
 }
 

@@ -14,6 +14,8 @@ mod logic;
 mod operand;
 mod overflow;
 mod powers;
+mod products;
+mod reciprocals;
 
 pub use apply::{dyadic, monadic, number_of_two};
 pub use arithmetic::{Difference, Maximum, Minimum, Product, Sum};

@@ -1,0 +1,53 @@
+// Products of small numbers, by their low halves.
+ghost use Rattle.std.specs.Prelude.{◌≡◌, ◌<◌, ◌^◌, ◌*ℤ◌, length, IsTrue, Ok};
+ghost use Rattle.apl_scalar.specs.declared.function.Dyadic.TheVariants as two;
+ghost use Rattle.apl_scalar.specs.Functions.{dyadic_of, in_range};
+ghost use Rattle.apl_scalar.specs.Operands.{AreValues};
+
+use crate::overflow::wider;
+
+/// What is below it tells that numbers are their low halves.
+const LOW: u64 = 0x1_0000_0000;
+
+/// The low half of a number with its sign, and a number that is below 2^32 only where that half is the whole.
+#[inline(always)]
+fn low_half(x: i64) -> (i32, u64)
+    ensures { result.1 < 2 ^ 32 → x ≡ result.0 }
+{
+    let bits = x.cast_unsigned();
+    let low = (bits & 0xFFFF_FFFF) as u32;
+    (low.cast_signed(), bits.wrapping_add(0x8000_0000))
+}
+
+/// The product of the low halves, and a number that is below 2^32 only where it is that of the numbers.
+#[inline(always)]
+fn low_product(x: i64, y: i64) -> (i64, u64)
+    ensures { result.1 < 2 ^ 32 → in_range (x *ℤ y) ≡ Ok result.0 }
+{
+    let (low_x, far_x) = low_half(x);
+    let (low_y, far_y) = low_half(y);
+    (i64::from(low_x) * i64::from(low_y), wider(far_x, far_y))
+}
+
+/// Whether the first product of a block is that of the low halves. Where it is not, a try at the others would mostly be lost.
+pub(crate) fn begins_low(a: &[i64], b: &[i64]) -> bool {
+    let [x, ..] = a else { return true };
+    let [y, ..] = b else { return true };
+    let (_, beyond) = low_product(*x, *y);
+    beyond < LOW
+}
+
+/// Writes the products of the low halves, each in one instruction, and says whether they are those of the numbers.
+pub(crate) fn fill_low(a: &[i64], b: &[i64], out: &mut [i64]) -> bool
+    requires a { length a.now ≡ length out.old }
+    requires b { length b.now ≡ length out.old }
+    ensures { IsTrue result → AreValues (dyadic_of two.Times) a.now b.now out.new }
+{
+    let mut far = 0u64;
+    for i in 0..out.len() {
+        let (product, beyond) = low_product(a[i], b[i]);
+        out[i] = product;
+        far = wider(far, beyond);
+    }
+    far < LOW
+}
