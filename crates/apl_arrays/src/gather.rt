@@ -7,7 +7,7 @@ ghost use Rattle.apl_arrays.specs.Left.{listed};
 ghost use Rattle.apl_arrays.specs.Ravels.{items_of};
 ghost use Rattle.apl_arrays.specs.Strides.{lengths, place_at, reach_of, seen, step_at, AllPlaced};
 ghost use Rattle.apl_arrays.specs.Views.{all_at};
-ghost use Rattle.apl_arrays.specs.inside.Rows.{line_from, rows_from};
+ghost use Rattle.apl_arrays.specs.inside.Rows.{four_from, line_from, AreRowsTo};
 
 use crate::axis::{Axis, along};
 use crate::cell::Ravel;
@@ -86,7 +86,7 @@ fn gather_fours<T: Copy>(
     requires placed { AllPlaced (length raw.now) at (axis.now ∷ rest.now) }
     requires near { reach_of at (axis.now ∷ rest.now) < 2 ^ 63 }
     ensures within { IfOk result (λ n. n ≤ axis.now.length) }
-    ensures rows { IfOk result (λ n. (d : T) → out.new.items ++ all_at raw.now (place_at at (axis.now ∷ rest.now)) (rows_from (lengths rest.now) n axis.now.length) d ≡ out.old.items ++ all_at raw.now (place_at at (axis.now ∷ rest.now)) (indices (lengths (axis.now ∷ rest.now))) d) }
+    ensures rows { IfOk result (λ n. AreRowsTo raw.now at axis.now rest.now n out.old.items out.new.items) }
 {
     let [line] = rest else {
         return Ok(0);
@@ -110,7 +110,7 @@ fn push_four<T: Copy>(raw: &[T], at: usize, axis: &Axis, out: &mut Vec<T>) -> Re
     requires some { 0 < axis.now.length }
     requires placed { (k : ℕ) → k < axis.now.length → at + 3 + step_at axis.now k < length raw.now }
     requires near { at + (axis.now.up + axis.now.down) * axis.now.length < 2 ^ 63 }
-    ensures { OnOk result ((d : T) → out.new.items ≡ out.old.items ++ (line_from raw.now axis.now at d ++ (line_from raw.now axis.now (at + 1) d ++ (line_from raw.now axis.now (at + 2) d ++ line_from raw.now axis.now (at + 3) d)))) }
+    ensures { OnOk result ((d : T) → out.new.items ≡ out.old.items ++ four_from raw.now axis.now at d) }
 {
     let Some(count) = axis.length.checked_mul(4) else {
         return Err(AllocError);
@@ -147,7 +147,10 @@ fn write_four<T: Copy>(
     at: usize,
     axis: Axis,
 )
-    requires long { (length first.old ≡ axis.length) × ((length second.old ≡ axis.length) × ((length third.old ≡ axis.length) × (length fourth.old ≡ axis.length))) }
+    requires first { length first.old ≡ axis.length }
+    requires second { length second.old ≡ axis.length }
+    requires third { length third.old ≡ axis.length }
+    requires fourth { length fourth.old ≡ axis.length }
     requires placed { (k : ℕ) → k < axis.length → at + 3 + step_at axis k < length raw.now }
     requires near { at + (axis.up + axis.down) * axis.length < 2 ^ 63 }
     ensures first { (d : T) → first.new ≡ line_from raw.now axis at d }

@@ -1,11 +1,11 @@
 // Elements of a vector at places that numbers count.
-ghost use Rattle.std.specs.Prelude.{◌≡◌, ℕ, ◌<◌, ◌≤◌, ◌∷◌, [], length, pos, slice_index_or, IfOk, IfSome, IsTrue, Ok, Some};
+ghost use Rattle.std.specs.Prelude.{◌≡◌, ℕ, ◌<◌, ◌≤◌, ◌∷◌, [], length, IfOk, IfSome, IsTrue, Ok, Some};
 ghost use Rattle.apl_arrays.specs.Cells.{cells_of};
 ghost use Rattle.apl_arrays.specs.Left.{listed};
 ghost use Rattle.apl_arrays.specs.Ravels.{items_of};
-ghost use Rattle.apl_arrays.specs.Results.{all_ok, ok_map};
+ghost use Rattle.apl_arrays.specs.Results.{all_ok};
 ghost use Rattle.apl_select.specs.Indexing.{indexed, place_numbered};
-ghost use Rattle.apl_select.specs.inside.Numbered.{at_places, item_numbered};
+ghost use Rattle.apl_select.specs.inside.Numbered.{item_numbered, items_numbered, AreNumbered};
 
 use apl_arrays::{Array, Elements, MAX_ELEMENTS, Ravel, numbers_in};
 use std::alloc::{AllocError, Global};
@@ -27,7 +27,7 @@ fn write_numbered<T: Copy>(to: &mut [T], raw: &[T], numbers: &[i64], origin: usi
     requires long { length to.old ≡ length numbers.now }
     requires small { length raw.now ≤ MAX_ELEMENTS }
     requires origin { origin ≤ 1 }
-    ensures { IsTrue result → (k : ℕ) (d : T) → k < length numbers.now → item_numbered raw.now origin d (slice_index_or numbers.now k (pos 0)) ≡ Ok (slice_index_or to.new k d) }
+    ensures { IsTrue result → AreNumbered raw.now origin numbers.now to.new }
 {
     for k in 0..numbers.len() {
         let place = place_from(numbers[k], origin);
@@ -75,7 +75,7 @@ fn items_numbered(
     requires some { 0 < length (cells_of (listed items)) }
     requires small { length (cells_of (listed items)) ≤ MAX_ELEMENTS }
     requires origin { origin ≤ 1 }
-    ensures { IfOk result (λ found. IfSome found (λ r. ok_map (at_places (listed items.entry)) (all_ok (place_numbered (length (cells_of (listed items.entry))) origin) numbers.now) ≡ Ok (items_of r))) }
+    ensures { IfOk result (λ found. IfSome found (λ r. items_numbered (listed items.entry) origin numbers.now ≡ Ok (items_of r))) }
 {
     match items {
         Elements::Nums(raw) => match read_numbered(alloc, raw, numbers, origin)? {
