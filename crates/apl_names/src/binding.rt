@@ -62,13 +62,13 @@ impl Binding {
         }
     }
 
-    /// The same, whose value shares its elements with its copies from then on.
-    pub(crate) fn shared(self, alloc: Global) -> Result<Binding, AllocError>
-        ensures { IfOk result (λ binding. binding ≡ self) }
+    /// Its value, if it has one, shares its elements with its copies from then on. It is the same, after an error too.
+    pub(crate) fn share(&mut self, alloc: Global) -> Result<(), AllocError>
+        ensures { self.new ≡ self.old }
     {
         match self {
-            Binding::Value(value) => Ok(Binding::Value(value.shared(alloc)?)),
-            binding => Ok(binding),
+            Binding::Value(value) => value.share(alloc),
+            Binding::Unset | Binding::Label(_) | Binding::Function(_) => Ok(()),
         }
     }
 
