@@ -1,5 +1,5 @@
 -- What is left by a positive divisor, where a negative number is turned to its complement and back.
-use Rattle.std.proofs.Common.{◌≡◌, ℕ, zero, suc, ℤ, pos, negsuc, ◌+ℤ◌, ◌-◌, ◌%◌, ◌^◌, ◌<◌, FitsSigned, to_z, of_z, ap, sym, ◌∙◌, arith}
+use Rattle.std.proofs.Common.{◌≡◌, ℕ, zero, suc, ℤ, pos, negsuc, ◌+ℤ◌, ◌-◌, ◌%◌, ◌^◌, ◌<◌, FitsSigned, to_z, of_z, lit<, ap, sym, ◌∙◌, arith}
 use Rattle.std.specs.Prelude.{bit_and, bit_xor}
 use Rattle.std.specs.Int.{w64, int_shr}
 use Rattle.std.proofs.Math.Nat.{mod-lt}
@@ -7,6 +7,7 @@ use Rattle.std.proofs.lemmas.Int.{ints, of_z-to_z, to_z-of_z}
 use Rattle.std.proofs.lemmas.Nat.{and_mask}
 use lib.Bits.{xor_add_and, xor_zero_r, and_zero_r}
 use Rattle.apl_scalar.specs.Functions.{residue}
+use Rattle.apl_scalar.specs.inside.Turns.{turned}
 use Rattle.apl_scalar.proofs.Rests.{positive_rest}
 
 -- the bits of -1 where a number is negative, and else of 0
@@ -74,17 +75,24 @@ turned_down m r d s e h k l =
         ∙ ap (λ z. to_z w64 (of_z w64 z)) total
         ∙ to_z-of_z w64 (pos (d - 1 - r)) (omega (arith, ints))
 
--- what is left by the rest of the number or its complement
-pub left_value : (y : ℤ) (d r : ℕ) → FitsSigned w64 y → 0 < d → d < 2 ^ 63 → r ≡ of_z w64 (to_z w64 (bit_xor (of_z w64 y) (signs y))) % d →
+-- as the code turns a number
+pub turned_value : (y : ℤ) → FitsSigned w64 y → of_z w64 (to_z w64 (bit_xor (of_z w64 y) (signs y))) ≡ turned y
+turned_value (pos m) f =
+    let small : m < 2 ^ 63 = omega (arith, ints) in
+    ap (λ b. of_z w64 (to_z w64 b)) (turned_up m 0 1 (signs (pos m)) (signs_up m f) small (lit< tt) (lit< tt)).0 ∙ of_z-to_z w64 m (omega arith)
+turned_value (negsuc m) f =
+    let small : m < 2 ^ 63 = omega (arith, ints) in
+    ap (λ b. of_z w64 (to_z w64 b)) (turned_down m 0 1 (signs (negsuc m)) (signs_down m f) small (lit< tt) (lit< tt)).0 ∙ of_z-to_z w64 m (omega arith)
+
+-- what is left, by the rest of the number turned
+pub left_value : (y : ℤ) (d r : ℕ) → FitsSigned w64 y → 0 < d → d < 2 ^ 63 → r ≡ turned y % d →
     to_z w64 (of_z w64 (to_z w64 (bit_xor r (signs y)) +ℤ to_z w64 (bit_and d (signs y)))) ≡ residue (pos d) y
 left_value y zero r f o k h = absurd (omega arith)
 left_value (pos m) (suc n) r f o k h =
     let small : m < 2 ^ 63 = omega (arith, ints) in
     let less : r < suc n = rw h (mod-lt _ (omega arith)) in
-    let t = turned_up m r (suc n) (signs (pos m)) (signs_up m f) small k less in
-    t.1 ∙ ap pos (h ∙ ap (λ b. of_z w64 (to_z w64 b) % suc n) t.0 ∙ ap (λ b. b % suc n) (of_z-to_z w64 m (omega arith))) ∙ sym (positive_rest (pos m) n)
+    (turned_up m r (suc n) (signs (pos m)) (signs_up m f) small k less).1 ∙ ap pos h ∙ sym (positive_rest (pos m) n)
 left_value (negsuc m) (suc n) r f o k h =
     let small : m < 2 ^ 63 = omega (arith, ints) in
     let less : r < suc n = rw h (mod-lt _ (omega arith)) in
-    let t = turned_down m r (suc n) (signs (negsuc m)) (signs_down m f) small k less in
-    t.1 ∙ ap (λ b. pos (suc n - 1 - b)) (h ∙ ap (λ b. of_z w64 (to_z w64 b) % suc n) t.0 ∙ ap (λ b. b % suc n) (of_z-to_z w64 m (omega arith))) ∙ sym (positive_rest (negsuc m) n)
+    (turned_down m r (suc n) (signs (negsuc m)) (signs_down m f) small k less).1 ∙ ap (λ b. pos (suc n - 1 - b)) h ∙ sym (positive_rest (negsuc m) n)

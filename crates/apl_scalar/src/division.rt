@@ -6,6 +6,7 @@ ghost use Rattle.apl_scalar.specs.Functions.{monadic_of, dyadic_of, quotient, re
 
 use crate::function::Scalar;
 use crate::reciprocals::{fill_left, fill_quotients};
+use crate::small_residues::{are_small, begin_small, fill_small};
 use apl_faults::Fault;
 
 /// The exact quotient.
@@ -91,6 +92,15 @@ impl Scalar for Residue {
     #[inline(always)]
     fn apply(x: i64, y: i64) -> Result<i64, Fault> {
         Ok(residue_by(x, y))
+    }
+
+    #[inline(always)]
+    fn quick(a: &[i64], b: &[i64], out: &mut [i64]) -> bool {
+        if !(begin_small(a, b) && are_small(a, b)) {
+            return false;
+        }
+        fill_small(a, b, out);
+        true
     }
 
     #[inline(always)]

@@ -6,6 +6,7 @@ mod arithmetic;
 mod blocks;
 mod characters;
 mod comparison;
+mod complements;
 mod dispatch;
 mod division;
 mod examples;
@@ -16,6 +17,7 @@ mod overflow;
 mod powers;
 mod products;
 mod reciprocals;
+mod small_residues;
 
 pub use apply::{dyadic, monadic, number_of_two};
 pub use arithmetic::{Difference, Maximum, Minimum, Product, Sum};

@@ -3,6 +3,7 @@ ghost use Rattle.std.specs.Prelude.{◌≡◌, ◌<◌, ◌*◌, ◌/◌, ◌%�
 ghost use Rattle.apl_scalar.specs.Functions.{quotient, residue};
 ghost use Rattle.apl_scalar.specs.inside.Reciprocals.{AreLeft, AreQuotients, IsBelowReciprocal, IsAboveReciprocal};
 
+use crate::complements::{turned_back, turned_up};
 use crate::overflow::wider;
 
 /// The high half of a product.
@@ -35,10 +36,8 @@ fn left_by(y: i64, divisor: u64, inverse: u64) -> i64
     requires divisor { (0 < divisor) × (divisor < 2 ^ 63) }
     ensures { result ≡ residue (pos divisor) y }
 {
-    // -1 for a negative number, and else 0
-    let sign = y >> 63;
-    let rest = rest_by((y ^ sign).cast_unsigned(), divisor, inverse);
-    (rest as i64 ^ sign) + (divisor as i64 & sign)
+    let rest = rest_by(turned_up(y), divisor, inverse);
+    turned_back(y, divisor, rest)
 }
 
 /// Writes what is left of each number by a positive divisor.
