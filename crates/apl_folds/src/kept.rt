@@ -1,7 +1,7 @@
 // Fronts of lines, each from what is kept of the numbers before.
-ghost use Rattle.std.specs.Prelude.{◌≡◌, ◌<◌, ◌≤◌, ◌+◌, ◌∷◌, ◌++◌, [], ℕ, ℤ, pos, List, length, slice_index_or, IfOk, IsTrue, Ok};
+ghost use Rattle.std.specs.Prelude.{◌≡◌, ◌<◌, ◌≤◌, ◌+◌, ◌∷◌, ◌++◌, [], ℕ, ℤ, pos, List, length, IfOk, IsTrue, Ok};
 ghost use Rattle.apl_folds.specs.Lines.{fold_by, line_fold, line_of, IsLine};
-ghost use Rattle.apl_folds.specs.inside.Kept.{IsTold};
+ghost use Rattle.apl_folds.specs.inside.Kept.{AreTold, IsTold};
 
 use crate::columns::push_columns;
 use crate::line::{fold_line, nth};
@@ -89,7 +89,7 @@ fn fill_known<F: Scalar, K: Kept<F>>(
     ensures few { result.1 ≤ length room.old }
     ensures size { length room.new ≡ length room.old }
     ensures kept { result.1 ≡ length room.old → K.knows result.0 (line_of (pos 0) numbers.now axis.now at (from + length room.old)) }
-    ensures folds { (j : ℕ) → j < result.1 → line_fold F.meaning numbers.now axis.now at (from + j + 1) ≡ Ok (slice_index_or room.new j (pos 0)) }
+    ensures folds { AreTold F.meaning numbers.now axis.now at from room.new result.1 }
 {
     let mut kept = before;
     for j in 0..room.len() {
@@ -119,7 +119,7 @@ fn fill_all<F: Scalar, K: Kept<F>>(
     requires kept { K.knows before (line_of (pos 0) numbers.now axis.now at from) }
     ensures size { length room.new ≡ length room.old }
     ensures kept { K.knows result (line_of (pos 0) numbers.now axis.now at (from + length room.old)) }
-    ensures folds { K.tells result → (j : ℕ) → j < length room.old → line_fold F.meaning numbers.now axis.now at (from + j + 1) ≡ Ok (slice_index_or room.new j (pos 0)) }
+    ensures folds { K.tells result → AreTold F.meaning numbers.now axis.now at from room.new (length room.old) }
 {
     let mut kept = before;
     for j in 0..room.len() {
@@ -146,7 +146,7 @@ fn fill<F: Scalar, K: Kept<F>>(
     ensures few { result.1 ≤ length room.old }
     ensures size { length room.new ≡ length room.old }
     ensures kept { result.1 ≡ length room.old → K.knows result.0 (line_of (pos 0) numbers.now axis.now at (from + length room.old)) }
-    ensures folds { (j : ℕ) → j < result.1 → line_fold F.meaning numbers.now axis.now at (from + j + 1) ≡ Ok (slice_index_or room.new j (pos 0)) }
+    ensures folds { AreTold F.meaning numbers.now axis.now at from room.new result.1 }
 {
     let all = fill_all::<F, K>(numbers, axis, at, from, before, room);
     if all.is_told() {
