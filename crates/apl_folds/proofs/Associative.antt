@@ -1,6 +1,5 @@
 -- Folds by associative functions, a number more at a time.
 use Rattle.std.proofs.Common.{zero, suc, ◌≡◌, ℕ, ℤ, pos, negsuc, ◌+◌, ◌<◌, Bool, true, false, ◌&&◌, ◌||◌, List, [], ◌∷◌, ◌++◌, length, get_or, Option, None, Some, Result, Ok, Err, refl, ap, sym, ◌∙◌, arith}
-use Rattle.std.specs.Option.{IfSome}
 use Rattle.std.specs.Int.{int_max, int_min}
 use Rattle.std.proofs.lemmas.Int.{ints, clamps}
 use Rattle.apl_faults.specs.declared.fault.Fault.{Fault}
@@ -11,7 +10,6 @@ use Rattle.apl_arrays.specs.Strides.{step_at}
 use Rattle.apl_scalar.specs.declared.function.Dyadic.TheVariants as two
 use Rattle.apl_scalar.specs.Functions.{dyadic_of, number_of, truth_of, logical}
 use Rattle.apl_folds.specs.Chains.{IsAssociative}
-use Rattle.apl_folds.specs.inside.Kept.{IsFront}
 use Rattle.apl_folds.specs.Lines.{fold_by, line_of}
 use Rattle.apl_folds.proofs.Rows.{length-line, line_more}
 
@@ -26,12 +24,8 @@ fold_chain f a (x ∷ y ∷ ys) w h = ap (λ (r : Result ℤ Fault). and_then r 
     each (Err e) = refl
 
 -- what is told of one number more
-pub front_next : (f : ℤ → ℤ → Result ℤ Fault) (xs : List ℤ) (before x : ℤ) (fold : Option ℤ) → 0 < length xs → IsFront f (Some before) xs → IfSome fold (λ z. f before x ≡ Ok z) → IsFront f fold (xs ++ x ∷ [])
-front_next f xs before x None some h e = record { associative = h.associative; value = tt }
-front_next f xs before x (Some z) some h e = record {
-  associative = h.associative;
-  value = fold_chain f h.associative xs x some ∙ ap (λ (r : Result ℤ Fault). and_then r (λ y. f y x)) h.value ∙ e;
-}
+pub front_next : (f : ℤ → ℤ → Result ℤ Fault) (xs : List ℤ) (before x z : ℤ) → IsAssociative f → 0 < length xs → fold_by f xs ≡ Ok before → f before x ≡ Ok z → fold_by f (xs ++ x ∷ []) ≡ Ok z
+front_next f xs before x z a some h e = fold_chain f a xs x some ∙ ap (λ (r : Result ℤ Fault). and_then r (λ y. f y x)) h ∙ e
 
 -- the first number of a line
 pub chain_first : (f : ℤ → ℤ → Result ℤ Fault) (raw : List ℤ) (axis : Axis) (p k : ℕ) (x : ℤ) → k ≡ 0 → x ≡ get_or raw (p + step_at axis k) (pos 0) → Ok x ≡ fold_by f (line_of (pos 0) raw axis p (k + 1))

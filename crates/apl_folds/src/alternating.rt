@@ -1,5 +1,5 @@
 // Folds by subtraction, each from the one before it.
-ghost use Rattle.std.specs.Prelude.{◌≡◌, ◌+ℤ◌, FitsSigned};
+ghost use Rattle.std.specs.Prelude.{◌≡◌, ◌^◌, ◌<◌, ◌+ℤ◌, FitsSigned};
 ghost use Rattle.std.specs.Int.{w64};
 ghost use Rattle.apl_folds.specs.inside.Sums.{signed, IsAlternating};
 
@@ -33,6 +33,8 @@ impl Kept<Difference> for Alternating {
 
     ghost knows = { IsAlternating };
 
+    ghost tells = { λ s. s.magnitude < 2 ^ 63 };
+
     #[inline(always)]
     fn first(number: i64) -> Alternating {
         Alternating {
@@ -52,11 +54,12 @@ impl Kept<Difference> for Alternating {
     }
 
     #[inline(always)]
-    fn fold(self) -> Option<i64> {
-        if self.magnitude < EXACT {
-            Some(self.sum)
-        } else {
-            None
-        }
+    fn is_told(self) -> bool {
+        self.magnitude < EXACT
+    }
+
+    #[inline(always)]
+    fn fold(self) -> i64 {
+        self.sum
     }
 }

@@ -1,50 +1,54 @@
 // Folds by associative functions, each from the one before it.
-ghost use Rattle.std.specs.Prelude.{◌≡◌, IfSome, Ok};
+ghost use Rattle.std.specs.Prelude.{IsTrue};
 ghost use Rattle.apl_folds.specs.Chains.{IsAssociative};
 ghost use Rattle.apl_folds.specs.inside.Kept.{IsFront};
 
 use crate::kept::Kept;
 use apl_scalar::Scalar;
 
-/// The fold of one or more numbers by an associative function, if it is a value.
+/// The fold of one or more numbers by an associative function, if it is told.
 #[derive(Clone, Copy)]
 pub(crate) struct Front {
-    fold: Option<i64>,
-}
-
-/// The function of two numbers, if it is a value.
-#[inline(always)]
-fn value_of<F: Scalar>(before: i64, number: i64) -> Option<i64>
-    ensures { IfSome result (λ all. F.meaning before number ≡ Ok all) }
-{
-    match F::apply(before, number) {
-        Ok(all) => Some(all),
-        Err(_) => None,
-    }
+    fold: i64,
+    told: bool,
 }
 
 impl<F: Scalar> Kept<F> for Front {
     ghost given = { IsAssociative F.meaning };
 
-    ghost knows = { λ s numbers. IsFront F.meaning s.fold numbers };
+    ghost knows = { IsFront F.meaning };
+
+    ghost tells = { λ s. IsTrue s.told };
 
     #[inline(always)]
     fn first(number: i64) -> Front {
-        Front { fold: Some(number) }
-    }
-
-    #[inline(always)]
-    fn next(self, number: i64) -> Front {
-        match self.fold {
-            Some(before) => Front {
-                fold: value_of::<F>(before, number),
-            },
-            None => self,
+        Front {
+            fold: number,
+            told: true,
         }
     }
 
     #[inline(always)]
-    fn fold(self) -> Option<i64> {
+    fn next(self, number: i64) -> Front {
+        match F::apply(self.fold, number) {
+            Ok(fold) => Front {
+                fold,
+                told: self.told,
+            },
+            Err(_) => Front {
+                fold: self.fold,
+                told: false,
+            },
+        }
+    }
+
+    #[inline(always)]
+    fn is_told(self) -> bool {
+        self.told
+    }
+
+    #[inline(always)]
+    fn fold(self) -> i64 {
         self.fold
     }
 }

@@ -1,5 +1,5 @@
 // Folds by functions of which the values are 0 and 1, each from what the numbers before make of either.
-ghost use Rattle.std.specs.Prelude.{◌≡◌, ◌∷◌, ◌++◌, [], ℤ, pos, List, IfSome, Ok};
+ghost use Rattle.std.specs.Prelude.{◌≡◌, ◌∷◌, ◌++◌, [], ℤ, pos, List, IfSome, IsSome, Ok};
 ghost use Rattle.apl_folds.specs.Lines.{fold_by};
 ghost use Rattle.apl_folds.specs.inside.Ends.{IsEnds};
 
@@ -33,6 +33,8 @@ impl<F: Scalar> Kept<F> for Ends {
 
     ghost knows = { IsEnds F.meaning };
 
+    ghost tells = { λ s. IsSome s.fold };
+
     #[inline(always)]
     fn first(number: i64) -> Ends {
         Ends {
@@ -47,14 +49,23 @@ impl<F: Scalar> Kept<F> for Ends {
     fn next(self, number: i64) -> Ends {
         Ends {
             last: number,
-            fold: with::<F>(self, number),
+            fold: if self.fold.is_some() {
+                with::<F>(self, number)
+            } else {
+                None
+            },
             zero: with::<F>(self, 0),
             one: with::<F>(self, 1),
         }
     }
 
     #[inline(always)]
-    fn fold(self) -> Option<i64> {
-        self.fold
+    fn is_told(self) -> bool {
+        self.fold.is_some()
+    }
+
+    #[inline(always)]
+    fn fold(self) -> i64 {
+        self.fold.unwrap_or(0)
     }
 }

@@ -1,7 +1,7 @@
 // Fronts of lines, each from what is kept of the numbers before.
-ghost use Rattle.std.specs.Prelude.{◌≡◌, ◌<◌, ◌≤◌, ◌+◌, ◌∷◌, ◌++◌, [], ℕ, ℤ, pos, List, length, slice_index_or, IfOk, IfSome, Ok};
+ghost use Rattle.std.specs.Prelude.{◌≡◌, ◌<◌, ◌≤◌, ◌+◌, ◌∷◌, ◌++◌, [], ℕ, ℤ, pos, List, length, IfOk, IsTrue, Ok};
 ghost use Rattle.apl_folds.specs.Lines.{fold_by, line_fold, line_of, IsLine};
-ghost use Rattle.apl_folds.specs.inside.Kept.{IsTold};
+ghost use Rattle.apl_folds.specs.inside.Kept.{AreTold, IsTold};
 
 use crate::columns::push_columns;
 use crate::line::{fold_line, nth};
@@ -20,16 +20,24 @@ pub(crate) trait Kept<F: Scalar>: Copy {
     /// This is kept of these numbers.
     ghost knows: { Self → List ℤ → Type 0 };
 
+    /// The fold is known.
+    ghost tells: { Self → Type 0 };
+
     fn first(number: i64) -> Self
         requires { given }
         ensures { knows result (number ∷ []) };
 
     fn next(self, number: i64) -> Self
-        ensures { (numbers : List ℤ) → 0 < length numbers → knows self numbers → knows result (numbers ++ number ∷ []) };
+        ensures knows { (numbers : List ℤ) → 0 < length numbers → knows self numbers → knows result (numbers ++ number ∷ []) }
+        ensures tells { tells result → tells self };
 
-    /// The fold, unless it has to be made anew.
-    fn fold(self) -> Option<i64>
-        ensures { IfSome result (λ fold. (numbers : List ℤ) → 0 < length numbers → knows self numbers → fold_by F.meaning numbers ≡ Ok fold) };
+    /// Whether the fold is known. Else it has to be made anew, and so have those of more numbers.
+    fn is_told(self) -> bool
+        ensures { IsTrue result → tells self };
+
+    /// The fold where it is known, and else some number.
+    fn fold(self) -> i64
+        ensures { tells self → (numbers : List ℤ) → 0 < length numbers → knows self numbers → fold_by F.meaning numbers ≡ Ok result };
 }
 
 /// Appends the folds of the first number of a line, of the first two and so on, while they can be told. It answers how many it told.
@@ -53,10 +61,10 @@ fn push_along<F: Scalar, K: Kept<F>>(
     let mut kept = K::first(first);
     for k in 1..count {
         kept = kept.next(nth(numbers, axis, at, k));
-        match kept.fold() {
-            Some(fold) => out.push(fold)?,
-            None => return Ok(k),
+        if !kept.is_told() {
+            return Ok(k);
         }
+        out.push(kept.fold())?;
     }
     Ok(count)
 }
@@ -66,6 +74,62 @@ const BLOCK: usize = 128;
 
 /// Fills a room with folds of so many numbers of a line and one more, two more and so on, while they can be told. It answers what is kept then
 /// and how many it told.
+fn fill_known<F: Scalar, K: Kept<F>>(
+    numbers: &[i64],
+    axis: &Axis,
+    at: usize,
+    from: usize,
+    before: K,
+    room: &mut [i64],
+) -> (K, usize)
+    requires some { 0 < from }
+    requires line { IsLine (length numbers.now) axis.now at (from + length room.old) }
+    requires few { from + length room.old ≤ usize.MAX }
+    requires kept { K.knows before (line_of (pos 0) numbers.now axis.now at from) }
+    ensures few { result.1 ≤ length room.old }
+    ensures size { length room.new ≡ length room.old }
+    ensures kept { result.1 ≡ length room.old → K.knows result.0 (line_of (pos 0) numbers.now axis.now at (from + length room.old)) }
+    ensures folds { AreTold F.meaning numbers.now axis.now at from room.new result.1 }
+{
+    let mut kept = before;
+    for j in 0..room.len() {
+        kept = kept.next(nth(numbers, axis, at, from + j));
+        if !kept.is_told() {
+            return (kept, j);
+        }
+        room[j] = kept.fold();
+    }
+    (kept, room.len())
+}
+
+/// Fills a room with folds of so many numbers of a line and one more, two more and so on. They are those where what is kept at last tells
+/// the last, so that no number needs a test of its own.
+#[inline(always)]
+fn fill_all<F: Scalar, K: Kept<F>>(
+    numbers: &[i64],
+    axis: &Axis,
+    at: usize,
+    from: usize,
+    before: K,
+    room: &mut [i64],
+) -> K
+    requires some { 0 < from }
+    requires line { IsLine (length numbers.now) axis.now at (from + length room.old) }
+    requires few { from + length room.old ≤ usize.MAX }
+    requires kept { K.knows before (line_of (pos 0) numbers.now axis.now at from) }
+    ensures size { length room.new ≡ length room.old }
+    ensures kept { K.knows result (line_of (pos 0) numbers.now axis.now at (from + length room.old)) }
+    ensures folds { K.tells result → AreTold F.meaning numbers.now axis.now at from room.new (length room.old) }
+{
+    let mut kept = before;
+    for j in 0..room.len() {
+        kept = kept.next(nth(numbers, axis, at, from + j));
+        room[j] = kept.fold();
+    }
+    kept
+}
+
+/// The same as [`fill_known`], with one test where all can be told.
 #[inline(always)]
 fn fill<F: Scalar, K: Kept<F>>(
     numbers: &[i64],
@@ -82,17 +146,13 @@ fn fill<F: Scalar, K: Kept<F>>(
     ensures few { result.1 ≤ length room.old }
     ensures size { length room.new ≡ length room.old }
     ensures kept { result.1 ≡ length room.old → K.knows result.0 (line_of (pos 0) numbers.now axis.now at (from + length room.old)) }
-    ensures folds { (j : ℕ) → j < result.1 → line_fold F.meaning numbers.now axis.now at (from + j + 1) ≡ Ok (slice_index_or room.new j (pos 0)) }
+    ensures folds { AreTold F.meaning numbers.now axis.now at from room.new result.1 }
 {
-    let mut kept = before;
-    for j in 0..room.len() {
-        kept = kept.next(nth(numbers, axis, at, from + j));
-        match kept.fold() {
-            Some(fold) => room[j] = fold,
-            None => return (kept, j),
-        }
+    let all = fill_all::<F, K>(numbers, axis, at, from, before, room);
+    if all.is_told() {
+        return (all, room.len());
     }
-    (kept, room.len())
+    fill_known::<F, K>(numbers, axis, at, from, before, room)
 }
 
 /// The same as [`push_along`], block by block.

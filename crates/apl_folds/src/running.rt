@@ -35,7 +35,8 @@ pub(crate) fn grown(magnitude: u64, number: i64) -> u64
 /// The sums with one number more.
 #[inline(always)]
 fn more(running: Running, number: i64) -> Running
-    ensures { (numbers : List ℤ) → IsRunning running numbers → IsRunning result (numbers ++ number ∷ []) }
+    ensures sums { (numbers : List ℤ) → IsRunning running numbers → IsRunning result (numbers ++ number ∷ []) }
+    ensures grows { result.magnitude < 2 ^ 63 → running.magnitude < 2 ^ 63 }
 {
     Running {
         sum: add(running.sum, number),
@@ -47,6 +48,8 @@ impl Kept<Sum> for Running {
     ghost given = { Unit {0} };
 
     ghost knows = { IsRunning };
+
+    ghost tells = { λ s. s.magnitude < 2 ^ 63 };
 
     #[inline(always)]
     fn first(number: i64) -> Running {
@@ -63,12 +66,13 @@ impl Kept<Sum> for Running {
     }
 
     #[inline(always)]
-    fn fold(self) -> Option<i64> {
-        if self.magnitude < EXACT {
-            Some(self.sum)
-        } else {
-            None
-        }
+    fn is_told(self) -> bool {
+        self.magnitude < EXACT
+    }
+
+    #[inline(always)]
+    fn fold(self) -> i64 {
+        self.sum
     }
 }
 

@@ -25,21 +25,18 @@ loop-k-init g c =
 pub loop-k-preserved : goal.loop-k-preserved
 loop-k-preserved g c =
     let fits : SFits w64 c.nth.result = search rules in
-    let fits_fold : SFits w64 c.in-Some.fold = search rules in
+    let fits_fold : SFits w64 c.fold.result = search rules in
     let kept : g.K.Kept.knows c.next-kept.result (line_of (pos 0) c.args.numbers.now c.args.axis.now c.args.at (c.loop-k.k + 1)) =
     kept_next (λ l. g.K.Kept.knows c.next-kept.result l) c.args.numbers.now c.args.axis.now c.args.at c.loop-k.k c.nth.result c.nth.ensures
-    (simp (to_z-of_z, fits) at (c.next-kept.ensures (line_of (pos 0) c.args.numbers.now c.args.axis.now c.args.at c.loop-k.k) (line_some c.args.numbers.now c.args.axis.now c.args.at c.loop-k.k (omega arith)) c.loop-k.invariant.kept)) in
+    (simp (to_z-of_z, fits) at (c.next-kept.ensures.knows (line_of (pos 0) c.args.numbers.now c.args.axis.now c.args.at c.loop-k.k) (line_some c.args.numbers.now c.args.axis.now c.args.at c.loop-k.k (omega arith)) c.loop-k.invariant.kept)) in
     record {
       kept = kept;
       so_far =
-          told_step g.F.Scalar.meaning c.args.numbers.now c.args.axis.now c.args.at c.args.count c.loop-k.k c.loop-k.out.items c.push-in-Some.new.self.items c.in-Some.fold c.loop-k-test.true
-          (c.in-Some.ensures (line_of (pos 0) c.args.numbers.now c.args.axis.now c.args.at (c.loop-k.k + 1)) (line_some c.args.numbers.now c.args.axis.now c.args.at (c.loop-k.k + 1) (omega arith)) kept)
-          (simp (to_z-of_z, fits_fold) at c.in_ok-push-in-Some.ensures.items)
+          told_step g.F.Scalar.meaning c.args.numbers.now c.args.axis.now c.args.at c.args.count c.loop-k.k c.loop-k.out.items c.push-in-loop-k.new.self.items c.fold.result c.loop-k-test.true
+          (c.fold.ensures (c.is_told.ensures c.if-not-is_told.false) (line_of (pos 0) c.args.numbers.now c.args.axis.now c.args.at (c.loop-k.k + 1)) (line_some c.args.numbers.now c.args.axis.now c.args.at (c.loop-k.k + 1) (omega arith)) kept)
+          (simp (to_z-of_z, fits_fold) at c.in_ok-push-2.ensures.items)
           ∙ c.loop-k.invariant.so_far;
     }
-
-pub returns-in-None : goal.returns-in-None
-returns-in-None g c = record { few = omega arith; others = c.loop-k.invariant.so_far }
 
 pub returns : goal.returns
 returns g c = told_all g.F.Scalar.meaning c.args.numbers.now c.args.axis.now c.args.at c.args.count c.loop-k.k c.args.out.now.items c.loop-k.out.items (omega arith) c.loop-k.invariant.so_far

@@ -4,8 +4,8 @@ use mir.Val.{SFits}
 use Rattle.apl_folds.proofs.Totals.{running_more}
 use Rattle.apl_folds.proofs.running.more.Goals as goal
 
-pub returns : goal.returns
-returns c =
+pub returns-clause-sums : goal.returns-clause-sums
+returns-clause-sums c =
     λ numbers before small.
     let fits : SFits w64 c.add.result = search rules in
     let e =

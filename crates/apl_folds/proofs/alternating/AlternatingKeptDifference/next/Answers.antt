@@ -4,8 +4,8 @@ use mir.Val.{SFits}
 use Rattle.apl_folds.proofs.Swings.{odd_more, alternating_more}
 use Rattle.apl_folds.proofs.alternating.AlternatingKeptDifference.next.Goals as goal
 
-pub returns : goal.returns
-returns c =
+pub returns-clause-knows : goal.returns-clause-knows
+returns-clause-knows c =
     λ numbers some before.
     let fits : SFits w64 c.with.result = search rules in
     record {

@@ -3,4 +3,4 @@ use Rattle.std.proofs.lemmas.Int.{to_z-of_z}
 use Rattle.apl_folds.proofs.running.RunningKeptSum.first.Goals as goal
 
 pub returns : goal.returns
-returns c = simp (to_z-of_z, c.ranges.number) at (c.more.ensures [] (λ h. (refl, refl)))
+returns c = simp (to_z-of_z, c.ranges.number) at (c.more.ensures.sums [] (λ h. (refl, refl)))
