@@ -12,7 +12,7 @@ use apl_scalar::{And, Difference, Dyadic, Logical, Maximum, Minimum, Or, Scalar,
 use std::alloc::Global;
 
 /// Appends the fronts of a row of numbers that are not the first along the axis: each is a step from the front a row before.
-#[inline(always)]
+#[inline(never)] // its loop keeps to registers, which it does not within the large loop over rows
 fn push_next<F: Scalar, S: Scalar>(
     numbers: &[i64],
     axis: Axis,
