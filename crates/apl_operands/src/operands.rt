@@ -190,23 +190,6 @@ pub fn left(sources: &[Option<Source>], stack: &[Operand]) -> usize
     left
 }
 
-/// How many operands are left up to the last one, where that lies on the stack and so can stay there.
-#[inline(always)]
-pub fn stays(sources: &[Option<Source>], operands: Operands<'_>) -> Option<usize>
-    requires there { Offers operands sources.now }
-    ensures within { IfSome result (λ left. left ≤ length operands.entry.stack.now) }
-    ensures value { IfSome result (λ left. PassesLast operands.entry sources.now Given.Stays left) }
-{
-    let (last, others) = sources.split_last()?;
-    let Some(last) = last else {
-        return None;
-    };
-    match last {
-        Source::Stack => Some(left(others, operands.stack)),
-        Source::Constant(_) => None,
-    }
-}
-
 /// What a phrase gives.
 #[derive(Drop)]
 pub enum Given {
