@@ -1,9 +1,7 @@
 //! Operands of instructions.
-ghost use Rattle.std.specs.Prelude.{◌≡◌, ◌≤◌, ◌<◌, IfOk, IfSome, length, reverse, take, List, [], ◌∷◌, Option, Some, option_copied, option_map};
+ghost use Rattle.std.specs.Prelude.{◌≡◌, ◌≤◌, ◌<◌, IfOk, length, reverse, take, List, [], ◌∷◌, Option, Some, option_copied, option_map};
 ghost use Rattle.apl_code.specs.declared.instr.Source.{Source};
 ghost use Rattle.apl_operands.specs.Operands.{Offers, fetched_from, fetched_one, unfetched_one, unfetched};
-ghost use Rattle.apl_arrays.specs.Cells.{Arr};
-ghost use Rattle.apl_machine_state.specs.declared.operand.Operand.TheVariants.{Value};
 ghost use Rattle.apl_operands.specs.Operands.{EndsInValue, FetchesFirst, LeavesBeneath, PassesLast, operand_of, only, one_value};
 ghost use Rattle.apl_machine_state.specs.Items.{constant_at};
 ghost use Rattle.apl_machine_state.specs.Outcomes.{taken_of, taken_one, taken_two, taken_three};
