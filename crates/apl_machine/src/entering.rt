@@ -1,13 +1,12 @@
 //! Calls begin.
-ghost use Rattle.std.specs.Prelude.{◌≡◌, ◌<◌, true, slice_get, IfOk, IfSome, IsSome, OnErr, OnOk, Some};
-ghost use Rattle.apl_arrays.specs.Origins.{origin_number};
+ghost use Rattle.std.specs.Prelude.{◌≡◌, ◌<◌, true, drop, length, slice_get, IfOk, IfSome, IsSome, OnErr, OnOk, Some};
 ghost use Rattle.apl_code.specs.declared.instr.Instr.{Instr};
 ghost use Rattle.apl_defn.specs.Definitions.{is_line};
 ghost use Rattle.apl_frames.specs.Ends.{IsColumn};
 ghost use Rattle.apl_machine_state.specs.declared.operand.Operand.TheVariants.{Value};
 ghost use Rattle.apl_contexts.specs.Contexts.{line_in, suspended};
 ghost use Rattle.apl_contexts.specs.Moves.{CanMove};
-ghost use Rattle.apl_machine.specs.inside.Locals.{entered_with};
+ghost use Rattle.apl_vectors.specs.Vectors.{has_line};
 ghost use Rattle.apl_machine.specs.Spaces.{HasComeIn, HasEntered, IsSound, called_in, nothing_in, state_of, stopped_in};
 
 use crate::locals::{open_scope, origin_for};
@@ -119,12 +118,11 @@ impl Workspace {
         function: DefinedFunction,
         left: usize,
     ) -> Result<bool, AllocError>
-        requires two { 1 < length self.old.maps }
         requires can { IfSome (line_in self.old.contexts) (λ f. CanMove (Move.Awaits left) f) }
         requires line { is_line function 1 ≡ true }
         ensures stopped { IfOk result (λ stopped. stopped ≡ has_line function.header.name 1 self.old.kept.stops) }
         ensures ok { IfOk result (λ stopped. HasComeIn stopped self.old self.new function left) }
-        ensures err { OnErr result (self.new ≡ record self.old { maps = drop 1 self.old.maps }) }
+        ensures err { OnErr result (1 < length self.old.maps → self.new ≡ record self.old { maps = drop 1 self.old.maps }) }
     {
         let stops = self.stops.has(&function.definition().header().name, 1);
         match self.come_in(function, stops, left) {

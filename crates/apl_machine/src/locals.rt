@@ -1,10 +1,10 @@
 //! The names that a call begins with.
 ghost use Rattle.std.specs.Prelude.{◌≡◌, ◌≤◌, ◌∷◌, ℤ, List, OnErr, OnOk, map, option_copied};
 ghost use Rattle.apl_arrays.specs.Origins.{origin_number};
-ghost use Rattle.apl_machine_state.specs.Calls.{bound_name, bound_to, local_of, names_of_call};
+ghost use Rattle.apl_machine_state.specs.Calls.{bound_name, bound_to, local_of};
 ghost use Rattle.apl_names.specs.Maps.{AreBeneath, map_of, with_locals};
 ghost use Rattle.apl_phrases.specs.Effects.{seen};
-ghost use Rattle.apl_machine.specs.inside.Locals.{alone};
+ghost use Rattle.apl_machine.specs.inside.Locals.{alone, names_with};
 
 use apl_arrays::{Array, Origin};
 use apl_defn::Definition;
@@ -79,7 +79,7 @@ fn bind_names(
     left: Option<&Array>,
     right: Option<&Array>,
 ) -> Result<(), AllocError>
-    ensures ok { OnOk result (names.new ≡ with_locals (names_of_call (alone (origin_number origin)) definition.now (option_copied left.entry) (option_copied right.entry)) names.old) }
+    ensures ok { OnOk result (names.new ≡ with_locals (names_with origin definition.now (option_copied left.entry) (option_copied right.entry)) names.old) }
     ensures beneath { AreBeneath names.old names.new }
 {
     let header = definition.header();
@@ -98,7 +98,7 @@ pub(crate) fn open_scope(
     left: Option<&Array>,
     right: Option<&Array>,
 ) -> Result<(), AllocError>
-    ensures ok { OnOk result (names.new ≡ map_of (names_of_call (alone (origin_number origin)) definition.now (option_copied left.entry) (option_copied right.entry)) ∷ names.old) }
+    ensures ok { OnOk result (names.new ≡ map_of (names_with origin definition.now (option_copied left.entry) (option_copied right.entry)) ∷ names.old) }
     ensures err { OnErr result (names.new ≡ names.old) }
 {
     names.open()?;
