@@ -1,7 +1,7 @@
-use Rattle.std.proofs.Common.{◌≡◌, sym, ap, ◌∙◌, subst}
+use Rattle.std.proofs.Common.{ap, ◌∙◌}
 use Rattle.apl_defn.specs.Definitions.{Definition, Header}
 use Rattle.apl_vectors.specs.Vectors.{has_line}
-use Rattle.apl_machine.specs.Spaces.{HasComeIn, Space}
+use Rattle.apl_machine.specs.Spaces.{Space}
 use Rattle.apl_machine.proofs.workspace.Workspace.come_into.Goals as goal
 
 pub returns-in-Ok-clause-stopped : goal.returns-in-Ok-clause-stopped
@@ -11,4 +11,4 @@ returns-in-Ok-clause-stopped c =
     ∙ ap (λ (x : Space). has_line c.args.function.header.name 1 x.kept.stops) c.self.view_is
 
 pub returns-in-Ok-clause-ok : goal.returns-in-Ok-clause-ok
-returns-in-Ok-clause-ok c = subst (λ (x : Space). HasComeIn c.has-stops.result x c.come_in.new.self c.args.function c.args.left) c.self.view_is c.in-Ok.ensures.ok
+returns-in-Ok-clause-ok c = c.in-Ok.ensures.ok
