@@ -15,5 +15,5 @@ pub use bound::Bound;
 pub use context::{Call, Context, Statement};
 pub use contexts::Contexts;
 pub use lines::Lines;
-pub use moves::{Light, Move};
+pub use moves::Move;
 pub use stack::Stack;

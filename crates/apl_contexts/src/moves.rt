@@ -1,6 +1,6 @@
 //! What becomes of a line between two steps.
 ghost use Rattle.std.specs.Prelude.{◌≡◌};
-ghost use Rattle.apl_contexts.specs.Moves.{CanMove, given_of, moved_by};
+ghost use Rattle.apl_contexts.specs.Moves.{CanMove, moved_by};
 
 use apl_arrays::Array;
 use apl_frames::FrameBuf;
@@ -17,29 +17,6 @@ pub enum Move {
     IsAnswered(Array),
     /// The call that was all of it gave no value.
     IsEmptied,
-}
-
-/// What a phrase gives that hands no array on.
-#[derive(Clone, Copy)]
-pub enum Light {
-    /// A number.
-    Number(i64),
-    /// The last operand that it took, as it lies.
-    Stays,
-}
-
-impl Light {
-    /// One more phrase of a line is done: it gave this, with so many operands left.
-    #[inline(always)]
-    pub(crate) fn apply(self, line: &mut FrameBuf, left: usize)
-        requires { CanMove (Move.GoesOn (given_of self) left) line.old }
-        ensures { line.new ≡ moved_by (Move.GoesOn (given_of self) left) line.old }
-    {
-        match self {
-            Light::Number(number) => line.give_number(left, number),
-            Light::Stays => line.stay(left),
-        }
-    }
 }
 
 impl Move {

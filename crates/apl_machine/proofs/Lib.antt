@@ -7,6 +7,7 @@ pub mod There
 pub mod Lines
 pub mod Given
 pub mod Resumed
+pub mod Returned
 pub mod CallNames
 pub mod CameIn
 pub mod Entered

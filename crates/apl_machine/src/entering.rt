@@ -1,20 +1,19 @@
 //! Calls begin.
-ghost use Rattle.std.specs.Prelude.{◌≡◌, ◌<◌, true, slice_get, IfOk, IfSome, IsSome, OnErr, OnOk, Some};
-ghost use Rattle.apl_arrays.specs.Origins.{origin_number};
+ghost use Rattle.std.specs.Prelude.{◌≡◌, ◌<◌, true, drop, length, slice_get, IfOk, IfSome, IsSome, OnErr, OnOk, Some};
 ghost use Rattle.apl_code.specs.declared.instr.Instr.{Instr};
 ghost use Rattle.apl_defn.specs.Definitions.{is_line};
 ghost use Rattle.apl_frames.specs.Ends.{IsColumn};
 ghost use Rattle.apl_machine_state.specs.declared.operand.Operand.TheVariants.{Value};
 ghost use Rattle.apl_contexts.specs.Contexts.{line_in, suspended};
 ghost use Rattle.apl_contexts.specs.Moves.{CanMove};
-ghost use Rattle.apl_machine.specs.inside.Locals.{entered_with};
+ghost use Rattle.apl_vectors.specs.Vectors.{has_line};
 ghost use Rattle.apl_machine.specs.Spaces.{HasComeIn, HasEntered, IsSound, called_in, nothing_in, state_of, stopped_in};
 
 use crate::locals::{open_scope, origin_for};
 use crate::reports::context_fault;
 use crate::traces::stop_report;
 use crate::workspace::Workspace;
-use apl_arrays::{Array, Origin};
+use apl_arrays::Array;
 use apl_contexts::{Call, Context, Move};
 use apl_faults::Fault;
 use apl_names::DefinedFunction;
@@ -79,7 +78,7 @@ impl Workspace {
 
     /// A function without lines is called from the newest line, and returns at once, without a
     /// value. After an error nothing has changed.
-    fn call_nothing(&mut self, left: usize) -> Result<(), AllocError>
+    pub(crate) fn call_nothing(&mut self, left: usize) -> Result<(), AllocError>
         requires sound { IsSound self.old }
         requires can { IfSome (line_in self.old.contexts) (λ f. CanMove (Move.Awaits left) f) }
         requires placed { IfSome (line_in self.old.contexts) (λ f. (i : Instr) × (slice_get f.code f.done ≡ Some i) × IsColumn i.at) }
@@ -111,34 +110,21 @@ impl Workspace {
         Ok(())
     }
 
-    /// A call of a function with lines and these arguments, whose local `⎕IO` has this origin at first,
-    /// begins its first line, or stops before it. Tells whether it stopped. After an error nothing has
+    /// A call of a function with lines, whose names stand in the newest scope, begins its first line, or
+    /// stops before it. Tells whether it stopped. After an error that scope is gone, and nothing else has
     /// changed.
-    fn call_with(
+    pub(crate) fn come_into(
         &mut self,
         function: DefinedFunction,
-        arguments: (Option<Array>, Option<Array>),
-        origin: Origin,
         left: usize,
     ) -> Result<bool, AllocError>
-        requires sound { IsSound self.old }
         requires can { IfSome (line_in self.old.contexts) (λ f. CanMove (Move.Awaits left) f) }
         requires line { is_line function 1 ≡ true }
-        requires runs { IsSome (line_in self.old.contexts) }
-        ensures sound { IsSound self.new }
-        ensures ok { OnOk result (state_of self.new ≡ (entered_with self.old (origin_number origin) function arguments.0 arguments.1 left).state) }
-        ensures stopped { IfOk result (λ stopped. stopped ≡ (entered_with self.old (origin_number origin) function arguments.0 arguments.1 left).stopped) }
-        ensures err { OnErr result (self.new ≡ self.old) }
+        ensures stopped { IfOk result (λ stopped. stopped ≡ has_line function.header.name 1 self.old.kept.stops) }
+        ensures ok { IfOk result (λ stopped. HasComeIn stopped self.old self.new function left) }
+        ensures err { OnErr result (1 < length self.old.maps → self.new ≡ record self.old { maps = drop 1 self.old.maps }) }
     {
         let stops = self.stops.has(&function.definition().header().name, 1);
-        let (first, second) = arguments;
-        open_scope(
-            &mut self.names,
-            origin,
-            function.definition(),
-            first,
-            second,
-        )?;
         match self.come_in(function, stops, left) {
             Ok(()) => Ok(stops),
             Err(AllocError) => {
@@ -177,6 +163,14 @@ impl Workspace {
         };
         let locals = function.definition().header().locals.as_slice();
         let origin = origin_for(scene, locals);
-        self.call_with(function, arguments, origin, left)
+        open_scope(
+            &mut self.names,
+            origin,
+            function.definition(),
+            arguments.0.as_ref(),
+            arguments.1.as_ref(),
+        )?;
+        let stopped = self.come_into(function, left)?;
+        Ok(stopped)
     }
 }

@@ -1,15 +1,15 @@
 //! The names that a call begins with.
 ghost use Rattle.std.specs.Prelude.{◌≡◌, ◌≤◌, ◌∷◌, ℤ, List, OnErr, OnOk, map, option_copied};
 ghost use Rattle.apl_arrays.specs.Origins.{origin_number};
-ghost use Rattle.apl_machine_state.specs.Calls.{bound_name, local_of, names_of_call};
+ghost use Rattle.apl_machine_state.specs.Calls.{bound_name, bound_to, local_of};
 ghost use Rattle.apl_names.specs.Maps.{AreBeneath, map_of, with_locals};
 ghost use Rattle.apl_phrases.specs.Effects.{seen};
-ghost use Rattle.apl_machine.specs.inside.Locals.{alone};
+ghost use Rattle.apl_machine.specs.inside.Locals.{alone, names_with};
 
 use apl_arrays::{Array, Origin};
 use apl_defn::Definition;
 use apl_names::{Binding, Names};
-use apl_parts::{bind_labels, bound_to};
+use apl_parts::bind_labels;
 use apl_phrases::{Scene, origin_name, origin_scalar};
 use apl_symbols::Name;
 use std::alloc::AllocError;
@@ -38,14 +38,21 @@ fn local_of(origin: Origin, name: &Name) -> Binding
     }
 }
 
-/// Makes a name, where there is one, stand for this in the newest scope.
-fn bind_named(names: &mut Names, name: Option<&Name>, binding: Binding) -> Result<(), AllocError>
-    ensures ok { OnOk result (names.new ≡ with_locals (bound_name (option_copied name.entry) binding) names.old) }
+/// Makes a name, where there is one, stand in the newest scope for a copy of this value, or for nothing yet.
+fn bind_named(
+    names: &mut Names,
+    name: Option<&Name>,
+    value: Option<&Array>,
+) -> Result<(), AllocError>
+    ensures ok { OnOk result (names.new ≡ with_locals (bound_name (option_copied name.entry) (bound_to (option_copied value.entry))) names.old) }
     ensures err { OnErr result (names.new ≡ names.old) }
 {
-    match name {
-        Some(name) => names.bind(name, binding),
-        None => Ok(()),
+    let Some(name) = name else {
+        return Ok(());
+    };
+    match value {
+        Some(value) => names.bind_value(name, value),
+        None => names.bind(name, Binding::Unset),
     }
 }
 
@@ -69,18 +76,18 @@ fn bind_names(
     names: &mut Names,
     origin: Origin,
     definition: &Definition,
-    left: Option<Array>,
-    right: Option<Array>,
+    left: Option<&Array>,
+    right: Option<&Array>,
 ) -> Result<(), AllocError>
-    ensures ok { OnOk result (names.new ≡ with_locals (names_of_call (alone (origin_number origin)) definition.now left right) names.old) }
+    ensures ok { OnOk result (names.new ≡ with_locals (names_with origin definition.now (option_copied left.entry) (option_copied right.entry)) names.old) }
     ensures beneath { AreBeneath names.old names.new }
 {
     let header = definition.header();
     bind_labels(names, definition.labels())?;
     bind_locals(names, header.locals.as_slice(), origin)?;
-    bind_named(names, header.right.as_ref(), bound_to(right))?;
-    bind_named(names, header.left.as_ref(), bound_to(left))?;
-    bind_named(names, header.result.as_ref(), Binding::Unset)
+    bind_named(names, header.right.as_ref(), right)?;
+    bind_named(names, header.left.as_ref(), left)?;
+    bind_named(names, header.result.as_ref(), None)
 }
 
 /// The newest scope is that of a call from now on, with its names. After an error nothing has changed.
@@ -88,10 +95,10 @@ pub(crate) fn open_scope(
     names: &mut Names,
     origin: Origin,
     definition: &Definition,
-    left: Option<Array>,
-    right: Option<Array>,
+    left: Option<&Array>,
+    right: Option<&Array>,
 ) -> Result<(), AllocError>
-    ensures ok { OnOk result (names.new ≡ map_of (names_of_call (alone (origin_number origin)) definition.now left right) ∷ names.old) }
+    ensures ok { OnOk result (names.new ≡ map_of (names_with origin definition.now (option_copied left.entry) (option_copied right.entry)) ∷ names.old) }
     ensures err { OnErr result (names.new ≡ names.old) }
 {
     names.open()?;

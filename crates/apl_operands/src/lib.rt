@@ -3,4 +3,4 @@
 
 mod operands;
 
-pub use operands::{Given, Held, Operands, arguments, fetch, last_operand, left, one_value, stays};
+pub use operands::{Given, Held, Operands, arguments, fetch, last_operand, left, one_value};

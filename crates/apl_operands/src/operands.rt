@@ -1,9 +1,7 @@
 //! Operands of instructions.
-ghost use Rattle.std.specs.Prelude.{◌≡◌, ◌≤◌, ◌<◌, IfOk, IfSome, length, reverse, take, List, [], ◌∷◌, Option, Some, option_copied, option_map};
+ghost use Rattle.std.specs.Prelude.{◌≡◌, ◌≤◌, ◌<◌, IfOk, length, reverse, take, List, [], ◌∷◌, Option, Some, option_copied, option_map};
 ghost use Rattle.apl_code.specs.declared.instr.Source.{Source};
 ghost use Rattle.apl_operands.specs.Operands.{Offers, fetched_from, fetched_one, unfetched_one, unfetched};
-ghost use Rattle.apl_arrays.specs.Cells.{Arr};
-ghost use Rattle.apl_machine_state.specs.declared.operand.Operand.TheVariants.{Value};
 ghost use Rattle.apl_operands.specs.Operands.{EndsInValue, FetchesFirst, LeavesBeneath, PassesLast, operand_of, only, one_value};
 ghost use Rattle.apl_machine_state.specs.Items.{constant_at};
 ghost use Rattle.apl_machine_state.specs.Outcomes.{taken_of, taken_one, taken_two, taken_three};
@@ -188,23 +186,6 @@ pub fn left(sources: &[Option<Source>], stack: &[Operand]) -> usize
         left = left_beneath(*source, left, stack);
     }
     left
-}
-
-/// How many operands are left up to the last one, where that lies on the stack and so can stay there.
-#[inline(always)]
-pub fn stays(sources: &[Option<Source>], operands: Operands<'_>) -> Option<usize>
-    requires there { Offers operands sources.now }
-    ensures within { IfSome result (λ left. left ≤ length operands.entry.stack.now) }
-    ensures value { IfSome result (λ left. PassesLast operands.entry sources.now Given.Stays left) }
-{
-    let (last, others) = sources.split_last()?;
-    let Some(last) = last else {
-        return None;
-    };
-    match last {
-        Source::Stack => Some(left(others, operands.stack)),
-        Source::Constant(_) => None,
-    }
 }
 
 /// What a phrase gives.

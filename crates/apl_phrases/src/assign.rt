@@ -1,14 +1,13 @@
 //! Names read and assigned to.
-ghost use Rattle.std.specs.Prelude.{◌≡◌, IfOk, ℤ, List, Option, Result, option_map};
+ghost use Rattle.std.specs.Prelude.{◌≡◌, IfOk, Result, option_map};
 ghost use Rattle.apl_arrays.specs.Answers.{Answers};
 ghost use Rattle.apl_arrays.specs.Cells.{Arr};
 ghost use Rattle.apl_arrays.specs.Origins.{origin_number};
 ghost use Rattle.apl_faults.specs.declared.fault.Fault.{Fault};
-ghost use Rattle.apl_machine_state.specs.declared.operand.Operand.{Operand};
 ghost use Rattle.apl_names.specs.Maps.{found};
 ghost use Rattle.apl_machine_state.specs.Environment.{scalar};
-ghost use Rattle.apl_machine_state.specs.Outcomes.{as_origin, assign, assign_by, assign_indexed, assign_indexed_by, assign_one, assign_slots};
-ghost use Rattle.apl_machine_state.specs.Outcomes.{assigned_result, origin_result, origin_set, read, read_by, taken_of};
+ghost use Rattle.apl_machine_state.specs.Outcomes.{as_origin, assign, assign_by, assign_indexed, assign_one, assign_slots};
+ghost use Rattle.apl_machine_state.specs.Outcomes.{origin_set, read, read_by};
 ghost use Rattle.apl_primitives.specs.Taken.{as_taken};
 ghost use Rattle.apl_phrases.specs.Effects.{AssignsIndexed, ComesTo, Does, DoesOf, DoesWith};
 

@@ -1,9 +1,8 @@
 //! What phrases do.
-ghost use Rattle.std.specs.Prelude.{◌≡◌, ◌≤◌, false, is_some, IfOk, ℤ, List, Option, Result};
+ghost use Rattle.std.specs.Prelude.{◌≡◌, false, is_some, IfOk, ℤ, List, Result};
 ghost use Rattle.apl_arrays.specs.Answers.{Answers};
 ghost use Rattle.apl_arrays.specs.Cells.{Arr};
 ghost use Rattle.apl_faults.specs.declared.fault.Fault.{Fault};
-ghost use Rattle.apl_machine_state.specs.declared.operand.Operand.{Operand};
 ghost use Rattle.apl_machine_state.specs.Environment.{index_origin};
 ghost use Rattle.apl_machine_state.specs.Outcomes.{of_result};
 ghost use Rattle.apl_primitives.specs.Tables.{monadic_of};

@@ -1,6 +1,5 @@
 //! `⍎`, a text that is executed.
-ghost use Rattle.std.specs.Prelude.{◌≡◌, ◌≢◌, ℤ, IfErr, IfOk, IfSome, List, None, Ok, Option, Some, option_copied, true};
-ghost use Rattle.apl_machine_state.specs.declared.operand.Operand.{Operand};
+ghost use Rattle.std.specs.Prelude.{◌≡◌, ◌≢◌, IfErr, IfOk, IfSome, None, Ok, Some, option_copied, true};
 ghost use Rattle.apl_machine_state.specs.Outcomes.{execute, executed_as, executed_by, text_in};
 ghost use Rattle.apl_machine_state.specs.Watching.{is_list};
 ghost use Rattle.apl_machine_state.specs.Texts.{colon_of, fault_of};

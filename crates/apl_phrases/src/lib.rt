@@ -14,7 +14,6 @@ mod scene;
 mod watch;
 
 pub use assign::origin_scalar;
-pub use calls::copied;
 pub use effect::{Deed, Effect};
 pub use execute::{colon_of, executed};
 pub use frequent::{

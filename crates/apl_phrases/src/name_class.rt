@@ -1,6 +1,5 @@
 //! `⎕NC`, the class of a name.
-ghost use Rattle.std.specs.Prelude.{◌≡◌, ℤ, IfOk, List, Option, option_copied};
-ghost use Rattle.apl_machine_state.specs.declared.operand.Operand.{Operand};
+ghost use Rattle.std.specs.Prelude.{◌≡◌, ℤ, IfOk, List, option_copied};
 ghost use Rattle.apl_machine_state.specs.Outcomes.{class_number, name_class, number_of_binding};
 ghost use Rattle.apl_phrases.specs.Effects.{Does, seen};
 

@@ -1,10 +1,10 @@
 //! What a phrase does with its operands.
-ghost use Rattle.std.specs.Prelude.{◌≡◌, ◌≤◌, IfOk, IfSome, length, map, reverse, true, ℤ, List, [], ◌∷◌, Option, Result};
+ghost use Rattle.std.specs.Prelude.{◌≡◌, IfOk, IfSome, map, true, List, [], ◌∷◌, Option};
 ghost use Rattle.apl_code.specs.declared.instr.Source.{Source};
 ghost use Rattle.apl_machine_state.specs.declared.operand.Operand.{Operand};
 ghost use Rattle.apl_code.specs.declared.row.Row.TheVariants.{Group};
 ghost use Rattle.apl_machine_state.specs.Environment as model;
-ghost use Rattle.apl_machine_state.specs.Outcomes.{Makes, outcome, shown, operand_value, taken_of, of_result};
+ghost use Rattle.apl_machine_state.specs.Outcomes.{Makes, outcome, shown, operand_value, of_result};
 ghost use Rattle.apl_primitives.specs.Taken.{as_taken};
 ghost use Rattle.apl_primitives.specs.Values.{phrase_value};
 ghost use Rattle.apl_operands.specs.Operands.{Offers, fetched_from};

@@ -1,9 +1,7 @@
 //! `⎕STOP` and `⎕TRACE`, the stop and trace vectors of functions.
-ghost use Rattle.std.specs.Prelude.{◌≡◌, ◌≤◌, ℤ, IfOk, List, Option, option_copied, option_map, Some, None};
-ghost use Rattle.apl_arrays.specs.Ravels.{items_of};
-ghost use Rattle.apl_machine_state.specs.declared.operand.Operand.{Operand};
+ghost use Rattle.std.specs.Prelude.{◌≡◌, IfOk, option_copied, Some};
 ghost use Rattle.apl_machine_state.specs.Outcomes.{rewatch, watch, watched, watched_by};
-ghost use Rattle.apl_machine_state.specs.Watching.{function_named, is_list, lines_among, numbers_in};
+ghost use Rattle.apl_machine_state.specs.Watching.{function_named, is_list, numbers_in};
 ghost use Rattle.apl_names.specs.Maps.{function_in, last_map, said};
 ghost use Rattle.apl_phrases.specs.Effects.{ComesTo, Does};
 ghost use Rattle.apl_phrases.specs.inside.Marks.{chosen};

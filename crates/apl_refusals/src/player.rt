@@ -113,6 +113,7 @@ impl<'a> Player<'a> {
         Ok(player)
     }
 
+    /// The machine of the session, as it stands.
     pub fn machine(&self) -> &Machine {
         self.session.machine()
     }

@@ -2,7 +2,6 @@ use Rattle.std.proofs.Common.{rules, ◌≡◌, ◌∙◌, map, sym, ap}
 use Rattle.std.proofs.lemmas.Result.{on_ok_weaker}
 use Rattle.std.specs.Option.{option_copied}
 use Rattle.apl_arrays.specs.Origins.{origin_number}
-use Rattle.apl_names.specs.declared.binding.Binding.{Binding}
 use Rattle.apl_names.specs.declared.binding.Binding.TheVariants.{Unset}
 use Rattle.apl_names.specs.Maps.{with_locals}
 use Rattle.apl_machine_state.specs.Calls.{bound_name, bound_to, label_of, local_of}
@@ -22,13 +21,14 @@ returns-clause-ok c =
     let own : c.as_slice.result.now ≡ d.header.locals = search rules in
     let locals = c.in_ok-bind_locals.ensures.ok ∙ ap (λ l. with_locals (map at_first l) c.bind_labels.new.names) own ∙ ap (with_locals (map at_first d.header.locals)) labels in
     let second : option_copied c.as_ref.result ≡ d.header.right = search rules in
-    let right = c.in_ok-bind_named.ensures.ok ∙ ap (λ n. with_locals (bound_name n c.bound_to.result) c.bind_locals.new.names) second
-    ∙ ap (λ (b : Binding). with_locals (bound_name d.header.right b) c.bind_locals.new.names) c.bound_to.ensures ∙ ap (with_locals (bound_name d.header.right (bound_to c.args.right))) locals in
+    let given = option_copied c.args.right in
+    let right = c.in_ok-bind_named.ensures.ok ∙ ap (λ n. with_locals (bound_name n (bound_to given)) c.bind_locals.new.names) second
+    ∙ ap (with_locals (bound_name d.header.right (bound_to given))) locals in
     let first : option_copied c.as_ref-2.result ≡ d.header.left = search rules in
-    let left = c.in_ok-bind_named-2.ensures.ok ∙ ap (λ n. with_locals (bound_name n c.bound_to-2.result) c.bind_named.new.names) first
-    ∙ ap (λ (b : Binding). with_locals (bound_name d.header.left b) c.bind_named.new.names) c.bound_to-2.ensures ∙ ap (with_locals (bound_name d.header.left (bound_to c.args.left))) right in
+    let left = c.in_ok-bind_named-2.ensures.ok ∙ ap (λ n. with_locals (bound_name n (bound_to (option_copied c.args.left))) c.bind_named.new.names) first
+    ∙ ap (with_locals (bound_name d.header.left (bound_to (option_copied c.args.left)))) right in
     let gives : option_copied c.as_ref-3.result ≡ d.header.result = search rules in
     on_ok_weaker c.bind_named-3.result
     (λ ok. ok ∙ ap (λ n. with_locals (bound_name n Unset) c.bind_named-2.new.names) gives ∙ ap (with_locals (bound_name d.header.result Unset)) left
-    ∙ sym (names_bound (alone (origin_number c.args.origin)) d c.args.left c.args.right c.args.names.now))
+    ∙ sym (names_bound (alone (origin_number c.args.origin)) d (option_copied c.args.left) (option_copied c.args.right) c.args.names.now))
     c.bind_named-3.ensures.ok
