@@ -53,7 +53,7 @@ impl Workspace {
         self.output.reserve(1)?;
         let call = Call::stopped(function, 1);
         self.contexts.enter(Context::Call(call), left)?;
-        self.output.push(report).unwrap();
+        self.output.push_reserved(report);
         Ok(())
     }
 
