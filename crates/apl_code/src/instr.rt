@@ -1,5 +1,6 @@
 //! Flat instructions.
 ghost use Rattle.std.specs.Prelude.{◌≡◌, IfOk};
+ghost use Rattle.apl_code.specs.Taken.{taken_by};
 
 use crate::row::{Ending, Row};
 use std::alloc::{AllocError, Global};
@@ -29,15 +30,35 @@ pub enum Action {
 #[derive(Drop, Debug)]
 pub struct Arguments {
     sources: Vec<Option<Source>>,
+    /// How many of them are taken from the stack.
+    taken: usize,
 }
 
 impl Model for Arguments {
     ghost use Rattle.std.specs.Prelude.{List, Option};
     ghost use Rattle.apl_code.specs.declared.instr.Source.{Source};
 
+    ghost use Rattle.std.specs.Prelude.{◌≡◌};
+    ghost use Rattle.apl_code.specs.Taken.{taken_by};
+
     ghost Value = { List (Option Source) };
 
     ghost view = { λ a. a.sources.items };
+
+    ghost invariant = { λ a. a.taken ≡ taken_by a.sources.items };
+}
+
+/// How many of these operands are taken from the stack.
+fn taken_by(sources: &[Option<Source>]) -> usize
+    ensures { result ≡ taken_by sources.now }
+{
+    let mut taken = 0;
+    for source in sources {
+        if let Some(Source::Stack) = source {
+            taken += 1;
+        }
+    }
+    taken
 }
 
 impl Arguments {
@@ -45,7 +66,16 @@ impl Arguments {
     pub fn new(sources: Vec<Option<Source>>) -> Self
         ensures { result ≡ sources.items }
     {
-        Arguments { sources }
+        let taken = taken_by(sources.as_slice());
+        Arguments { sources, taken }
+    }
+
+    /// How many of them are taken from the stack.
+    #[inline]
+    pub fn taken(&self) -> usize
+        ensures { result ≡ taken_by self.now }
+    {
+        self.taken
     }
 
     /// The operands: `None` is an empty slot.
@@ -61,6 +91,7 @@ impl Arguments {
     {
         Ok(Arguments {
             sources: Vec::from_slice(alloc, self.sources.as_slice())?,
+            taken: self.taken,
         })
     }
 }

@@ -3,4 +3,6 @@
 
 mod operands;
 
-pub use operands::{Given, Held, Operands, arguments, fetch, last_operand, left, one_value};
+pub use operands::{
+    Given, Held, Operands, arguments, fetch, last_operand, left, left_of, one_value,
+};

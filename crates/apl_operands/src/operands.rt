@@ -188,6 +188,15 @@ pub fn left(sources: &[Option<Source>], stack: &[Operand]) -> usize
     left
 }
 
+/// The same of all operands of an instruction, which knows how many of them it takes from the stack.
+#[inline(always)]
+pub fn left_of(arguments: &apl_code::Arguments, stack: &[Operand]) -> usize
+    ensures within { result ≤ length stack.now }
+    ensures left { unfetched arguments.now (reverse stack.now) ≡ reverse (take result stack.now) }
+{
+    stack.len().saturating_sub(arguments.taken())
+}
+
 /// What a phrase gives.
 #[derive(Drop)]
 pub enum Given {

@@ -22,8 +22,8 @@ begin_executed-requires-clause-can c =
     let sound : IsSound s = subst IsSound (sym c.self.view_is) c.requires in
     let text = c.in-Some-executed.text.now in
     let t : IsTyped s.maps text c.in-Some-typed.line.now.value.bound = c.in-Some-typed.ensures in
-    let done = executes_done s c.in-Some.instr.now c.in-Some.operands.constants.now c.in-Some.operands.stack.now c.standing.result c.as_slice-sources.result.now text t.0 c.left-left.result sound c.in-Some.ensures c.standing.ensures c.as_slice-sources.ensures (λ lines. c.in-Some-executed.ensures lines t.0 t.1.0 t.1.1) t.1.0 t.1.1 c.left-left.ensures.within c.left-left.ensures.left in
-    subst (λ (x : Space). IfSome (line_in x.contexts) (CanMove (Awaits c.left-left.result))) c.self.view_is done.can
+    let done = executes_done s c.in-Some.instr.now c.in-Some.operands.constants.now c.in-Some.operands.stack.now c.standing.result c.as_slice-sources.result.now text t.0 c.left_of-left.result sound c.in-Some.ensures c.standing.ensures c.as_slice-sources.ensures (λ lines. c.in-Some-executed.ensures lines t.0 t.1.0 t.1.1) t.1.0 t.1.1 c.left_of-left.ensures.within c.left_of-left.ensures.left in
+    subst (λ (x : Space). IfSome (line_in x.contexts) (CanMove (Awaits c.left_of-left.result))) c.self.view_is done.can
 
 pub returns-clause-made : goal.returns-clause-made
 returns-clause-made c made =
@@ -31,14 +31,14 @@ returns-clause-made c made =
     let sound : IsSound s = subst IsSound (sym c.self.view_is) c.requires in
     let text = c.in-Some-executed.text.now in
     let t : IsTyped s.maps text c.in-Some-typed.line.now.value.bound = c.in-Some-typed.ensures in
-    let done = executes_done s c.in-Some.instr.now c.in-Some.operands.constants.now c.in-Some.operands.stack.now c.standing.result c.as_slice-sources.result.now text t.0 c.left-left.result sound c.in-Some.ensures c.standing.ensures c.as_slice-sources.ensures (λ lines. c.in-Some-executed.ensures lines t.0 t.1.0 t.1.1) t.1.0 t.1.1 c.left-left.ensures.within c.left-left.ensures.left in
+    let done = executes_done s c.in-Some.instr.now c.in-Some.operands.constants.now c.in-Some.operands.stack.now c.standing.result c.as_slice-sources.result.now text t.0 c.left_of-left.result sound c.in-Some.ensures c.standing.ensures c.as_slice-sources.ensures (λ lines. c.in-Some-executed.ensures lines t.0 t.1.0 t.1.1) t.1.0 t.1.1 c.left_of-left.ensures.within c.left_of-left.ensures.left in
     let same : c.new-text.result ≡ text = c.new-text.ensures ∙ c.in_ok-from_slice.ensures.items in
     let read = ap tokens_of same ∙ t.1.0 in
     record {
       state =
           c.in_ok-begin_executed.ensures.ok t.0 read
-          ∙ ap (λ (x : Text). executed_in c.args.self.now x t.0 c.left-left.result) same
-          ∙ subst (λ (x : Space). executed_in x text t.0 c.left-left.result ≡ step (state_of x)) c.self.view_is (ap (λ (ch : Change). (applied (state_of s) ch).state) (sym done.goes));
+          ∙ ap (λ (x : Text). executed_in c.args.self.now x t.0 c.left_of-left.result) same
+          ∙ subst (λ (x : Space). executed_in x text t.0 c.left_of-left.result ≡ step (state_of x)) c.self.view_is (ap (λ (ch : Change). (applied (state_of s) ch).state) (sym done.goes));
       pace = subst (λ (x : Space). IsPace Goes (turn (state_of x))) c.self.view_is
           (ap (λ (ch : Change). (applied (state_of s) ch).stopped) done.goes, ap (λ (ch : Change). (applied (state_of s) ch).ended) done.goes);
     }
