@@ -37,7 +37,6 @@ pub struct Arguments {
 impl Model for Arguments {
     ghost use Rattle.std.specs.Prelude.{List, Option};
     ghost use Rattle.apl_code.specs.declared.instr.Source.{Source};
-
     ghost use Rattle.std.specs.Prelude.{◌≡◌};
     ghost use Rattle.apl_code.specs.Taken.{taken_by};
 
