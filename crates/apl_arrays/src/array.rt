@@ -6,18 +6,20 @@ ghost use Rattle.apl_arrays.specs.Index.{size_of, bound_of, indices};
 use crate::cell::{Cell, Ravel};
 use crate::dense::Dense;
 use crate::elements::Elements;
+use crate::lent::{Lent, Place};
 use crate::shape::{MAX_ELEMENTS, MAX_RANK, is_in_bounds, lengths, place_of};
+use crate::shared_array::{SharedArray, Sharing};
 use apl_charset::Ch;
 use apl_faults::Fault;
 use arrayvec::ArrayVec;
-use std::alloc::{AllocError, Global};
+use std::alloc::{AllocError, AllocFailed, Global};
 use std::marker::Model;
 use std::mem;
 use std::rc::Rc;
 
 /// How an array is kept: a scalar by itself, any other array by itself or shared with its copies.
 #[derive(Drop)]
-enum Kept {
+pub(crate) enum Kept {
     Num(i64),
     Char(Ch),
     Own(Dense),
@@ -42,22 +44,19 @@ impl Model for Array {
 
 impl Array {
     ghost use Rattle.apl_arrays.specs.Cells.{cells_of, cell_at, IsArray, Numbers, Characters};
-    ghost use Rattle.apl_arrays.specs.Kinds.{are_numbers};
+    ghost use Rattle.apl_arrays.specs.Kept.{arr_of};
     ghost use Rattle.apl_arrays.specs.Simple.{simple, single, vector, number_of_scalar};
     ghost use Rattle.apl_arrays.specs.Checks.{limited};
     ghost use Rattle.apl_arrays.specs.Results.{ok_map};
     ghost use Rattle.apl_arrays.specs.Ravels.{items_of};
     ghost use Rattle.apl_arrays.specs.Left.{listed, cells_left};
-    ghost use Rattle.apl_arrays.specs.Written.{number_written};
 
     /// A number, as a scalar.
     #[inline]
     pub fn number(number: i64) -> Array
         ensures { result ≡ record { shape = []; items = Numbers (number ∷ []) } }
     {
-        Array {
-            kept: Kept::Num(number),
-        }
+        Array::kept(Kept::Num(number))
     }
 
     /// A scalar.
@@ -65,10 +64,17 @@ impl Array {
     pub fn scalar(cell: Cell) -> Array
         ensures { result ≡ single cell }
     {
-        let kept = match cell {
+        Array::kept(match cell {
             Cell::Num(number) => Kept::Num(number),
             Cell::Char(character) => Kept::Char(character),
-        };
+        })
+    }
+
+    /// What is kept so.
+    #[inline]
+    pub(crate) fn kept(kept: Kept) -> Array
+        ensures { result ≡ arr_of kept }
+    {
         Array { kept }
     }
 
@@ -176,24 +182,25 @@ impl Array {
         Ok(Array::in_shape(self.shape(), ravel))
     }
 
+    /// Its shape, and its elements where they lie.
+    #[inline]
+    pub fn lend(&self) -> Lent<'_>
+        ensures { result ≡ self.now }
+    {
+        Lent::at(match &self.kept {
+            Kept::Num(number) => Place::Num(number),
+            Kept::Char(character) => Place::Char(character),
+            Kept::Own(dense) => Place::Dense(dense),
+            Kept::Dense(dense) => Place::Dense(dense),
+        })
+    }
+
     /// The number that a scalar is; none where it is a character or an array of another rank.
     #[inline]
     pub fn as_number(&self) -> Option<i64>
         ensures { result ≡ number_of_scalar self.now }
     {
-        match &self.kept {
-            Kept::Num(number) => Some(*number),
-            Kept::Char(_) => None,
-            // What is kept so has axes, and is no scalar.
-            Kept::Own(dense) => {
-                let _axes = dense.shape();
-                None
-            }
-            Kept::Dense(dense) => {
-                let _axes = dense.shape();
-                None
-            }
-        }
+        self.lend().as_number()
     }
 
     /// The lengths of the axes.
@@ -202,18 +209,7 @@ impl Array {
         ensures value { result.now ≡ self.now.shape }
         ensures array { IsArray self.now.shape self.now.items }
     {
-        match &self.kept {
-            Kept::Num(number) => {
-                let _number = *number;
-                &[]
-            }
-            Kept::Char(character) => {
-                let _code = character.code();
-                &[]
-            }
-            Kept::Own(dense) => dense.shape(),
-            Kept::Dense(dense) => dense.shape(),
-        }
+        self.lend().shape()
     }
 
     /// How many axes there are.
@@ -223,26 +219,6 @@ impl Array {
         ensures few { result ≤ MAX_RANK }
     {
         self.shape().len()
-    }
-
-    /// The elements where they lie, whatever they are kept as.
-    #[inline]
-    fn lent(&self) -> Elements<'_>
-        ensures value { listed result ≡ self.now.items }
-        ensures array { IsArray self.now.shape self.now.items }
-    {
-        match &self.kept {
-            Kept::Num(number) => {
-                let _number = *number;
-                Elements::Nums(std::slice::from_ref(number))
-            }
-            Kept::Char(character) => {
-                let _code = character.code();
-                Elements::Chars(std::slice::from_ref(character))
-            }
-            Kept::Own(dense) => Elements::new(dense.ravel()),
-            Kept::Dense(dense) => Elements::new(dense.ravel()),
-        }
     }
 
     /// The elements where they lie, in row-major order.
@@ -255,7 +231,7 @@ impl Array {
         // Row-major order is the lexicographic order of the index lists.
         ensures in_order { map (cell_at self.now) (indices self.now.shape) ≡ map Some (cells_of self.now.items) }
     {
-        self.lent()
+        self.lend().items()
     }
 
     /// The elements in row-major order, one after another.
@@ -263,7 +239,7 @@ impl Array {
     pub fn iter(&self) -> Elements<'_>
         ensures { cells_left result ≡ cells_of self.now.items }
     {
-        self.lent()
+        self.lend().items()
     }
 
     /// The element at an index list, which is one just within the shape.
@@ -276,7 +252,7 @@ impl Array {
         }
     }
 
-    /// An equal array. It takes no memory of a scalar or of an array that is [`shared`](Array::shared).
+    /// An equal array. It takes no memory of a scalar or of an array that is [`shared`](Array::into_shared).
     #[inline]
     pub fn copy(&self) -> Result<Array, AllocError>
         ensures value { IfOk result (λ copied. copied ≡ self.now) }
@@ -297,38 +273,44 @@ impl Array {
         Ok(Array { kept })
     }
 
-    /// Its copies share the elements with it from then on. It is the same array, after an error too.
-    pub fn share(&mut self, alloc: Global) -> Result<(), AllocError>
-        ensures { self.new ≡ self.old }
+    /// The same array, whose copies share its elements. For a scalar, and for an array that is shared already, no memory is asked for. Where
+    /// memory is refused, the array comes back.
+    #[inline]
+    pub fn into_shared(self, alloc: Global) -> Result<SharedArray, AllocFailed<Array>>
+        ensures ok { IfOk result (λ array. array ≡ self) }
+        ensures err { IfErr result (λ refused. refused.value ≡ self) }
     {
-        if !matches!(&self.kept, Kept::Own(_)) {
-            return Ok(());
-        }
-        match mem::replace(&mut self.kept, Kept::Num(0)) {
-            Kept::Own(dense) => match Rc::new(alloc, dense) {
-                Ok(dense) => {
-                    self.kept = Kept::Dense(dense);
-                    Ok(())
-                }
-                Err(refused) => {
-                    self.kept = Kept::Own(refused.value);
-                    Err(AllocError)
-                }
-            },
-            kept => {
-                self.kept = kept;
-                Ok(())
-            }
+        let Array { kept } = self;
+        let dense = match kept {
+            Kept::Num(number) => return Ok(SharedArray::kept(Sharing::Num(number))),
+            Kept::Char(character) => return Ok(SharedArray::kept(Sharing::Char(character))),
+            Kept::Dense(dense) => return Ok(SharedArray::kept(Sharing::Dense(dense))),
+            Kept::Own(dense) => dense,
+        };
+        match Rc::new(alloc, dense) {
+            Ok(dense) => Ok(SharedArray::kept(Sharing::Dense(dense))),
+            Err(refused) => Err(AllocFailed {
+                value: Array::kept(Kept::Own(refused.value)),
+            }),
         }
     }
 
-    /// The same array, whose copies share the elements with it from then on.
-    pub fn shared(self, alloc: Global) -> Result<Array, AllocError>
-        ensures { IfOk result (λ array. array ≡ self) }
+    /// An array with which it shares its elements from then on, as with its other copies. It is the same array, after an error too.
+    pub fn share(&mut self, alloc: Global) -> Result<SharedArray, AllocError>
+        ensures value { IfOk result (λ array. array ≡ self.old) }
+        ensures same { self.new ≡ self.old }
     {
-        let mut array = self;
-        array.share(alloc)?;
-        Ok(array)
+        match mem::replace(self, Array::number(0)).into_shared(alloc) {
+            Ok(array) => {
+                let copy = array.copy();
+                *self = array.into_array();
+                copy
+            }
+            Err(refused) => {
+                *self = refused.value;
+                Err(AllocError)
+            }
+        }
     }
 
     /// Becomes a number, as a scalar. It takes no memory, and a number is written in the place of another.
@@ -339,34 +321,6 @@ impl Array {
         match &mut self.kept {
             Kept::Num(kept) => *kept = number,
             kept => *kept = Kept::Num(number),
-        }
-    }
-
-    /// Writes a number in the place of another, and says whether it did. It did not where there is no number at the place, or where a copy
-    /// shares the elements. A scalar shares none.
-    pub fn set_number(&mut self, place: usize, number: i64) -> bool
-        ensures value { self.new ≡ cond result (number_written self.old place number) self.old }
-        ensures there { IsTrue result → (are_numbers self.old.items ≡ true) × (place < length (cells_of self.old.items)) }
-        ensures scalar { self.old.shape ≡ [] → are_numbers self.old.items ≡ true → place ≡ 0 → IsTrue result }
-    {
-        match &mut self.kept {
-            Kept::Num(kept) if place == 0 => {
-                *kept = number;
-                true
-            }
-            // What is kept so has axes, and is no scalar.
-            Kept::Own(dense) => {
-                let _axes = dense.shape();
-                dense.set_number(place, number)
-            }
-            Kept::Dense(dense) => {
-                let _axes = dense.shape();
-                match Rc::get_mut(dense) {
-                    Some(dense) => dense.set_number(place, number),
-                    None => false,
-                }
-            }
-            _ => false,
         }
     }
 }

@@ -6,11 +6,11 @@ ghost use Rattle.apl_names.specs.Maps.{AreBeneath, map_of, with_locals};
 ghost use Rattle.apl_phrases.specs.Effects.{seen};
 ghost use Rattle.apl_machine.specs.inside.Locals.{alone, names_with};
 
-use apl_arrays::{Array, Origin};
+use apl_arrays::{Array, Origin, SharedArray};
 use apl_defn::Definition;
 use apl_names::{Binding, Names};
 use apl_parts::bind_labels;
-use apl_phrases::{Scene, origin_name, origin_scalar};
+use apl_phrases::{Scene, origin_name};
 use apl_symbols::Name;
 use std::alloc::AllocError;
 
@@ -32,7 +32,7 @@ fn local_of(origin: Origin, name: &Name) -> Binding
     ensures { (name.now, result) ≡ local_of (alone (origin_number origin)) name.now }
 {
     if *name == origin_name() {
-        Binding::Value(origin_scalar(origin))
+        Binding::Value(SharedArray::number(origin.number() as i64))
     } else {
         Binding::Unset
     }

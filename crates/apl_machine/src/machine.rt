@@ -18,7 +18,7 @@ use crate::objects::{clear, define, erase, function_in, is_variable};
 use crate::reports::{token_fault, typed_fault};
 use crate::stepping::{abandon, make, progress_of};
 use crate::workspace::Workspace;
-use apl_arrays::{Array, Origin};
+use apl_arrays::{Origin, SharedArray};
 use apl_charset::{Ch, Text};
 use apl_contexts::{Context, Contexts, Lines, Statement};
 use apl_defn::Definition;
@@ -247,7 +247,7 @@ impl Machine {
 
     /// The value of a name, as a statement that begins now would read it, if it has one. A label has
     /// none, nor has a function.
-    pub fn value(&self, name: &Name) -> Option<&Array>
+    pub fn value(&self, name: &Name) -> Option<&SharedArray>
         ensures { option_copied result ≡ value_of self.now name.now }
     {
         self.workspace.names.lookup(name)

@@ -5,9 +5,8 @@ ghost use Rattle.apl_arrays.specs.Simple.{single};
 ghost use Rattle.apl_names.specs.Maps.{value_in, class_in, is_function, set_value, takes_value, with_value};
 
 use crate::function::DefinedFunction;
-use apl_arrays::Array;
+use apl_arrays::{Array, SharedArray};
 use apl_symbols::Class;
-use std::alloc::{AllocError, Global};
 use std::mem;
 
 /// What a map says of a name that it has.
@@ -18,28 +17,14 @@ pub enum Binding {
     /// A label: the number of its line.
     Label(u16),
     /// A variable.
-    Value(Array),
+    Value(SharedArray),
     /// A defined function.
     Function(DefinedFunction),
 }
 
-/// Swaps two arrays. Of two numbers the numbers alone are moved.
-#[inline]
-fn exchange(one: &mut Array, other: &mut Array)
-    ensures one { one.new ≡ other.old }
-    ensures other { other.new ≡ one.old }
-{
-    if let (Some(first), Some(second)) = (one.as_number(), other.as_number()) {
-        one.put_number(second);
-        other.put_number(first);
-        return;
-    }
-    mem::swap(one, other);
-}
-
 impl Binding {
     /// Its value, if it has one.
-    pub(crate) fn value(&self) -> Option<&Array>
+    pub(crate) fn value(&self) -> Option<&SharedArray>
         ensures { option_copied result ≡ value_in (Some self.now) }
     {
         match self {
@@ -55,32 +40,22 @@ impl Binding {
         ensures { result ≡ value_in (Some self) }
     {
         match self {
-            Binding::Value(value) => Some(value),
+            Binding::Value(value) => Some(value.into_array()),
             Binding::Unset => None,
             Binding::Label(_) => None,
             Binding::Function(_) => None,
         }
     }
 
-    /// Its value, if it has one, shares its elements with its copies from then on. It is the same, after an error too.
-    pub(crate) fn share(&mut self, alloc: Global) -> Result<(), AllocError>
-        ensures { self.new ≡ self.old }
-    {
-        match self {
-            Binding::Value(value) => value.share(alloc),
-            Binding::Unset | Binding::Label(_) | Binding::Function(_) => Ok(()),
-        }
-    }
-
     /// Swaps its value, if it has one, with another, and says whether it has one.
-    pub(crate) fn swap(&mut self, value: &mut Array) -> bool
+    pub(crate) fn swap(&mut self, value: &mut SharedArray) -> bool
         ensures told { result ≡ is_some (value_in (Some self.old)) }
         ensures taken { value.new ≡ unwrap_or (value_in (Some self.old)) value.old }
         ensures put { Some self.new ≡ with_value value.old (Some self.old) }
     {
         match self {
             Binding::Value(own) => {
-                exchange(own, value);
+                mem::swap(own, value);
                 true
             }
             Binding::Unset | Binding::Label(_) | Binding::Function(_) => false,
@@ -98,7 +73,7 @@ impl Binding {
                 true
             }
             Binding::Unset => {
-                *self = Binding::Value(Array::number(number));
+                *self = Binding::Value(SharedArray::number(number));
                 true
             }
             Binding::Label(_) | Binding::Function(_) => false,

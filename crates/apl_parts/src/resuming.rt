@@ -111,12 +111,12 @@ fn call_of(
 }
 
 /// What a name of a call stands for: its value, if it has one, else nothing yet.
-pub fn bound_to(value: Option<Array>) -> Binding
-    ensures { result ≡ bound_to value }
+fn bound_to(alloc: Global, value: Option<Array>) -> Result<Binding, AllocError>
+    ensures { IfOk result (λ binding. binding ≡ bound_to value) }
 {
     match value {
-        Some(array) => Binding::Value(array),
-        None => Binding::Unset,
+        Some(array) => Ok(Binding::Value(array.into_shared(alloc)?)),
+        None => Ok(Binding::Unset),
     }
 }
 
@@ -144,11 +144,15 @@ pub fn bind_labels(names: &mut Names, labels: &[(Name, usize)]) -> Result<(), Al
 }
 
 /// Makes names of the newest scope's stand for their values, or for none yet. Of two of one name, the first stands.
-fn bind_values(names: &mut Names, mut values: Vec<(Name, Option<Array>)>) -> Result<(), AllocError>
+fn bind_values(
+    alloc: Global,
+    names: &mut Names,
+    mut values: Vec<(Name, Option<Array>)>,
+) -> Result<(), AllocError>
     ensures { OnOk result (names.new ≡ with_locals (map (λ l. (l.0, bound_to l.1)) values.items) names.old) }
 {
     while let Some(local) = values.pop() {
-        let binding = bound_to(local.1);
+        let binding = bound_to(alloc, local.1)?;
         names.bind(&local.0, binding)?;
     }
     Ok(())
@@ -156,6 +160,7 @@ fn bind_values(names: &mut Names, mut values: Vec<(Name, Option<Array>)>) -> Res
 
 /// The newest scope is that of a call with these locals, beside the labels of its function.
 fn open_scope(
+    alloc: Global,
     names: &mut Names,
     locals: Vec<(Name, Option<Array>)>,
     definition: &Definition,
@@ -165,7 +170,7 @@ fn open_scope(
     let _header = definition.header();
     names.open()?;
     bind_labels(names, definition.labels())?;
-    bind_values(names, locals)?;
+    bind_values(alloc, names, locals)?;
     Ok(())
 }
 
@@ -186,7 +191,7 @@ fn put_call(
         locals,
         rest,
     } = part;
-    open_scope(names, locals, function.definition())?;
+    open_scope(alloc, names, locals, function.definition())?;
     let call = call_of(alloc, function, at, rest, cache)?;
     contexts.push(Context::Call(call))?;
     Ok(())

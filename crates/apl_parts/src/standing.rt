@@ -111,7 +111,7 @@ fn push_local(
     ensures { OnOk result (locals.new.items ≡ locals.old.items ++ (name.now, value_in (said (first_map (drop scope names.now)) name.now)) ∷ []) }
 {
     let value = match names.in_scope(scope, name) {
-        Some(Binding::Value(array)) => Some(array.copy()?),
+        Some(Binding::Value(array)) => Some(array.to_array()?),
         _ => None,
     };
     locals.push((*name, value))?;

@@ -5,7 +5,7 @@ use crate::lacks::Lack;
 use crate::page::Page;
 use crate::parts::write_parts;
 use crate::words::count;
-use crate::writing::{write_class, write_objects, write_operands, write_value};
+use crate::writing::{write_class, write_lent, write_objects, write_operands};
 use apl_debug::{state_indicator, stops, traces};
 use apl_listed::code_of;
 use apl_machine::{Level, Machine};
@@ -104,7 +104,7 @@ fn write_cached(page: &mut Page, machine: &Machine, text: &str) {
 /// Looks at what a name stands for.
 fn look(page: &mut Page, machine: &Machine, word: &str, name: &Name) {
     match word {
-        "value" => write_value(page, machine.value(name)),
+        "value" => write_lent(page, machine.value(name).map(|value| value.lend())),
         "class" => write_class_of(page, machine, name),
         "watched" => {
             write_vector(page, "stops: ", stops(machine, name));

@@ -1,7 +1,7 @@
 //! Arrays, operands, classes and lines of output, as they are written.
 
 use crate::page::Page;
-use apl_arrays::{Array, Cell, Elements, Stop};
+use apl_arrays::{Array, Cell, Elements, Lent, Stop};
 use apl_machine::{Operand, OutLine, Slots};
 use apl_symbols::{Class, Name};
 
@@ -39,7 +39,7 @@ pub fn write_cells(page: &mut Page, cells: &[Cell]) {
 }
 
 /// Writes an array as rows do: `2 3:1 2 3 4 5 6`, or `2:'AB` for characters.
-fn write_array(page: &mut Page, array: &Array) {
+fn write_array(page: &mut Page, array: &Lent<'_>) {
     page.numbers(array.shape());
     page.mark(':');
     match array.items() {
@@ -53,8 +53,13 @@ fn write_array(page: &mut Page, array: &Array) {
 
 /// Writes an array, if there is one, as a line.
 pub fn write_value(page: &mut Page, value: Option<&Array>) {
+    write_lent(page, value.map(|array| array.lend()));
+}
+
+/// Writes an array that is lent, if there is one, as a line.
+pub fn write_lent(page: &mut Page, value: Option<Lent<'_>>) {
     match value {
-        Some(array) => write_array(page, array),
+        Some(array) => write_array(page, &array),
         None => page.put("no value"),
     }
     page.end();
@@ -74,7 +79,7 @@ fn write_slots(page: &mut Page, slots: &Slots) {
     for slot in slots.as_slice() {
         page.mark(' ');
         match slot {
-            Some(array) => write_array(page, array),
+            Some(array) => write_array(page, &array.lend()),
             None => page.mark('-'),
         }
     }
@@ -85,7 +90,7 @@ pub fn write_operands(page: &mut Page, operands: &[Operand]) {
     for operand in operands {
         page.put("operand ");
         match operand {
-            Operand::Value(array) => write_array(page, array),
+            Operand::Value(array) => write_array(page, &array.lend()),
             Operand::Slots(slots) => write_slots(page, slots),
         }
         page.end();

@@ -15,13 +15,15 @@ use crate::overwrite::overwrite_items;
 use crate::reach::places_led;
 use crate::single::place_picked;
 use crate::slots::{Picked, joined_shape, picks_of};
-use apl_arrays::{Array, Elements, MAX_ELEMENTS, Origin, Stop, size, within_limits};
+use apl_arrays::{
+    Array, Elements, Lent, MAX_ELEMENTS, Origin, SharedArray, Stop, size, within_limits,
+};
 use std::alloc::{AllocError, Global};
 
 /// The places to which index lists within what is joined lead, where `b` fits the joined shape: its shape is asked first and then its type.
 fn places_at(
     alloc: Global,
-    v: &Array,
+    v: &Lent<'_>,
     picks: &[Picked],
     shape: &[usize],
     b: &Array,
@@ -42,7 +44,7 @@ fn places_at(
 /// The places that an indexed assignment writes one after another, where everything fits.
 fn places_assigned(
     alloc: Global,
-    v: &Array,
+    v: &Lent<'_>,
     slots: &[Option<Array>],
     b: &Array,
     origin: usize,
@@ -59,22 +61,32 @@ fn places_assigned(
 }
 
 /// The array `v` with the elements of `b`, which are enough, written to places one after another.
-fn overwritten(alloc: Global, v: &Array, b: &Array, places: &[usize]) -> Result<Array, AllocError>
+fn overwritten(
+    alloc: Global,
+    v: &Lent<'_>,
+    b: &Array,
+    places: &[usize],
+) -> Result<Array, AllocError>
     requires within { All (λ q. q < count_of v.now) places.now }
     requires enough { AreEnough (count_of b.now) (length places.now) }
     ensures { IfOk result (λ array. array ≡ overwritten v.now b.now places.now) }
 {
     let ravel = overwrite_items(alloc, v.items(), b.items(), places)?;
-    v.with_ravel(ravel)
+    Ok(Array::in_shape(v.shape(), ravel))
 }
 
 /// Writes a number in place of the one element that slots pick, and says whether it did. It did not where anything is at fault, where more
 /// is written than a number, or where a copy shares the elements.
 #[inline]
-fn number_assigned(array: &mut Array, slots: &[Option<Array>], value: &Array, origin: usize) -> bool
+fn number_assigned(
+    array: &mut SharedArray,
+    slots: &[Option<Array>],
+    value: &Array,
+    origin: usize,
+) -> bool
     ensures { MatchBool result (assigned array.old slots.now value.now origin ≡ Ok array.new) (array.new ≡ array.old) }
 {
-    let Some(place) = place_picked(array, slots, origin) else {
+    let Some(place) = place_picked(&array.lend(), slots, origin) else {
         return false;
     };
     match value.items() {
@@ -101,8 +113,8 @@ pub fn index_assign(
     ensures value { Answers (λ r. r) (assigned v.now slots.now b.now (origin_number origin)) result }
     ensures at_once { FaultsFirst (slots_fit v.now slots.now) result }
 {
-    let places = places_assigned(alloc, v, slots, b, origin.number())?;
-    Ok(overwritten(alloc, v, b, places.as_slice())?)
+    let places = places_assigned(alloc, &v.lend(), slots, b, origin.number())?;
+    Ok(overwritten(alloc, &v.lend(), b, places.as_slice())?)
 }
 
 /// The same in place of the array, which stays as it was after each error.
@@ -110,7 +122,7 @@ pub fn index_assign(
 /// One number for slots of one number each takes no memory, unless a copy of the array shares its elements.
 pub fn index_assign_into(
     alloc: Global,
-    array: &mut Array,
+    array: &mut SharedArray,
     slots: &[Option<Array>],
     value: &Array,
     origin: Origin,
@@ -123,9 +135,8 @@ pub fn index_assign_into(
     if number_assigned(array, slots, value, first) {
         return Ok(());
     }
-    let places = places_assigned(alloc, array, slots, value, first)?;
-    let changed = overwritten(alloc, array, value, places.as_slice())?;
-    // Its copies share the elements, as those of a value that is assigned as a whole.
-    *array = changed.shared(alloc)?;
+    let places = places_assigned(alloc, &array.lend(), slots, value, first)?;
+    let changed = overwritten(alloc, &array.lend(), value, places.as_slice())?;
+    *array = changed.into_shared(alloc)?;
     Ok(())
 }

@@ -45,7 +45,7 @@ fn read_items(
 fn element_picked(b: &Array, slots: &[Option<Array>], origin: usize) -> Option<Cell>
     ensures { IfSome result (λ cell. indexed b.now slots.now origin ≡ Ok (single cell)) }
 {
-    let place = place_picked(b, slots, origin)?;
+    let place = place_picked(&b.lend(), slots, origin)?;
     b.items().cell(place)
 }
 
@@ -59,7 +59,7 @@ fn elements_led_to(
     ensures value { Answers (λ r. r) (indexed b.now slots.now origin) result }
     ensures at_once { FaultsFirst (slots_fit b.now slots.now) result }
 {
-    let picks = picks_of(alloc, b, slots, origin)?;
+    let picks = picks_of(alloc, &b.lend(), slots, origin)?;
     let shape = joined_shape(alloc, picks.as_slice())?;
     within_limits(shape.as_slice())?;
     let room = size(shape.as_slice());

@@ -5,7 +5,7 @@ ghost use Rattle.apl_arrays.specs.Index.{bound_of};
 ghost use Rattle.apl_select.specs.inside.Single.{counted_by, placed, PicksPlace};
 
 use crate::slots::numbered;
-use apl_arrays::{Array, MAX_ELEMENTS};
+use apl_arrays::{Array, Lent, MAX_ELEMENTS};
 
 /// The place on an axis that a slot of one number counts.
 #[inline]
@@ -36,7 +36,11 @@ fn place_named(shape: &[usize], slots: &[Option<Array>], origin: usize) -> Optio
 
 /// The place that slots pick, where each is one number that counts a place of its axis. It takes no memory.
 #[inline]
-pub(crate) fn place_picked(array: &Array, slots: &[Option<Array>], origin: usize) -> Option<usize>
+pub(crate) fn place_picked(
+    array: &Lent<'_>,
+    slots: &[Option<Array>],
+    origin: usize,
+) -> Option<usize>
     ensures place { IfSome result (PicksPlace array.now origin slots.now) }
     ensures array { IsArray array.now.shape array.now.items }
 {

@@ -1,6 +1,6 @@
 use Rattle.std.proofs.Common.{◌≡◌, ℕ, List, length, ap, sym, ◌∙◌, Result, Ok}
 use Rattle.apl_faults.specs.declared.fault.Fault.{Fault}
-use Rattle.apl_arrays.specs.Cells.{Items, cells_of}
+use Rattle.apl_arrays.specs.Cells.{Arr, Items, cells_of}
 use Rattle.apl_arrays.specs.Checks.{limited}
 use Rattle.apl_arrays.specs.Index.{size_of, indices, position_in}
 use Rattle.apl_arrays.specs.Left.{listed}
@@ -8,7 +8,7 @@ use Rattle.apl_arrays.specs.Ravels.{items_of}
 use Rattle.apl_arrays.specs.Results.{and_then, ok_map}
 use Rattle.apl_arrays.specs.Views.{selected}
 use Rattle.apl_arrays.proofs.Order.{length-indices}
-use Rattle.apl_select.specs.Indexing.{Places, items_led_to, joined_shape, led_to}
+use Rattle.apl_select.specs.Indexing.{Places, items_led_to, joined_shape, led_to, slots_of}
 use Rattle.apl_select.proofs.Indexes.{length-picked, index_shaped}
 use Rattle.apl_select.proofs.indexing.elements_led_to.Goals as goal
 
@@ -30,5 +30,5 @@ returns-clause-value c =
     ∙ ap (λ (t : Items). items_led_to t c.args.b.now.shape c.in_ok-picks.picks.items) c.items.ensures.value in
     let fits : limited c.as_slice-5.result.now ≡ Ok c.as_slice-5.result.now = ap limited (c.as_slice-5.ensures.value ∙ sym c.as_slice-2.ensures.value) ∙ c.in_ok-within_limits.ensures ∙ ap (λ (s : List ℕ). Ok s) (c.as_slice-2.ensures.value ∙ sym c.as_slice-5.ensures.value) in
     ap (λ (m : Result (List Places) Fault). and_then m (λ ps. ok_map (λ s. selected c.args.b.now s (led_to ps)) (limited (joined_shape ps))))
-    c.in_ok-picks.ensures.value
+    (ap (λ (a : Arr). slots_of a c.args.origin c.args.slots.now) (sym c.lend.ensures) ∙ c.in_ok-picks.ensures.value)
     ∙ index_shaped c.args.b.now c.in_ok-picks.picks.items c.as_slice-5.result.now (items_of c.in_ok-ravel.ravel) c.in_shape.result shape items fits c.in_shape.ensures

@@ -1,0 +1,177 @@
+// An array whose copies share its elements.
+ghost use Rattle.std.specs.Prelude.{◌≡◌, ◌≤◌, ◌<◌, length, [], ◌∷◌, IfOk, IfErr, IsOk, IsTrue, cond, true};
+
+use crate::array::{Array, Kept};
+use crate::dense::Dense;
+use crate::elements::Elements;
+use crate::lent::{Lent, Place};
+use crate::shape::MAX_ELEMENTS;
+use apl_charset::Ch;
+use std::alloc::AllocError;
+use std::marker::Model;
+use std::rc::Rc;
+
+/// How an array is kept that shares its elements: a scalar by itself, any other where its copies find it too.
+#[derive(Drop)]
+pub(crate) enum Sharing {
+    Num(i64),
+    Char(Ch),
+    Dense(Rc<Dense>),
+}
+
+/// An array whose copies share its elements, so that a copy takes no memory. It is small: what is not a scalar lies elsewhere.
+#[derive(Drop)]
+pub struct SharedArray {
+    kept: Sharing,
+}
+
+impl Model for SharedArray {
+    ghost use Rattle.apl_arrays.specs.Cells.{Arr};
+
+    ghost Value = { Arr };
+
+    ghost use Rattle.apl_arrays.specs.Kept.{shared_of};
+
+    ghost view = { λ a. shared_of a.kept };
+}
+
+impl SharedArray {
+    ghost use Rattle.apl_arrays.specs.Cells.{cells_of, IsArray, Numbers};
+    ghost use Rattle.apl_arrays.specs.Index.{size_of};
+    ghost use Rattle.apl_arrays.specs.Kept.{shared_of};
+    ghost use Rattle.apl_arrays.specs.Kinds.{are_numbers};
+    ghost use Rattle.apl_arrays.specs.Left.{listed};
+    ghost use Rattle.apl_arrays.specs.Simple.{number_of_scalar};
+    ghost use Rattle.apl_arrays.specs.Written.{number_written};
+
+    /// A number, as a scalar.
+    #[inline]
+    pub fn number(number: i64) -> SharedArray
+        ensures { result ≡ record { shape = []; items = Numbers (number ∷ []) } }
+    {
+        SharedArray::kept(Sharing::Num(number))
+    }
+
+    /// What is kept so.
+    #[inline]
+    pub(crate) fn kept(kept: Sharing) -> SharedArray
+        ensures { result ≡ shared_of kept }
+    {
+        SharedArray { kept }
+    }
+
+    /// Its shape, and its elements where they lie.
+    #[inline]
+    pub fn lend(&self) -> Lent<'_>
+        ensures { result ≡ self.now }
+    {
+        Lent::at(match &self.kept {
+            Sharing::Num(number) => Place::Num(number),
+            Sharing::Char(character) => Place::Char(character),
+            Sharing::Dense(dense) => Place::Dense(dense),
+        })
+    }
+
+    /// The number that a scalar is; none where it is a character or an array of another rank.
+    #[inline]
+    pub fn as_number(&self) -> Option<i64>
+        ensures { result ≡ number_of_scalar self.now }
+    {
+        self.lend().as_number()
+    }
+
+    /// The lengths of the axes.
+    #[inline]
+    pub fn shape(&self) -> &[usize]
+        ensures value { result.now ≡ self.now.shape }
+        ensures array { IsArray self.now.shape self.now.items }
+    {
+        self.lend().shape()
+    }
+
+    /// The elements where they lie, in row-major order.
+    #[inline]
+    pub fn items(&self) -> Elements<'_>
+        ensures value { listed result ≡ self.now.items }
+        ensures array { IsArray self.now.shape self.now.items }
+        ensures full { length (cells_of self.now.items) ≡ size_of self.now.shape }
+        ensures small { length (cells_of self.now.items) ≤ MAX_ELEMENTS }
+    {
+        self.lend().items()
+    }
+
+    /// An equal one, which shares the elements. A scalar is always copied.
+    #[inline]
+    pub fn copy(&self) -> Result<SharedArray, AllocError>
+        ensures value { IfOk result (λ copied. copied ≡ self.now) }
+        ensures scalar { self.now.shape ≡ [] → IsOk result }
+    {
+        let kept = match &self.kept {
+            Sharing::Num(number) => Sharing::Num(*number),
+            Sharing::Char(character) => Sharing::Char(*character),
+            Sharing::Dense(dense) => {
+                let _axes = dense.shape();
+                Sharing::Dense(dense.clone()?)
+            }
+        };
+        Ok(SharedArray { kept })
+    }
+
+    /// An equal array, which shares the elements. A scalar is always copied.
+    #[inline]
+    pub fn to_array(&self) -> Result<Array, AllocError>
+        ensures value { IfOk result (λ array. array ≡ self.now) }
+        ensures scalar { self.now.shape ≡ [] → IsOk result }
+    {
+        let copy = self.copy()?;
+        Ok(copy.into_array())
+    }
+
+    /// The array, which shares its elements with its copies still. It takes no memory.
+    #[inline]
+    pub fn into_array(self) -> Array
+        ensures { result ≡ self }
+    {
+        let SharedArray { kept } = self;
+        Array::kept(match kept {
+            Sharing::Num(number) => Kept::Num(number),
+            Sharing::Char(character) => Kept::Char(character),
+            Sharing::Dense(dense) => Kept::Dense(dense),
+        })
+    }
+
+    /// Becomes a number, as a scalar. It takes no memory, and a number is written in the place of another.
+    #[inline]
+    pub fn put_number(&mut self, number: i64)
+        ensures { self.new ≡ record { shape = []; items = Numbers (number ∷ []) } }
+    {
+        match &mut self.kept {
+            Sharing::Num(kept) => *kept = number,
+            kept => *kept = Sharing::Num(number),
+        }
+    }
+
+    /// Writes a number in the place of another, and says whether it did. It did not where there is no number at the place, or where a copy
+    /// shares the elements. A scalar shares none.
+    pub fn set_number(&mut self, place: usize, number: i64) -> bool
+        ensures value { self.new ≡ cond result (number_written self.old place number) self.old }
+        ensures there { IsTrue result → (are_numbers self.old.items ≡ true) × (place < length (cells_of self.old.items)) }
+        ensures scalar { self.old.shape ≡ [] → are_numbers self.old.items ≡ true → place ≡ 0 → IsTrue result }
+    {
+        match &mut self.kept {
+            Sharing::Num(kept) if place == 0 => {
+                *kept = number;
+                true
+            }
+            // What is kept so has axes, and is no scalar.
+            Sharing::Dense(dense) => {
+                let _axes = dense.shape();
+                match Rc::get_mut(dense) {
+                    Some(dense) => dense.set_number(place, number),
+                    None => false,
+                }
+            }
+            _ => false,
+        }
+    }
+}
