@@ -11,3 +11,4 @@ mod slots;
 pub use binding::Binding;
 pub use function::DefinedFunction;
 pub use names::Names;
+pub use recent::LikelySlot;
