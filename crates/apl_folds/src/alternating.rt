@@ -1,7 +1,7 @@
 // Folds by subtraction, each from the one before it.
-ghost use Rattle.std.specs.Prelude.{◌≡◌, ◌^◌, ◌<◌, ◌+ℤ◌, FitsSigned};
+ghost use Rattle.std.specs.Prelude.{◌≡◌, ◌^◌, ◌<◌, ◌+◌, ◌+ℤ◌, FitsSigned, unsigned_abs};
 ghost use Rattle.std.specs.Int.{w64};
-ghost use Rattle.apl_folds.specs.inside.Sums.{signed, IsAlternating};
+ghost use Rattle.apl_folds.specs.inside.Sums.{signed, magnitudes, IsAlternating};
 
 use crate::kept::Kept;
 use crate::running::{EXACT, grown};
@@ -34,6 +34,10 @@ impl Kept<Difference> for Alternating {
     ghost knows = { IsAlternating };
 
     ghost tells = { λ s. s.magnitude < 2 ^ 63 };
+
+    ghost begins = { λ number others. unsigned_abs number + magnitudes others < 2 ^ 63 };
+
+    ghost keeps = { λ s others. s.magnitude + magnitudes others < 2 ^ 63 };
 
     #[inline(always)]
     fn first(number: i64) -> Alternating {

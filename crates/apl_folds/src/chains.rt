@@ -1,7 +1,7 @@
 // Folds by associative functions, each from the one before it.
-ghost use Rattle.std.specs.Prelude.{IsTrue};
+ghost use Rattle.std.specs.Prelude.{IsTrue, IsOk};
 ghost use Rattle.apl_folds.specs.Chains.{IsAssociative};
-ghost use Rattle.apl_folds.specs.inside.Kept.{IsFront};
+ghost use Rattle.apl_folds.specs.inside.Kept.{IsFront, fold_on};
 
 use crate::kept::Kept;
 use apl_scalar::Scalar;
@@ -19,6 +19,10 @@ impl<F: Scalar> Kept<F> for Front {
     ghost knows = { IsFront F.meaning };
 
     ghost tells = { λ s. IsTrue s.told };
+
+    ghost begins = { λ number others. IsOk (fold_on F.meaning number others) };
+
+    ghost keeps = { λ s others. IsTrue s.told × IsOk (fold_on F.meaning s.fold others) };
 
     #[inline(always)]
     fn first(number: i64) -> Front {

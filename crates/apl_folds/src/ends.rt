@@ -1,7 +1,7 @@
 // Folds by functions of which the values are 0 and 1, each from what the numbers before make of either.
-ghost use Rattle.std.specs.Prelude.{◌≡◌, ◌∷◌, ◌++◌, [], ℤ, pos, List, IfSome, IsSome, Ok};
+ghost use Rattle.std.specs.Prelude.{◌≡◌, ◌∷◌, ◌++◌, [], ℤ, List, IfSome, IsSome, Ok};
 ghost use Rattle.apl_folds.specs.Lines.{fold_by};
-ghost use Rattle.apl_folds.specs.inside.Ends.{IsEnds};
+ghost use Rattle.apl_folds.specs.inside.Ends.{IsEnds, chosen, ends_of, StayKnown};
 
 use crate::kept::Kept;
 use apl_scalar::Scalar;
@@ -19,7 +19,8 @@ pub(crate) struct Ends {
 /// The fold with one number more.
 #[inline(always)]
 fn with<F: Scalar>(ends: Ends, number: i64) -> Option<i64>
-    ensures { IfSome result (λ fold. (numbers : List ℤ) → IsEnds F.meaning ends numbers → fold_by F.meaning (numbers ++ number ∷ []) ≡ Ok fold) }
+    ensures fold { IfSome result (λ fold. (numbers : List ℤ) → IsEnds F.meaning ends numbers → fold_by F.meaning (numbers ++ number ∷ []) ≡ Ok fold) }
+    ensures chosen { result ≡ chosen ends (F.meaning ends.last number) }
 {
     match F::apply(ends.last, number) {
         Ok(0) => ends.zero,
@@ -34,6 +35,10 @@ impl<F: Scalar> Kept<F> for Ends {
     ghost knows = { IsEnds F.meaning };
 
     ghost tells = { λ s. IsSome s.fold };
+
+    ghost begins = { λ number others. StayKnown F.meaning (ends_of number) others };
+
+    ghost keeps = { StayKnown F.meaning };
 
     #[inline(always)]
     fn first(number: i64) -> Ends {

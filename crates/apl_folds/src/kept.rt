@@ -1,5 +1,5 @@
 // Fronts of lines, each from what is kept of the numbers before.
-ghost use Rattle.std.specs.Prelude.{◌≡◌, ◌<◌, ◌≤◌, ◌+◌, ◌∷◌, ◌++◌, [], ℕ, ℤ, pos, List, length, IfOk, IsTrue, Ok};
+ghost use Rattle.std.specs.Prelude.{◌≡◌, ◌↔◌, ◌<◌, ◌≤◌, ◌+◌, ◌∷◌, ◌++◌, [], ℕ, ℤ, pos, List, length, IfOk, IsTrue, Ok};
 ghost use Rattle.apl_folds.specs.Lines.{fold_by, line_fold, line_of, IsLine};
 ghost use Rattle.apl_folds.specs.inside.Kept.{AreTold, IsTold};
 
@@ -23,17 +23,26 @@ pub(crate) trait Kept<F: Scalar>: Copy {
     /// The fold is known.
     ghost tells: { Self → Type 0 };
 
+    /// Of one number and these more it is known, as it is before each of them.
+    ghost begins: { ℤ → List ℤ → Type 0 };
+
+    /// With these numbers more it is known too, as it is before each of them.
+    ghost keeps: { Self → List ℤ → Type 0 };
+
     fn first(number: i64) -> Self
         requires { given }
-        ensures { knows result (number ∷ []) };
+        ensures knows { knows result (number ∷ []) }
+        ensures keeps { (others : List ℤ) → keeps result others ↔ begins number others };
 
     fn next(self, number: i64) -> Self
         ensures knows { (numbers : List ℤ) → 0 < length numbers → knows self numbers → knows result (numbers ++ number ∷ []) }
-        ensures tells { tells result → tells self };
+        ensures tells { tells result → tells self }
+        ensures keeps { (others : List ℤ) → keeps result others ↔ keeps self (number ∷ others) };
 
     /// Whether the fold is known. Else it has to be made anew, and so have those of more numbers.
     fn is_told(self) -> bool
-        ensures { IsTrue result → tells self };
+        ensures tells { IsTrue result ↔ tells self }
+        ensures keeps { IsTrue result ↔ keeps self [] };
 
     /// The fold where it is known, and else some number.
     fn fold(self) -> i64

@@ -1,9 +1,9 @@
 // Sums of lines of numbers, each front from the one before it.
-ghost use Rattle.std.specs.Prelude.{◌≡◌, ◌^◌, ◌<◌, ◌+◌, ◌∷◌, ◌++◌, [], ℤ, List, length, pos, unsigned_abs};
+ghost use Rattle.std.specs.Prelude.{◌≡◌, ◌^◌, ◌<◌, ◌+◌, ◌-◌, ◌∷◌, ◌++◌, [], ℤ, List, length, min, pos, unsigned_abs};
 ghost use Rattle.apl_scalar.specs.declared.function.Dyadic.TheVariants as two;
 ghost use Rattle.apl_scalar.specs.Functions.{dyadic_of};
 ghost use Rattle.apl_folds.specs.Lines.{line_fold, IsLine};
-ghost use Rattle.apl_folds.specs.inside.Sums.{IsRunning};
+ghost use Rattle.apl_folds.specs.inside.Sums.{IsRunning, magnitudes};
 
 use crate::columns::push_columns;
 use crate::kept::{Kept, push_told};
@@ -24,10 +24,11 @@ pub(crate) struct Running {
     magnitude: u64,
 }
 
-/// A magnitude with that of one number more, while the sum is below 2^63.
+/// A magnitude with that of one number more, while the sum has 64 bits, and else the greatest number that has.
 #[inline(always)]
 pub(crate) fn grown(magnitude: u64, number: i64) -> u64
-    ensures { result < 2 ^ 63 → result ≡ magnitude + unsigned_abs number }
+    ensures exact { result ≡ min (magnitude + unsigned_abs number) (2 ^ 64 - 1) }
+    ensures small { result < 2 ^ 63 → result ≡ magnitude + unsigned_abs number }
 {
     magnitude.saturating_add(number.unsigned_abs())
 }
@@ -37,6 +38,7 @@ pub(crate) fn grown(magnitude: u64, number: i64) -> u64
 fn more(running: Running, number: i64) -> Running
     ensures sums { (numbers : List ℤ) → IsRunning running numbers → IsRunning result (numbers ++ number ∷ []) }
     ensures grows { result.magnitude < 2 ^ 63 → running.magnitude < 2 ^ 63 }
+    ensures magnitude { result.magnitude ≡ min (running.magnitude + unsigned_abs number) (2 ^ 64 - 1) }
 {
     Running {
         sum: add(running.sum, number),
@@ -50,6 +52,10 @@ impl Kept<Sum> for Running {
     ghost knows = { IsRunning };
 
     ghost tells = { λ s. s.magnitude < 2 ^ 63 };
+
+    ghost begins = { λ number others. unsigned_abs number + magnitudes others < 2 ^ 63 };
+
+    ghost keeps = { λ s others. s.magnitude + magnitudes others < 2 ^ 63 };
 
     #[inline(always)]
     fn first(number: i64) -> Running {

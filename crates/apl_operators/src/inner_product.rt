@@ -11,6 +11,7 @@ ghost use Rattle.apl_folds.specs.Folds.{folded};
 ghost use Rattle.apl_operators.specs.Products.{axes_joined, other_axes, inner_shape, inner_folds, inner_product};
 ghost use Rattle.apl_operators.specs.Joints.{met, met_cells, folds_met, fold_after, so_far, step_of, Joins};
 
+use crate::attempt::{Attempt, Sure};
 use crate::joint::{Joint, joined, without_first, without_last};
 use crate::line::{Stepped, meet};
 use crate::small::SmallProduct;
@@ -30,7 +31,7 @@ fn step_of(len: usize, step: usize) -> usize
 }
 
 /// Writes the values along the row and the column that meet at a place of the result.
-fn meet_at<F: Scalar>(
+fn meet_at<F: Attempt>(
     xs: &[i64],
     ys: &[i64],
     joint: &Joint,
@@ -77,7 +78,7 @@ fn push_fold(
 }
 
 /// The folds of what meets at each place, by a row for what meets. A fault of what meets comes before those of the folds.
-fn fold_each<F: Scalar>(
+fn fold_each<F: Attempt>(
     alloc: Global,
     function: Dyadic,
     xs: &[i64],
@@ -104,7 +105,7 @@ fn fold_each<F: Scalar>(
 }
 
 /// The folds of what meets at each place.
-fn fold_met<F: Scalar>(
+fn fold_met<F: Attempt>(
     alloc: Global,
     function: Dyadic,
     xs: &[i64],
@@ -137,7 +138,7 @@ impl<'a> ByFunction for Meeting<'a> {
     ghost gives = { λ s f result. Answers (λ v. v.items) (folds_met s.function (met f s.xs.now s.ys.now s.joint.now) s.joint.now) result };
 
     fn with<F: Scalar>(self) -> Result<Vec<i64>, Stop> {
-        fold_met::<F>(self.alloc, self.function, self.xs, self.ys, self.joint)
+        fold_met::<Sure<F>>(self.alloc, self.function, self.xs, self.ys, self.joint)
     }
 }
 

@@ -1,6 +1,7 @@
 //! Outer and inner products of arrays.
 #![tactic(auto)]
 
+mod attempt;
 mod inner_product;
 mod joint;
 mod line;

@@ -1,10 +1,11 @@
 // A scalar function along a line of numbers.
-ghost use Rattle.std.specs.Prelude.{◌≡◌, ◌<◌, ◌+◌, ◌*◌, ◌≤ℤ◌, ℕ, ℤ, length, slice_index_or, pos, IsTrue, Ok};
+ghost use Rattle.std.specs.Prelude.{◌≡◌, ◌<◌, ◌+◌, ◌*◌, ◌≤ℤ◌, ℕ, ℤ, length, slice_index_or, SomeIndex, pos, IsTrue, IsFalse, Ok};
 ghost use Rattle.std.specs.List.{range_with_len};
 ghost use Rattle.apl_arrays.specs.Results.{all_ok, ok_map};
 
+use crate::attempt::Attempt;
 use apl_faults::Fault;
-use apl_scalar::{Scalar, either};
+use apl_scalar::either;
 
 /// Numbers by the places of a line.
 pub(crate) trait Line {
@@ -78,16 +79,17 @@ impl<'a> Line for Stepped<'a> {
     }
 }
 
-/// Writes a number at each place, and says whether all are values, by one test of the flags of all.
+/// Writes a number at each place, and says whether all are values that were found, by one test of the flags of all.
 #[inline(always)]
-fn fill<F: Scalar, X: Line, Y: Line>(x: &X, y: &Y, out: &mut [i64]) -> bool
+fn fill<F: Attempt, X: Line, Y: Line>(x: &X, y: &Y, out: &mut [i64]) -> bool
     requires x { (k : ℕ) → k < length out.old → X.has x.now k }
     requires y { (k : ℕ) → k < length out.old → Y.has y.now k }
-    ensures { IsTrue result → (k : ℕ) → k < length out.new → F.meaning (X.number x.now k) (Y.number y.now k) ≡ Ok (slice_index_or out.new k (pos 0)) }
+    ensures values { IsTrue result → (k : ℕ) → k < length out.new → F.meaning (X.number x.now k) (Y.number y.now k) ≡ Ok (slice_index_or out.new k (pos 0)) }
+    ensures missed { IsFalse result → SomeIndex out.new (λ k. F.finds (X.number x.now k) (Y.number y.now k) → ⊥) }
 {
     let mut flags = 0i64;
     for i in 0..out.len() {
-        let (value, flag) = F::tried(x.at(i), y.at(i));
+        let (value, flag) = F::attempt(x.at(i), y.at(i));
         out[i] = value;
         flags = either(flags, flag);
     }
@@ -95,7 +97,7 @@ fn fill<F: Scalar, X: Line, Y: Line>(x: &X, y: &Y, out: &mut [i64]) -> bool
 }
 
 /// Writes the value at each place, each tested before the next.
-fn test<F: Scalar, X: Line, Y: Line>(x: &X, y: &Y, out: &mut [i64]) -> Result<(), Fault>
+fn test<F: Attempt, X: Line, Y: Line>(x: &X, y: &Y, out: &mut [i64]) -> Result<(), Fault>
     requires x { (k : ℕ) → k < length out.old → X.has x.now k }
     requires y { (k : ℕ) → k < length out.old → Y.has y.now k }
     ensures { all_ok (λ k. F.meaning (X.number x.now k) (Y.number y.now k)) (range_with_len 0 (length out.old)) ≡ ok_map (λ u. out.new) result }
@@ -111,7 +113,7 @@ fn test<F: Scalar, X: Line, Y: Line>(x: &X, y: &Y, out: &mut [i64]) -> Result<()
 
 /// Writes the value at each place. Only where a flag is raised is there a test at each, and then the first fault decides.
 #[inline(always)]
-pub(crate) fn meet<F: Scalar, X: Line, Y: Line>(x: &X, y: &Y, out: &mut [i64]) -> Result<(), Fault>
+pub(crate) fn meet<F: Attempt, X: Line, Y: Line>(x: &X, y: &Y, out: &mut [i64]) -> Result<(), Fault>
     requires x { (k : ℕ) → k < length out.old → X.has x.now k }
     requires y { (k : ℕ) → k < length out.old → Y.has y.now k }
     ensures { all_ok (λ k. F.meaning (X.number x.now k) (Y.number y.now k)) (range_with_len 0 (length out.old)) ≡ ok_map (λ u. out.new) result }

@@ -10,6 +10,7 @@ ghost use Rattle.apl_scalar.specs.Functions.{dyadic_of};
 ghost use Rattle.apl_operators.specs.Products.{paired, outer_shape, outer_product};
 ghost use Rattle.apl_operators.specs.Places.{row_of, crossing, crossing_cells};
 
+use crate::attempt::{Attempt, Sure};
 use crate::line::{Each, Same, meet};
 use crate::small::SmallProduct;
 use crate::small_products::small_products;
@@ -24,7 +25,7 @@ use std::alloc::Global;
 const BLOCK: usize = 512;
 
 /// Appends the values of one number with each of a block of numbers.
-fn push_block<F: Scalar>(
+fn push_block<F: Attempt>(
     out: &mut Vec<i64>,
     x: &Same,
     ys: &[i64],
@@ -40,7 +41,7 @@ fn push_block<F: Scalar>(
 }
 
 /// Appends the values of one number with each of others, block by block.
-fn push_row<F: Scalar>(
+fn push_row<F: Attempt>(
     out: &mut Vec<i64>,
     x: &Same,
     ys: &[i64],
@@ -58,7 +59,7 @@ fn push_row<F: Scalar>(
 }
 
 /// The values of each number with each of others.
-fn cross<F: Scalar>(alloc: Global, xs: &[i64], ys: &[i64]) -> Result<Vec<i64>, Stop>
+fn cross<F: Attempt>(alloc: Global, xs: &[i64], ys: &[i64]) -> Result<Vec<i64>, Stop>
     requires { length xs.now * length ys.now < 2 ^ 63 }
     ensures { Answers (λ v. v.items) (crossing F.meaning xs.now ys.now) result }
 {
@@ -86,7 +87,7 @@ impl<'a> ByFunction for Crossing<'a> {
     ghost gives = { λ s f result. Answers (λ v. v.items) (crossing f s.xs.now s.ys.now) result };
 
     fn with<F: Scalar>(self) -> Result<Vec<i64>, Stop> {
-        cross::<F>(self.alloc, self.xs, self.ys)
+        cross::<Sure<F>>(self.alloc, self.xs, self.ys)
     }
 }
 

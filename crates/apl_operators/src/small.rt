@@ -1,9 +1,10 @@
 // The product, with a quick test of small numbers.
-ghost use Rattle.std.specs.Prelude.{◌≡◌, ◌^◌, ◌<◌, ◌≤◌, ◌≤ℤ◌, ◌*ℤ◌, FitsSigned, pos, unsigned_abs};
-ghost use Rattle.std.specs.Int.{w64};
+ghost use Rattle.std.specs.Prelude.{◌≡◌, ◌↔◌, ◌^◌, ◌<◌, ◌≤ℤ◌, ◌*ℤ◌, FitsSigned, pos};
+ghost use Rattle.std.specs.Int.{w32, w64};
 ghost use Rattle.apl_scalar.specs.declared.function.Dyadic.TheVariants as two;
 ghost use Rattle.apl_scalar.specs.Functions.{dyadic_of};
 
+use crate::attempt::Attempt;
 use apl_faults::Fault;
 use apl_scalar::{Product, Scalar, wider};
 
@@ -15,27 +16,29 @@ pub(crate) fn times(x: i64, y: i64) -> i64
     x.wrapping_mul(y)
 }
 
-/// A number that is below 2^32 only where the argument's magnitude is at most 2^31.
+/// A number that is below 2^32 exactly where the argument has 32 bits.
 #[inline(always)]
 fn spread(number: i64) -> u64
-    ensures { result < 2 ^ 32 → unsigned_abs number ≤ 2 ^ 31 }
+    ensures { result < 2 ^ 32 ↔ FitsSigned w32 number }
 {
     number.wrapping_add(0x8000_0000).cast_unsigned()
 }
 
-/// A flag that is negative where a number is not below 2^32.
+/// A flag that is negative exactly where a number is not below 2^32.
 #[inline(always)]
 fn flag(number: u64) -> i64
-    ensures { pos 0 ≤ℤ result → number < 2 ^ 32 }
+    ensures { pos 0 ≤ℤ result ↔ number < 2 ^ 32 }
 {
     -((number / 0x1_0000_0000) as i64)
 }
 
-/// The product. The flag is raised unless both numbers are small, which takes no product of twice as many bits.
+/// The product, whose value is found first where both numbers have 32 bits, which takes no product of twice as many.
 pub(crate) struct SmallProduct;
 
-impl Scalar for SmallProduct {
+impl Attempt for SmallProduct {
     ghost meaning = { dyadic_of two.Times };
+
+    ghost finds = { λ x y. FitsSigned w32 x × FitsSigned w32 y };
 
     #[inline(always)]
     fn apply(x: i64, y: i64) -> Result<i64, Fault> {
@@ -43,7 +46,7 @@ impl Scalar for SmallProduct {
     }
 
     #[inline(always)]
-    fn tried(x: i64, y: i64) -> (i64, i64) {
+    fn attempt(x: i64, y: i64) -> (i64, i64) {
         (times(x, y), flag(wider(spread(x), spread(y))))
     }
 }

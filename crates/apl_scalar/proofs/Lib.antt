@@ -4,6 +4,7 @@ pub mod Extension
 pub mod Whole
 pub mod Rests
 pub mod Growth
+pub mod Flags
 pub mod Truths
 pub mod Scalars
 pub mod LowHalves

@@ -1,5 +1,5 @@
 -- The sign bits of a sum.
-use Rattle.std.proofs.Common.{Bool, ◌<ℤ◌, ◌≡◌, ℕ, ℤ, pos, negsuc, ◌+ℤ◌, ◌-ℤ◌, ◌+◌, ◌-◌, ◌*◌, ◌%◌, ◌^◌, ◌<◌, ◌≤◌, ◌≤ℤ◌, min, max, arith, refl, ap, sym, ◌∙◌, true, false, to_z, of_z, FitsSigned}
+use Rattle.std.proofs.Common.{◌⊎◌, inl, inr, Bool, ◌<ℤ◌, ◌≡◌, ℕ, ℤ, pos, negsuc, ◌+ℤ◌, ◌-ℤ◌, ◌+◌, ◌-◌, ◌*◌, ◌%◌, ◌^◌, ◌<◌, ◌≤◌, ◌≤ℤ◌, min, max, arith, refl, ap, sym, ◌∙◌, true, false, to_z, of_z, FitsSigned}
 use Rattle.std.specs.Prelude.{bit_and, bit_xor, bit_or}
 use Rattle.std.specs.Int.{bit_at, w64, int_wrap}
 use Rattle.std.specs.Int.Signed.{lt_z}
@@ -136,6 +136,15 @@ neither x y hx hy h =
     let l : bit_or (of_z w64 x) (of_z w64 y) < 2 ^ 63 = grind (arith, ints) in
     let n : (of_z w64 x < 2 ^ 63) × (of_z w64 y < 2 ^ 63) = nat_or (of_z w64 x) (of_z w64 y) (bits_lt x hx) (bits_lt y hy) l in
     (grind (arith, ints), grind (arith, ints))
+
+pub one_negative : (x y : ℤ) → FitsSigned w64 x → FitsSigned w64 y → to_z w64 (bit_or (of_z w64 x) (of_z w64 y)) <ℤ pos 0 → (x <ℤ pos 0) ⊎ (y <ℤ pos 0)
+one_negative (negsuc m) y hx hy h = inl (omega (arith, ints))
+one_negative (pos m) (negsuc n) hx hy h = inr (omega (arith, ints))
+one_negative (pos m) (pos n) hx hy h =
+    let a : of_z w64 (pos m) < 2 ^ 63 = omega (arith, ints) in
+    let b : of_z w64 (pos n) < 2 ^ 63 = omega (arith, ints) in
+    let o : bit_or (of_z w64 (pos m)) (of_z w64 (pos n)) < 2 ^ 63 = or_lt 63 (of_z w64 (pos m)) (of_z w64 (pos n)) a b in
+    absurd (grind (arith, ints))
 
 not_negative : (n : ℕ) → n < 2 ^ 64 → pos 0 ≤ℤ to_z w64 n → n < 2 ^ 63
 not_negative n h g = grind (arith, ints)

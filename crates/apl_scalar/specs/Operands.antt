@@ -1,5 +1,5 @@
 -- The elements of an operand by the places of the result.
-use Rattle.std.specs.Prelude.{◌≡◌, ◌≢◌, ◌≤◌, ◌<◌, ℕ, ℤ, pos, Bool, cond, nat_eq, List, [], ◌∷◌, length, slice_index_or, replicate, Result, Ok}
+use Rattle.std.specs.Prelude.{◌≡◌, ◌≢◌, ◌≤◌, ◌<◌, ℕ, ℤ, pos, Bool, cond, nat_eq, List, [], ◌∷◌, length, slice_index_or, replicate, SomeIndex, Result, Ok, IsErr}
 use Rattle.std.specs.List.{range_with_len}
 use Rattle.apl_faults.specs.declared.fault.Fault.{Fault}
 use Rattle.apl_arrays.specs.Cells.{Items, Numbers, Characters}
@@ -22,6 +22,10 @@ values_from f a b from count = all_ok (λ k. f (number_at a k) (number_at b k)) 
 abbrev pub AreValues : (ℤ → ℤ → Result ℤ Fault) → List ℤ → List ℤ → List ℤ → Type 0
 AreValues f xs ys zs =
     (k : ℕ) → k < length zs → f (slice_index_or xs k (pos 0)) (slice_index_or ys k (pos 0)) ≡ Ok (slice_index_or zs k (pos 0))
+
+-- there is a place at which the numbers have no value
+abbrev pub SomeHasNone : (ℤ → ℤ → Result ℤ Fault) → List ℤ → List ℤ → Type 0
+SomeHasNone f xs ys = SomeIndex xs (λ k. IsErr (f (slice_index_or xs k (pos 0)) (slice_index_or ys k (pos 0))))
 
 -- each number is this one
 abbrev pub IsEach : ℤ → List ℤ → Type 0

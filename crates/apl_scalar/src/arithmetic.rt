@@ -133,8 +133,11 @@ impl Scalar for Product {
 
     // A flag costs more than a product of small numbers.
     #[inline(always)]
-    fn quick(a: &[i64], b: &[i64], out: &mut [i64]) -> bool {
-        begins_low(a, b) && fill_low(a, b, out)
+    fn fill(a: &[i64], b: &[i64], out: &mut [i64]) -> bool {
+        if begins_low(a, b) && fill_low(a, b, out) {
+            return true;
+        }
+        Self::fill_tried(a, b, out)
     }
 }
 

@@ -1,12 +1,11 @@
 // A scalar function at each place, block by block.
-ghost use Rattle.std.specs.Prelude.{◌≡◌, ◌≤◌, ◌+◌, ◌-◌, length, IsTrue};
+ghost use Rattle.std.specs.Prelude.{◌≡◌, ◌≤◌, ◌+◌, ◌-◌, length, IsTrue, IsFalse};
 ghost use Rattle.apl_arrays.specs.Answers.{Answers, Appends};
-ghost use Rattle.apl_scalar.specs.Operands.{Covers, values_from, AreValues};
+ghost use Rattle.apl_scalar.specs.Operands.{Covers, values_from, AreValues, SomeHasNone};
 ghost use Rattle.apl_scalar.specs.inside.Pieces.{Serves};
 
 use crate::function::Scalar;
 use crate::operand::{BLOCK, Blocks, Operand};
-use crate::overflow::either;
 use apl_arrays::Stop;
 use std::alloc::Global;
 
@@ -34,56 +33,26 @@ fn push_tested<F: Scalar>(
     Ok(())
 }
 
-/// Writes a number for each place of a block, and says whether all are values, by one test of the flags of all.
-#[inline(always)]
-fn fill<F: Scalar>(a: &[i64], b: &[i64], out: &mut [i64]) -> bool
-    requires a { length a.now ≡ length out.old }
-    requires b { length b.now ≡ length out.old }
-    ensures { IsTrue result → AreValues F.meaning a.now b.now out.new }
-{
-    let mut flags = 0i64;
-    for i in 0..out.len() {
-        let (value, flag) = F::tried(a[i], b[i]);
-        out[i] = value;
-        flags = either(flags, flag);
-    }
-    0 <= flags
-}
-
-/// Writes the values for the places of a block in a quick way, where there is one.
-#[inline(always)]
-fn fill_quickly<F: Scalar>(x: Operand, y: Operand, a: &[i64], b: &[i64], out: &mut [i64]) -> bool
-    requires x { Serves x a.now }
-    requires y { Serves y b.now }
-    requires a { length a.now ≡ length out.old }
-    requires b { length b.now ≡ length out.old }
-    ensures { IsTrue result → AreValues F.meaning a.now b.now out.new }
-{
-    match x {
-        Operand::One(x) => F::quick_by_first(x, a, b, out),
-        Operand::Many(_) => match y {
-            Operand::One(y) => F::quick_by_second(a, y, b, out),
-            Operand::Many(_) => F::quick(a, b, out),
-        },
-    }
-}
-
-/// Writes a number for each place of a block, and says whether all are values.
+/// Writes the values for the places of a block, and says whether there is one at each.
 #[inline(always)]
 fn fill_block<F: Scalar>(x: Operand, y: Operand, a: &[i64], b: &[i64], out: &mut [i64]) -> bool
     requires x { Serves x a.now }
     requires y { Serves y b.now }
     requires a { length a.now ≡ length out.old }
     requires b { length b.now ≡ length out.old }
-    ensures { IsTrue result → AreValues F.meaning a.now b.now out.new }
+    ensures values { IsTrue result → AreValues F.meaning a.now b.now out.new }
+    ensures none { IsFalse result → SomeHasNone F.meaning a.now b.now }
 {
-    if fill_quickly::<F>(x, y, a, b, out) {
-        return true;
+    match x {
+        Operand::One(x) => F::fill_by_first(x, a, b, out),
+        Operand::Many(_) => match y {
+            Operand::One(y) => F::fill_by_second(a, y, b, out),
+            Operand::Many(_) => F::fill(a, b, out),
+        },
     }
-    fill::<F>(a, b, out)
 }
 
-/// Appends the values for the places of a block. Only where a flag is raised is there a test at each.
+/// Appends the values for the places of a block. Only where one has none is there a test at each.
 fn push_block<F: Scalar>(
     out: &mut Vec<i64>,
     a: &Blocks,

@@ -77,9 +77,13 @@ impl Scalar for Quotient {
         exact_quotient(x, y)
     }
 
+    // Where the quotients by one number are exact, its reciprocal makes them without a division.
     #[inline(always)]
-    fn quick_by_second(a: &[i64], y: i64, _b: &[i64], out: &mut [i64]) -> bool {
-        1 < y && fill_quotients(a, y as u64, out)
+    fn fill_by_second(a: &[i64], y: i64, b: &[i64], out: &mut [i64]) -> bool {
+        if 1 < y && fill_quotients(a, y as u64, out) {
+            return true;
+        }
+        Self::fill_tried(a, b, out)
     }
 }
 
@@ -94,19 +98,21 @@ impl Scalar for Residue {
         Ok(residue_by(x, y))
     }
 
+    // A division of 32 bits costs less than one of 64.
     #[inline(always)]
-    fn quick(a: &[i64], b: &[i64], out: &mut [i64]) -> bool {
+    fn fill(a: &[i64], b: &[i64], out: &mut [i64]) -> bool {
         if !(begin_small(a, b) && are_small(a, b)) {
-            return false;
+            return Self::fill_tried(a, b, out);
         }
         fill_small(a, b, out);
         true
     }
 
+    // The reciprocal of one positive divisor serves for all.
     #[inline(always)]
-    fn quick_by_first(x: i64, _a: &[i64], b: &[i64], out: &mut [i64]) -> bool {
+    fn fill_by_first(x: i64, a: &[i64], b: &[i64], out: &mut [i64]) -> bool {
         if x <= 0 {
-            return false;
+            return Self::fill_tried(a, b, out);
         }
         fill_left(x as u64, b, out);
         true

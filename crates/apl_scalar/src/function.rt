@@ -1,8 +1,9 @@
 // The scalar functions.
-ghost use Rattle.std.specs.Prelude.{◌≡◌, ◌≤ℤ◌, ℤ, Result, pos, Ok, length, IsTrue};
+ghost use Rattle.std.specs.Prelude.{◌≡◌, ◌≤ℤ◌, ◌<ℤ◌, ℤ, Result, pos, Ok, IsErr, length, IsTrue, IsFalse};
 ghost use Rattle.apl_faults.specs.declared.fault.Fault.{Fault};
-ghost use Rattle.apl_scalar.specs.Operands.{AreValues, IsEach};
+ghost use Rattle.apl_scalar.specs.Operands.{AreValues, IsEach, SomeHasNone};
 
+use crate::overflow::either;
 use apl_faults::Fault;
 use std::marker::PhantomData;
 
@@ -79,10 +80,11 @@ pub trait Scalar {
     fn apply(x: i64, y: i64) -> Result<i64, Fault>
         ensures { result ≡ meaning x y };
 
-    /// A number and a flag. The number is the value if the flag is not negative.
+    /// A number and a flag, which is negative exactly where the numbers have no value. Else the number is the value.
     #[inline(always)]
     fn tried(x: i64, y: i64) -> (i64, i64)
-        ensures { pos 0 ≤ℤ result.1 → meaning x y ≡ Ok result.0 }
+        ensures value { pos 0 ≤ℤ result.1 → meaning x y ≡ Ok result.0 }
+        ensures none { result.1 <ℤ pos 0 → IsErr (meaning x y) }
     {
         match Self::apply(x, y) {
             Ok(value) => (value, 0),
@@ -90,36 +92,57 @@ pub trait Scalar {
         }
     }
 
-    /// Writes the values for the places of a block in a quick way that numbers often allow, or answers false, and then what it wrote means nothing.
+    /// Writes the values for the places of a block, and says whether there is one at each, by one test of the flags of all. Where there is not,
+    /// what it wrote means nothing.
     #[inline(always)]
-    fn quick(_a: &[i64], _b: &[i64], _out: &mut [i64]) -> bool
-        requires a { length _a.now ≡ length _out.old }
-        requires b { length _b.now ≡ length _out.old }
-        ensures { IsTrue result → AreValues meaning _a.now _b.now _out.new }
+    fn fill_tried(a: &[i64], b: &[i64], out: &mut [i64]) -> bool
+        requires a { length a.now ≡ length out.old }
+        requires b { length b.now ≡ length out.old }
+        ensures values { IsTrue result → AreValues meaning a.now b.now out.new }
+        ensures none { IsFalse result → SomeHasNone meaning a.now b.now }
     {
-        false
+        let mut flags = 0i64;
+        for i in 0..out.len() {
+            let (value, flag) = Self::tried(a[i], b[i]);
+            out[i] = value;
+            flags = either(flags, flag);
+        }
+        0 <= flags
+    }
+
+    /// The same, first in a quicker way that numbers often allow, where there is one.
+    #[inline(always)]
+    fn fill(a: &[i64], b: &[i64], out: &mut [i64]) -> bool
+        requires a { length a.now ≡ length out.old }
+        requires b { length b.now ≡ length out.old }
+        ensures values { IsTrue result → AreValues meaning a.now b.now out.new }
+        ensures none { IsFalse result → SomeHasNone meaning a.now b.now }
+    {
+        Self::fill_tried(a, b, out)
     }
 
     /// The same where each first number is this one.
     #[inline(always)]
-    fn quick_by_first(_x: i64, a: &[i64], b: &[i64], out: &mut [i64]) -> bool
+    fn fill_by_first(_x: i64, a: &[i64], b: &[i64], out: &mut [i64]) -> bool
         requires x { IsEach _x a.now }
         requires a { length a.now ≡ length out.old }
         requires b { length b.now ≡ length out.old }
-        ensures { IsTrue result → AreValues meaning a.now b.now out.new }
+        ensures values { IsTrue result → AreValues meaning a.now b.now out.new }
+        ensures none { IsFalse result → SomeHasNone meaning a.now b.now }
     {
-        Self::quick(a, b, out)
+        Self::fill(a, b, out)
     }
 
     /// The same where each second number is this one.
     #[inline(always)]
-    fn quick_by_second(a: &[i64], _y: i64, b: &[i64], out: &mut [i64]) -> bool
+    fn fill_by_second(a: &[i64], _y: i64, b: &[i64], out: &mut [i64]) -> bool
         requires y { IsEach _y b.now }
         requires a { length a.now ≡ length out.old }
         requires b { length b.now ≡ length out.old }
-        ensures { IsTrue result → AreValues meaning a.now b.now out.new }
+        ensures values { IsTrue result → AreValues meaning a.now b.now out.new }
+        ensures none { IsFalse result → SomeHasNone meaning a.now b.now }
     {
-        Self::quick(a, b, out)
+        Self::fill(a, b, out)
     }
 }
 

@@ -1,5 +1,5 @@
 // Arithmetic that tells where a value leaves 64 bits.
-ghost use Rattle.std.specs.Prelude.{◌≡◌, ◌<◌, ◌≤◌, ◌+ℤ◌, ◌-ℤ◌, ◌*ℤ◌, ℕ, pos, ◌≤ℤ◌, ◌<ℤ◌, bit_or, length, slice_index_or, unsigned_abs};
+ghost use Rattle.std.specs.Prelude.{◌≡◌, ◌⊎◌, ◌<◌, ◌≤◌, ◌+ℤ◌, ◌-ℤ◌, ◌*ℤ◌, ℕ, pos, ◌≤ℤ◌, ◌<ℤ◌, bit_or, length, slice_index_or, unsigned_abs};
 ghost use Rattle.std.specs.List.{fold};
 ghost use Rattle.std.specs.Int.{w64, int_bit_or};
 ghost use Rattle.apl_faults.specs.declared.fault.Fault.TheVariants.{Limit};
@@ -41,6 +41,7 @@ pub(crate) fn flagged_product(x: i64, y: i64) -> (i64, i64)
 pub fn either(x: i64, y: i64) -> i64
     ensures exact { result ≡ int_bit_or w64 x y }
     ensures neither { pos 0 ≤ℤ result → (pos 0 ≤ℤ x) × (pos 0 ≤ℤ y) }
+    ensures one { result <ℤ pos 0 → (x <ℤ pos 0) ⊎ (y <ℤ pos 0) }
 {
     x | y
 }

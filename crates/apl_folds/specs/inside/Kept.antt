@@ -1,10 +1,10 @@
 -- Fronts of lines that are told one after another.
 -- Those told and those to come are the fronts of the line, each the fold of `Lines` anew.
-use Rattle.std.specs.Prelude.{◌≡◌, ℕ, ℤ, pos, ◌+◌, ◌-◌, ◌<◌, ◌≤◌, List, ◌++◌, slice_index_or, IsTrue, Result, Ok}
+use Rattle.std.specs.Prelude.{◌≡◌, ℕ, ℤ, pos, ◌+◌, ◌-◌, ◌<◌, ◌≤◌, List, [], ◌∷◌, ◌++◌, slice_index_or, IsTrue, Result, Ok}
 use Rattle.std.specs.List.{range_with_len}
 use Rattle.apl_faults.specs.declared.fault.Fault.{Fault}
 use Rattle.apl_arrays.specs.declared.axis.Axis.{Axis}
-use Rattle.apl_arrays.specs.Results.{ok_map, all_ok}
+use Rattle.apl_arrays.specs.Results.{and_then, ok_map, all_ok}
 use Rattle.apl_folds.specs.declared.chains.Front.{Front}
 use Rattle.apl_folds.specs.Chains.{IsAssociative}
 use Rattle.apl_folds.specs.Lines.{fold_by, line_fold}
@@ -21,6 +21,11 @@ pub record IsTold (f : ℤ → ℤ → Result ℤ Fault) (raw : List ℤ) (axis 
 -- the folds of one number more than so many of a line, of two more and so on, stand first in a room
 abbrev pub AreTold : (ℤ → ℤ → Result ℤ Fault) → List ℤ → Axis → ℕ → ℕ → List ℤ → ℕ → Type 0
 AreTold f raw axis p from room count = (j : ℕ) → j < count → line_fold f raw axis p (from + j + 1) ≡ Ok (slice_index_or room j (pos 0))
+
+-- the function of a number and the first of others, of its value and the second, and so on
+abbrev pub fold_on : (ℤ → ℤ → Result ℤ Fault) → ℤ → List ℤ → Result ℤ Fault
+fold_on f z [] = Ok z
+fold_on f z (x ∷ xs) = and_then (f z x) (λ y. fold_on f y xs)
 
 -- an associative function has this fold of these numbers, if it is told
 pub record IsFront (f : ℤ → ℤ → Result ℤ Fault) (front : Front) (xs : List ℤ) : Type 0 where

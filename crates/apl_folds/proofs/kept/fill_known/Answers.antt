@@ -21,6 +21,6 @@ loop-j-preserved g c =
       kept = subst Knows next kept;
       folds =
           filled_more (λ i z. line_fold g.F.Scalar.meaning c.args.numbers.now c.args.axis.now c.args.at (c.args.from + i + 1) ≡ Ok z) c.loop-j.room c.loop-j.j c.fold.result (omega (arith, c.loop-j.invariant.size))
-          (c.fold.ensures (c.is_told.ensures c.if-not-is_told.false) (line_of (pos 0) c.args.numbers.now c.args.axis.now c.args.at (k + 1)) (line_some c.args.numbers.now c.args.axis.now c.args.at (k + 1) (omega arith)) kept)
+          (c.fold.ensures (c.is_told.ensures.tells.0 c.if-not-is_told.false) (line_of (pos 0) c.args.numbers.now c.args.axis.now c.args.at (k + 1)) (line_some c.args.numbers.now c.args.axis.now c.args.at (k + 1) (omega arith)) kept)
           c.loop-j.invariant.folds;
     })

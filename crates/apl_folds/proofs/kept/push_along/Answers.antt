@@ -15,7 +15,7 @@ pub loop-k-init : goal.loop-k-init
 loop-k-init g c =
     let fits : SFits w64 c.nth-first.result = search rules in
     record {
-      kept = kept_first (λ l. g.K.Kept.knows c.first-kept.result l) c.args.numbers.now c.args.axis.now c.args.at c.nth-first.result c.nth-first.ensures (simp (to_z-of_z, fits) at c.first-kept.ensures);
+      kept = kept_first (λ l. g.K.Kept.knows c.first-kept.result l) c.args.numbers.now c.args.axis.now c.args.at c.nth-first.result c.nth-first.ensures (simp (to_z-of_z, fits) at c.first-kept.ensures.knows);
       so_far =
           told_step g.F.Scalar.meaning c.args.numbers.now c.args.axis.now c.args.at c.args.count 0 c.args.out.now.items c.push.new.self.items c.nth-first.result (omega arith)
           (ap (λ (z : ℤ). fold_by g.F.Scalar.meaning (z ∷ [])) (sym c.nth-first.ensures))
@@ -33,7 +33,7 @@ loop-k-preserved g c =
       kept = kept;
       so_far =
           told_step g.F.Scalar.meaning c.args.numbers.now c.args.axis.now c.args.at c.args.count c.loop-k.k c.loop-k.out.items c.push-in-loop-k.new.self.items c.fold.result c.loop-k-test.true
-          (c.fold.ensures (c.is_told.ensures c.if-not-is_told.false) (line_of (pos 0) c.args.numbers.now c.args.axis.now c.args.at (c.loop-k.k + 1)) (line_some c.args.numbers.now c.args.axis.now c.args.at (c.loop-k.k + 1) (omega arith)) kept)
+          (c.fold.ensures (c.is_told.ensures.tells.0 c.if-not-is_told.false) (line_of (pos 0) c.args.numbers.now c.args.axis.now c.args.at (c.loop-k.k + 1)) (line_some c.args.numbers.now c.args.axis.now c.args.at (c.loop-k.k + 1) (omega arith)) kept)
           (simp (to_z-of_z, fits_fold) at c.in_ok-push-2.ensures.items)
           ∙ c.loop-k.invariant.so_far;
     }

@@ -12,7 +12,7 @@ loop-told-init g c =
     record {
       some = omega arith;
       few = omega (arith, c.requires.some);
-      kept = kept_first (λ l. g.K.Kept.knows c.first-kept.result l) c.args.numbers.now c.args.axis.now c.args.at c.nth-first.result c.nth-first.ensures (simp (to_z-of_z, fits) at c.first-kept.ensures);
+      kept = kept_first (λ l. g.K.Kept.knows c.first-kept.result l) c.args.numbers.now c.args.axis.now c.args.at c.nth-first.result c.nth-first.ensures (simp (to_z-of_z, fits) at c.first-kept.ensures.knows);
       so_far =
           told_step g.F.Scalar.meaning c.args.numbers.now c.args.axis.now c.args.at c.args.count 0 c.args.out.now.items c.push.new.self.items c.nth-first.result c.requires.some
           (ap (λ (z : ℤ). fold_by g.F.Scalar.meaning (z ∷ [])) (sym c.nth-first.ensures))

@@ -10,5 +10,5 @@ returns-clause-sums c =
     let fits : SFits w64 c.add.result = search rules in
     let e =
     running_more numbers c.args.number c.args.running.sum c.add.result c.args.running.magnitude c.grown.result before
-    (simp (to_z-of_z, c.ranges.number) at c.add.ensures) (simp (to_z-of_z, c.ranges.number) at c.grown.ensures) small in
+    (simp (to_z-of_z, c.ranges.number) at c.add.ensures) (simp (to_z-of_z, c.ranges.number) at c.grown.ensures.small) small in
     (to_z-of_z w64 c.add.result fits ∙ e.0, e.1)

@@ -10,5 +10,5 @@ meet-requires-clause-y g c = λ k h. rw c.step_of-2.ensures (right_within c.args
 
 pub returns : goal.returns
 returns g c =
-    met_by_steps g.F.Scalar.meaning c.args.xs.now c.args.ys.now c.args.joint.now c.args.place (length c.args.row.now) c.step_of.result c.step_of-2.result c.requires.row c.step_of.ensures c.step_of-2.ensures
+    met_by_steps g.F.Attempt.meaning c.args.xs.now c.args.ys.now c.args.joint.now c.args.place (length c.args.row.now) c.step_of.result c.step_of-2.result c.requires.row c.step_of.ensures c.step_of-2.ensures
     ∙ c.meet.ensures

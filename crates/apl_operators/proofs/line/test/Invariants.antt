@@ -3,4 +3,4 @@ use Rattle.apl_operators.proofs.line.test.Given as goal
 
 -- each number so far is the value
 abbrev pub invariant-loop-i : goal.invariant-loop-i
-invariant-loop-i g l = (k : ℕ) → k < l.i → g.F.Scalar.meaning (g.X.Line.number l.x k) (g.Y.Line.number l.y k) ≡ Ok (get_or l.out k (pos 0))
+invariant-loop-i g l = (k : ℕ) → k < l.i → g.F.Attempt.meaning (g.X.Line.number l.x k) (g.Y.Line.number l.y k) ≡ Ok (get_or l.out k (pos 0))

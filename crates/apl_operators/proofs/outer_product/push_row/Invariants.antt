@@ -8,7 +8,7 @@ use Rattle.apl_operators.proofs.outer_product.push_row.Given as goal
 -- the values so far and those to come are all the values
 abbrev pub invariant-loop-from : goal.invariant-loop-from
 invariant-loop-from g l =
-    let at : ℕ → Result ℤ Fault = λ k. g.F.Scalar.meaning l.x.0 (get_or l.ys k (pos 0)) in
+    let at : ℕ → Result ℤ Fault = λ k. g.F.Attempt.meaning l.x.0 (get_or l.ys k (pos 0)) in
     record {
       within : l.from ≤ length l.ys;
       so_far : after l.out.items (all_ok at (range_with_len l.from (length l.ys - l.from))) ≡ after l.initial.out.items (all_ok at (range_with_len 0 (length l.ys)));

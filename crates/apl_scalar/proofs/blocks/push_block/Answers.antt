@@ -10,5 +10,5 @@ returns-then-fill_block g c =
     (λ j h.
     ap (λ (x : ℤ). g.F.Scalar.meaning x (number_at c.args.b.now.operand (c.args.from + j))) (sym (c.piece-x.ensures.numbers j (omega arith)))
     ∙ ap (λ (y : ℤ). g.F.Scalar.meaning (get_or c.piece-x.result.now j (pos 0)) y) (sym (c.piece-y.ensures.numbers j (omega arith)))
-    ∙ c.if-fill_block.ensures refl j h)
+    ∙ c.if-fill_block.ensures.values refl j h)
     ∙ ap (λ l. Ok l) (sym c.in_ok-extend_from_slice.ensures.items)

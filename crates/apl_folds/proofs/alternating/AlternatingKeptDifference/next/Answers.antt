@@ -14,6 +14,6 @@ returns-clause-knows c =
           λ small.
           let e =
           alternating_more numbers c.args.number c.args.self.sum c.with.result c.args.self.less c.args.self.magnitude c.grown.result before.less before.exact
-          (simp (to_z-of_z, c.ranges.number) at c.with.ensures) (simp (to_z-of_z, c.ranges.number) at c.grown.ensures) small in
+          (simp (to_z-of_z, c.ranges.number) at c.with.ensures) (simp (to_z-of_z, c.ranges.number) at c.grown.ensures.small) small in
           (to_z-of_z w64 c.with.result fits ∙ e.0, e.1);
     }
