@@ -1,4 +1,4 @@
-use Rattle.std.proofs.Common.{rules, ◌≡◌, ◌↔◌, ◌≤ℤ◌, ◌<◌, ◌^◌, ◌*ℤ◌, ℤ, pos, FitsSigned, Ok, ap, sym, ◌∙◌, w64}
+use Rattle.std.proofs.Common.{rules, ◌≡◌, ◌↔◌, ◌<◌, ◌^◌, ◌*ℤ◌, ℤ, FitsSigned, Ok, ap, sym, ◌∙◌, w64}
 use Rattle.std.specs.Int.{w32}
 use Rattle.std.proofs.lemmas.Int.{to_z-of_z}
 use mir.Val.{SFits}

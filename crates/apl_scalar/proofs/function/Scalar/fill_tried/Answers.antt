@@ -1,4 +1,4 @@
-use Rattle.std.proofs.Common.{◌<ℤ◌, ◌⊎◌, ℤ, pos, get_or, rules, w64}
+use Rattle.std.proofs.Common.{◌<ℤ◌, ◌⊎◌, pos, get_or, rules, w64}
 use Rattle.std.specs.Prelude.{IsErr}
 use Rattle.std.proofs.lemmas.Int.{to_z-of_z}
 use mir.Val.{SFits}
