@@ -14,7 +14,6 @@ use apl_faults::Fault;
 use arrayvec::ArrayVec;
 use std::alloc::{AllocError, AllocFailed, Global};
 use std::marker::Model;
-use std::mem;
 use std::rc::Rc;
 
 /// How an array is kept: a scalar by itself, any other array by itself or shared with its copies.
@@ -292,24 +291,6 @@ impl Array {
             Err(refused) => Err(AllocFailed {
                 value: Array::kept(Kept::Own(refused.value)),
             }),
-        }
-    }
-
-    /// An array with which it shares its elements from then on, as with its other copies. It is the same array, after an error too.
-    pub fn share(&mut self, alloc: Global) -> Result<SharedArray, AllocError>
-        ensures value { IfOk result (λ array. array ≡ self.old) }
-        ensures same { self.new ≡ self.old }
-    {
-        match mem::replace(self, Array::number(0)).into_shared(alloc) {
-            Ok(array) => {
-                let copy = array.copy();
-                *self = array.into_array();
-                copy
-            }
-            Err(refused) => {
-                *self = refused.value;
-                Err(AllocError)
-            }
         }
     }
 

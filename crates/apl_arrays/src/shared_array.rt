@@ -7,8 +7,9 @@ use crate::elements::Elements;
 use crate::lent::{Lent, Place};
 use crate::shape::MAX_ELEMENTS;
 use apl_charset::Ch;
-use std::alloc::AllocError;
+use std::alloc::{AllocError, Global};
 use std::marker::Model;
+use std::mem;
 use std::rc::Rc;
 
 /// How an array is kept that shares its elements: a scalar by itself, any other where its copies find it too.
@@ -50,6 +51,27 @@ impl SharedArray {
         ensures { result ≡ record { shape = []; items = Numbers (number ∷ []) } }
     {
         SharedArray::kept(Sharing::Num(number))
+    }
+
+    /// An array with which this one shares its elements from then on, as with its other copies. This one is the same, after an error too.
+    pub fn of(array: &mut Array, alloc: Global) -> Result<SharedArray, AllocError>
+        ensures value { IfOk result (λ shared. shared ≡ array.old) }
+        ensures same { array.new ≡ array.old }
+    {
+        if let Some(number) = array.as_number() {
+            return Ok(SharedArray::number(number));
+        }
+        match mem::replace(array, Array::number(0)).into_shared(alloc) {
+            Ok(shared) => {
+                let copy = shared.copy();
+                *array = shared.into_array();
+                copy
+            }
+            Err(refused) => {
+                *array = refused.value;
+                Err(AllocError)
+            }
+        }
     }
 
     /// What is kept so.

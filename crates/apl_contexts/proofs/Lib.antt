@@ -1,3 +1,4 @@
+pub mod Begun
 pub mod Bindable
 pub mod Deciding
 pub mod LineNumbers

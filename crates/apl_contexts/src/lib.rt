@@ -2,6 +2,7 @@
 //! place, and how their lines begin.
 #![tactic(auto)]
 
+mod beginning;
 mod bound;
 mod context;
 mod contexts;
@@ -11,9 +12,8 @@ mod moves;
 mod stack;
 mod typed;
 
-pub use bound::Bound;
 pub use context::{Call, Context, Statement};
-pub use contexts::Contexts;
-pub use lines::Lines;
+pub use contexts::{Contexts, share_top};
+pub use lines::{Lines, TextLine};
 pub use moves::Move;
 pub use stack::Stack;

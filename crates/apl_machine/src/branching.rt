@@ -29,10 +29,9 @@ impl Workspace {
             return Ok(());
         };
         if let Some(tokens) = call.definition().tokens(at) {
-            let bound = self
+            let translated = self
                 .lines
                 .line(&self.names, &mut self.cache, call.function(), at, tokens)?;
-            let translated = bound.line().clone()?;
             let line = self.lines.begin(translated)?;
             put_away(&mut self.lines, self.contexts.leave());
             self.contexts.put_line(at, line);

@@ -31,10 +31,9 @@ impl Workspace {
         let Some(tokens) = function.definition().tokens(1) else {
             unreachable!()
         };
-        let bound = self
+        let translated = self
             .lines
             .line(&self.names, &mut self.cache, &function, 1, tokens)?;
-        let translated = bound.line().clone()?;
         let line = self.lines.begin(translated)?;
         let call = Call::new(function, 1, line);
         self.contexts.enter(Context::Call(call), left)?;

@@ -20,15 +20,14 @@ use crate::stepping::{abandon, make, progress_of};
 use crate::workspace::Workspace;
 use apl_arrays::{Origin, SharedArray};
 use apl_charset::{Ch, Text};
-use apl_contexts::{Context, Contexts, Lines, Statement};
+use apl_contexts::{Context, Contexts, Lines, Statement, TextLine};
 use apl_defn::Definition;
 use apl_faults::Fault;
 use apl_frames::Frame;
 use apl_machine_state::{Level, OutLine, Progress};
 use apl_names::Names;
-use apl_phrases::{colon_of, said};
+use apl_phrases::said;
 use apl_symbols::{Class, Name};
-use apl_tokens::tokens;
 use apl_translate::{Cache, Translated};
 use apl_vectors::Vectors;
 use std::alloc::{AllocError, Global};
@@ -98,24 +97,13 @@ fn begin(workspace: &mut Workspace, text: &[Ch]) -> Result<(), AllocError>
     ensures ok { OnOk result (state_of workspace.new ≡ begun (state_of workspace.old) text.now) }
     ensures err { OnErr result (workspace.new ≡ workspace.old) }
 {
-    if let Some(line) = workspace.lines.typed(&workspace.names, text) {
-        let line = line.clone()?;
-        return start(workspace, text, line);
-    }
-    let mut lines = match tokens(workspace.alloc, text) {
-        Ok(tokens) => match colon_of(tokens.as_slice()) {
-            None => {
-                let line = workspace.lines.bind_typed(
-                    &workspace.names,
-                    &mut workspace.cache,
-                    text,
-                    tokens.as_slice(),
-                )?;
-                return start(workspace, text, line);
-            }
-            Some(column) => typed_fault(workspace.alloc, Fault::Syntax, text, column)?,
-        },
-        Err(error) => token_fault(workspace.alloc, error, text)?,
+    let read = workspace
+        .lines
+        .text(&workspace.names, &mut workspace.cache, text)?;
+    let mut lines = match read {
+        TextLine::Bare(line) => return start(workspace, text, line),
+        TextLine::Labelled(column) => typed_fault(workspace.alloc, Fault::Syntax, text, column)?,
+        TextLine::Faulty(error) => token_fault(workspace.alloc, error, text)?,
     };
     workspace.output.append(&mut lines)?;
     Ok(())

@@ -5,9 +5,11 @@
 mod level;
 mod operand;
 mod output;
+mod texts;
 mod watch;
 
 pub use level::Level;
 pub use operand::{Operand, Slots};
 pub use output::{OutLine, Progress};
+pub use texts::colon_of;
 pub use watch::Watch;

@@ -14,10 +14,11 @@ use apl_arrays::{Array, Elements};
 use apl_charset::{Ch, Text};
 use apl_code::{Action, Function, Row, Source};
 use apl_faults::Fault;
+use apl_machine_state::colon_of;
 use apl_operands::{Operands, arguments};
 use apl_primitives::Arguments;
-use apl_symbols::{Primitive, Symbol};
-use apl_tokens::{Kind, Token, TokenError, tokens};
+use apl_symbols::Primitive;
+use apl_tokens::{Token, TokenError, tokens};
 use std::alloc::{AllocError, Global};
 
 /// The text that an array is; one without elements is the empty text.
@@ -27,22 +28,6 @@ fn text_in(array: &Array) -> Option<&[Ch]>
     match array.items() {
         Elements::Chars(text) => Some(text),
         Elements::Nums(numbers) => { if numbers.is_empty() { Some(&[]) } else { None } }
-    }
-}
-
-/// The column of the colon of a label, where these tokens begin with one.
-pub fn colon_of(tokens: &[Token]) -> Option<usize>
-    ensures { result ≡ colon_of tokens.now }
-{
-    match tokens {
-        [first, second, ..] => match first.kind {
-            Kind::Name(_) => match second.kind {
-                Kind::Symbol(Symbol::Colon) => Some(second.at),
-                _ => None,
-            },
-            _ => None,
-        },
-        _ => None,
     }
 }
 

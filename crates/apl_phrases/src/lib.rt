@@ -15,7 +15,7 @@ mod watch;
 
 pub use assign::origin_scalar;
 pub use effect::{Deed, Effect};
-pub use execute::{colon_of, executed};
+pub use execute::executed;
 pub use frequent::{
     FunctionCalled, NumberAssigned, assigned, assigned_indexed, called, given, number_assigned,
     number_given, numbers_kept,
