@@ -1,4 +1,5 @@
 pub mod Begun
+pub mod Numbers
 pub mod Bindable
 pub mod Deciding
 pub mod LineNumbers

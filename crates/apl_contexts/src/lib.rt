@@ -14,6 +14,6 @@ mod typed;
 
 pub use context::{Call, Context, Statement};
 pub use contexts::{Contexts, share_top};
-pub use lines::{Lines, TextLine};
+pub use lines::{Lines, TextLine, bound_text_line, function_line, text_line};
 pub use moves::Move;
 pub use stack::Stack;

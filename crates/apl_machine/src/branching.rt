@@ -6,6 +6,7 @@ ghost use Rattle.apl_machine.specs.Spaces.{IsSound, IsStatement, branched_in, es
 
 use crate::returns::returning;
 use crate::workspace::{Workspace, put_away};
+use apl_contexts::function_line;
 use apl_machine_state::OutLine;
 use std::alloc::AllocError;
 
@@ -29,9 +30,14 @@ impl Workspace {
             return Ok(());
         };
         if let Some(tokens) = call.definition().tokens(at) {
-            let translated = self
-                .lines
-                .line(&self.names, &mut self.cache, call.function(), at, tokens)?;
+            let translated = function_line(
+                &mut self.lines,
+                &self.names,
+                &mut self.cache,
+                call.function(),
+                at,
+                tokens,
+            )?;
             let line = self.lines.begin(translated)?;
             put_away(&mut self.lines, self.contexts.leave());
             self.contexts.put_line(at, line);

@@ -14,7 +14,7 @@ use crate::reports::context_fault;
 use crate::traces::stop_report;
 use crate::workspace::Workspace;
 use apl_arrays::Array;
-use apl_contexts::{Call, Context, Move};
+use apl_contexts::{Call, Context, Move, function_line};
 use apl_faults::Fault;
 use apl_names::DefinedFunction;
 use apl_phrases::Scene;
@@ -31,9 +31,14 @@ impl Workspace {
         let Some(tokens) = function.definition().tokens(1) else {
             unreachable!()
         };
-        let translated = self
-            .lines
-            .line(&self.names, &mut self.cache, &function, 1, tokens)?;
+        let translated = function_line(
+            &mut self.lines,
+            &self.names,
+            &mut self.cache,
+            &function,
+            1,
+            tokens,
+        )?;
         let line = self.lines.begin(translated)?;
         let call = Call::new(function, 1, line);
         self.contexts.enter(Context::Call(call), left)?;

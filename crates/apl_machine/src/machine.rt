@@ -20,7 +20,7 @@ use crate::stepping::{abandon, make, progress_of};
 use crate::workspace::Workspace;
 use apl_arrays::{Origin, SharedArray};
 use apl_charset::{Ch, Text};
-use apl_contexts::{Context, Contexts, Lines, Statement, TextLine};
+use apl_contexts::{Context, Contexts, Lines, Statement, TextLine, text_line};
 use apl_defn::Definition;
 use apl_faults::Fault;
 use apl_frames::Frame;
@@ -97,9 +97,12 @@ fn begin(workspace: &mut Workspace, text: &[Ch]) -> Result<(), AllocError>
     ensures ok { OnOk result (state_of workspace.new ≡ begun (state_of workspace.old) text.now) }
     ensures err { OnErr result (workspace.new ≡ workspace.old) }
 {
-    let read = workspace
-        .lines
-        .text(&workspace.names, &mut workspace.cache, text)?;
+    let read = text_line(
+        &mut workspace.lines,
+        &workspace.names,
+        &mut workspace.cache,
+        text,
+    )?;
     let mut lines = match read {
         TextLine::Bare(line) => return start(workspace, text, line),
         TextLine::Labelled(column) => typed_fault(workspace.alloc, Fault::Syntax, text, column)?,
