@@ -1,11 +1,12 @@
 //! `⍎`, a text that is executed.
-ghost use Rattle.std.specs.Prelude.{◌≡◌, ◌≢◌, IfErr, IfOk, IfSome, None, Ok, Some, option_copied, true};
+ghost use Rattle.std.specs.Prelude.{◌≡◌, ◌≢◌, ◌<◌, ℕ, List, IfErr, IfNone, IfOk, IfSome, None, Ok, Some, option_copied, true};
 ghost use Rattle.apl_machine_state.specs.Outcomes.{execute, executed_as, executed_by, text_in};
 ghost use Rattle.apl_machine_state.specs.Watching.{is_list};
 ghost use Rattle.apl_machine_state.specs.Texts.{colon_of, fault_of};
 ghost use Rattle.apl_tokens.specs.Tokens.{tokens_of};
 ghost use Rattle.apl_operands.specs.Operands.{Offers, fetched_from};
 ghost use Rattle.apl_phrases.specs.Effects.{Does, ExecutesAs, acted};
+ghost use Rattle.apl_phrases.specs.Frequent.{IsExecution};
 
 use crate::effect::Effect;
 use crate::scene::{MAX_CALLS, Scene};
@@ -56,7 +57,10 @@ pub fn executed<'a>(
     operands: Operands<'a>,
 ) -> Option<&'a [Ch]>
     requires { Offers operands sources.now }
-    ensures { IfSome result (λ text. ExecutesAs scene.entry (λ s. acted s action.now (fetched_from operands.entry sources.now)) text.now) }
+    ensures is { IfSome result (λ text. ExecutesAs scene.entry (λ s. acted s action.now (fetched_from operands.entry sources.now)) text.now) }
+    ensures text { IfSome result (λ text. IsExecution action.now (fetched_from operands.entry sources.now) text.now) }
+    ensures room { IfSome result (λ text. scene.entry.standing < 256) }
+    ensures none { IfNone result ((text : List ℕ) → scene.entry.standing < 256 → ¬ IsExecution action.now (fetched_from operands.entry sources.now) text) }
 {
     let Action::Phrase(Row::Monadic(Function::Primitive(Primitive::Execute))) = action else {
         return None;

@@ -2,6 +2,7 @@
 #![tactic(auto)]
 
 mod assign;
+mod calling;
 mod calls;
 mod effect;
 mod execute;
@@ -14,11 +15,11 @@ mod scene;
 mod watch;
 
 pub use assign::origin_scalar;
+pub use calling::{FunctionCalled, called};
 pub use effect::{Deed, Effect};
 pub use execute::executed;
 pub use frequent::{
-    FunctionCalled, NumberAssigned, assigned, assigned_indexed, called, given, number_assigned,
-    number_given, numbers_kept,
+    NumberAssigned, assigned, assigned_indexed, given, number_assigned, number_given, numbers_kept,
 };
 pub use lines::said;
 pub use phrase::{perform, slots_given};

@@ -1,5 +1,6 @@
 //! What a phrase does with its operands.
-ghost use Rattle.std.specs.Prelude.{◌≡◌, IfOk, IfSome, map, true, List, [], ◌∷◌, Option};
+ghost use Rattle.std.specs.Prelude.{◌≡◌, IfNone, IfOk, IfSome, map, false, true, List, [], ◌∷◌, Option};
+ghost use Rattle.apl_arrays.specs.Cells.{Arr};
 ghost use Rattle.apl_code.specs.declared.instr.Source.{Source};
 ghost use Rattle.apl_machine_state.specs.declared.operand.Operand.{Operand};
 ghost use Rattle.apl_code.specs.declared.row.Row.TheVariants.{Group};
@@ -99,12 +100,16 @@ fn index_list(
 
 /// Whether an instruction makes an index list.
 fn is_index_list(action: &Action) -> bool
-    ensures { result ≡ true → (s : model.Scene) (os : List (Option Operand)) → acted s action.now os ≡ Makes (map operand_value os) }
+    ensures yes { result ≡ true → (s : model.Scene) (os : List (Option Operand)) → acted s action.now os ≡ Makes (map operand_value os) }
+    ensures no { result ≡ false → (s : model.Scene) (os : List (Option Operand)) (slots : List (Option Arr)) → ¬ (acted s action.now os ≡ Makes slots) }
 {
     match action {
         Action::Box => true,
-        Action::Phrase(Row::Index(_)) => true,
-        _ => false,
+        Action::Phrase(row) => match row {
+            Row::Index(_) => true,
+            _ => false,
+        },
+        Action::End(_) => false,
     }
 }
 
@@ -116,7 +121,8 @@ pub fn slots_given(
     operands: Operands<'_>,
 ) -> Result<Option<Slots>, AllocError>
     requires there { Offers operands sources.now }
-    ensures { IfOk result (λ given. IfSome given (MakesSlots (λ s. acted s action.now (fetched_from operands.entry sources.now)))) }
+    ensures is { IfOk result (λ given. IfSome given (MakesSlots (λ s. acted s action.now (fetched_from operands.entry sources.now)))) }
+    ensures none { IfOk result (λ given. IfNone given ((slots : List (Option Arr)) → ¬ MakesSlots (λ s. acted s action.now (fetched_from operands.entry sources.now)) slots)) }
 {
     if !is_index_list(action) {
         return Ok(None);
