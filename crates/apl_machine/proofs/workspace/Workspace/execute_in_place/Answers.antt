@@ -7,7 +7,8 @@ use Rattle.apl_machine_state.specs.State.{applied, step, turn}
 use Rattle.apl_machine_state.specs.Changes.{Change}
 use Rattle.apl_contexts.specs.Contexts.{line_in}
 use Rattle.apl_contexts.specs.Moves.{CanMove}
-use Rattle.apl_contexts.specs.Typed.{IsTyped}
+use Rattle.apl_contexts.specs.Typed.{IsRead, IsTyped}
+use Rattle.apl_contexts.specs.declared.lines.TextLine.{TextLine}
 use Rattle.apl_contexts.specs.declared.moves.Move.TheVariants.{Awaits}
 use Rattle.apl_machine.specs.Spaces.{Space, IsSound, executed_in, state_of}
 use Rattle.apl_machine.specs.inside.Paces.{IsPace}
@@ -21,8 +22,8 @@ begin_executed-requires-clause-can c =
     let s : Space = record { maps = c.self.inside.names; kept = settings c.self.inside.stops c.self.inside.traces (origin_number c.self.inside.io); contexts = c.self.inside.contexts; output = c.self.inside.output.items } in
     let sound : IsSound s = subst IsSound (sym c.self.view_is) c.requires in
     let text = c.in-Some-executed.text.now in
-    let t : IsTyped s.maps text c.in-Some-typed.line.now.value.bound = c.in-Some-typed.ensures in
-    let done = executes_done s c.in-Some.instr.now c.in-Some.operands.constants.now c.in-Some.operands.stack.now c.standing.result c.as_slice-sources.result.now text t.0 c.left_of-left.result sound c.in-Some.ensures c.standing.ensures c.as_slice-sources.ensures (λ lines. c.in-Some-executed.ensures lines t.0 t.1.0 t.1.1) t.1.0 t.1.1 c.left_of-left.ensures.within c.left_of-left.ensures.left in
+    let t : IsTyped s.maps text c.in-Bare.line.value.bound = subst (λ (r : TextLine). IsRead s.maps text r) c.in-Bare.is c.in_ok-read.ensures in
+    let done = executes_done s c.in-Some.instr.now c.in-Some.operands.constants.now c.in-Some.operands.stack.now c.standing.result c.as_slice-sources.result.now text t.0 c.left_of-left.result sound c.in-Some.ensures c.standing.ensures c.as_slice-sources.ensures (λ lines. c.in-Some-executed.ensures.is lines t.0 t.1.0 t.1.1) t.1.0 t.1.1 c.left_of-left.ensures.within c.left_of-left.ensures.left in
     subst (λ (x : Space). IfSome (line_in x.contexts) (CanMove (Awaits c.left_of-left.result))) c.self.view_is done.can
 
 pub returns-clause-made : goal.returns-clause-made
@@ -30,8 +31,8 @@ returns-clause-made c made =
     let s : Space = record { maps = c.self.inside.names; kept = settings c.self.inside.stops c.self.inside.traces (origin_number c.self.inside.io); contexts = c.self.inside.contexts; output = c.self.inside.output.items } in
     let sound : IsSound s = subst IsSound (sym c.self.view_is) c.requires in
     let text = c.in-Some-executed.text.now in
-    let t : IsTyped s.maps text c.in-Some-typed.line.now.value.bound = c.in-Some-typed.ensures in
-    let done = executes_done s c.in-Some.instr.now c.in-Some.operands.constants.now c.in-Some.operands.stack.now c.standing.result c.as_slice-sources.result.now text t.0 c.left_of-left.result sound c.in-Some.ensures c.standing.ensures c.as_slice-sources.ensures (λ lines. c.in-Some-executed.ensures lines t.0 t.1.0 t.1.1) t.1.0 t.1.1 c.left_of-left.ensures.within c.left_of-left.ensures.left in
+    let t : IsTyped s.maps text c.in-Bare.line.value.bound = subst (λ (r : TextLine). IsRead s.maps text r) c.in-Bare.is c.in_ok-read.ensures in
+    let done = executes_done s c.in-Some.instr.now c.in-Some.operands.constants.now c.in-Some.operands.stack.now c.standing.result c.as_slice-sources.result.now text t.0 c.left_of-left.result sound c.in-Some.ensures c.standing.ensures c.as_slice-sources.ensures (λ lines. c.in-Some-executed.ensures.is lines t.0 t.1.0 t.1.1) t.1.0 t.1.1 c.left_of-left.ensures.within c.left_of-left.ensures.left in
     let same : c.new-text.result ≡ text = c.new-text.ensures ∙ c.in_ok-from_slice.ensures.items in
     let read = ap tokens_of same ∙ t.1.0 in
     record {
