@@ -1,7 +1,6 @@
 pub mod Begun
+pub mod Counted
 pub mod Numbers
-pub mod Bindable
-pub mod Deciding
 pub mod LineNumbers
 pub mod Kept
 pub mod Nearest

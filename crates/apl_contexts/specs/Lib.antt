@@ -1,4 +1,3 @@
-pub mod Bound
 pub mod Callers
 pub mod Moves
 pub mod Contexts

@@ -1,14 +1,16 @@
-//! The contexts of a machine: typed statements, calls and texts that are executed, the newest in
-//! place, and how their lines begin.
+//! The contexts of a machine: typed statements, calls and texts that are executed, each in its place, and
+//! how their lines begin.
 #![tactic(auto)]
 
 mod beginning;
-mod bound;
+mod coming;
 mod context;
 mod contexts;
+mod entering;
 mod known;
 mod lines;
 mod moves;
+mod places;
 mod stack;
 mod typed;
 

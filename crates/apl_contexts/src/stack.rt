@@ -6,12 +6,11 @@ ghost use Rattle.apl_contexts.specs.Stacks.{lent};
 
 use crate::context::{Call, Context};
 
-/// The contexts from one of them on, newest first.
+/// The contexts from one of them on.
 #[derive(Clone, Copy)]
 pub struct Stack<'a> {
-    pub(crate) newest: Option<&'a Context>,
-    /// The others, the oldest first.
-    pub(crate) below: &'a [Context],
+    /// The oldest first.
+    pub(crate) stand: &'a [Context],
 }
 
 impl<'a> Stack<'a> {
@@ -19,25 +18,16 @@ impl<'a> Stack<'a> {
     pub fn newest(self) -> Option<&'a Context>
         ensures { option_copied result ≡ newest_of (lent self.entry) }
     {
-        self.newest
+        self.stand.last()
     }
 
     /// Without the newest of them.
     fn older(self) -> Stack<'a>
         ensures { lent result ≡ drop 1 (lent self.entry) }
     {
-        if self.newest.is_none() {
-            return self;
-        }
-        match self.below.split_last() {
-            Some((newest, below)) => Stack {
-                newest: Some(newest),
-                below,
-            },
-            None => Stack {
-                newest: None,
-                below: self.below,
-            },
+        match self.stand.split_last() {
+            Some((_newest, older)) => Stack { stand: older },
+            None => self,
         }
     }
 

@@ -35,6 +35,31 @@ fold_before f xs j z l h e =
     back : (j : ℕ) → 0 < j → j - 1 + 1 ≡ j
     back j l = omega arith
 
+-- the same of a number that is known
+next_at : (f : ℤ → ℤ → Result ℤ Fault) (xs : List ℤ) (k n : ℕ) (x : ℤ) → n ≡ k + 1 → n < length xs → get_or xs k (pos 0) ≡ x → fold_by f (drop k xs) ≡ and_then (fold_by f (drop n xs)) (λ z. f x z)
+next_at f xs k n x e h p =
+    fold_next f xs k (omega (arith, e))
+    ∙ ap (λ (m : ℕ). and_then (fold_by f (drop m xs)) (λ z. f (get_or xs k (pos 0)) z)) (sym e)
+    ∙ ap (λ (y : ℤ). and_then (fold_by f (drop n xs)) (λ z. f y z)) p
+
+-- four numbers before those of which the fold is a value
+pub four_before : (f : ℤ → ℤ → Result ℤ Fault) (xs : List ℤ) (k : ℕ) (a b c d z v : ℤ) → k + 4 < length xs →
+    get_or xs k (pos 0) ≡ a → get_or xs (k + 1) (pos 0) ≡ b → get_or xs (k + 2) (pos 0) ≡ c → get_or xs (k + 3) (pos 0) ≡ d →
+    fold_by f (drop (k + 4) xs) ≡ Ok z → fold_by f (a ∷ b ∷ c ∷ d ∷ z ∷ []) ≡ Ok v → fold_by f (drop k xs) ≡ Ok v
+four_before f xs k a b c d z v h ea eb ec ed e p =
+    next_at f xs k (k + 1) a refl (omega arith) ea
+    ∙ ap (λ (r : Result ℤ Fault). and_then r (λ z. f a z)) (next_at f xs (k + 1) (k + 2) b (omega arith) (omega arith) eb)
+    ∙ ap (λ (r : Result ℤ Fault). and_then (and_then r (λ z. f b z)) (λ z. f a z)) (next_at f xs (k + 2) (k + 3) c (omega arith) (omega arith) ec)
+    ∙ ap (λ (r : Result ℤ Fault). and_then (and_then (and_then r (λ z. f c z)) (λ z. f b z)) (λ z. f a z)) (next_at f xs (k + 3) (k + 4) d (omega arith) h ed ∙ ap (λ (r : Result ℤ Fault). and_then r (λ z. f d z)) e)
+    ∙ p
+
+-- four values, each of a number and of the value before
+pub fold_four : (f : ℤ → ℤ → Result ℤ Fault) (a b c d z u v w x : ℤ) → f d z ≡ Ok u → f c u ≡ Ok v → f b v ≡ Ok w → f a w ≡ Ok x → fold_by f (a ∷ b ∷ c ∷ d ∷ z ∷ []) ≡ Ok x
+fold_four f a b c d z u v w x p q r s =
+    ap (λ (t : Result ℤ Fault). and_then (and_then (and_then t (λ z. f c z)) (λ z. f b z)) (λ z. f a z)) p
+    ∙ ap (λ (t : Result ℤ Fault). and_then (and_then t (λ z. f b z)) (λ z. f a z)) q
+    ∙ ap (λ (t : Result ℤ Fault). and_then t (λ z. f a z)) r ∙ s
+
 -- a fault among the last numbers is the fault of all
 pub fold_fault : (f : ℤ → ℤ → Result ℤ Fault) (xs : List ℤ) (k : ℕ) (e : Fault) → k < length xs → fold_by f (drop k xs) ≡ Err e → fold_by f xs ≡ Err e
 fold_fault f xs zero e l h = h

@@ -1,6 +1,6 @@
 -- Lines of items in a ravel, and the folds of their first items.
 use Rattle.std.specs.Prelude.{ℕ, ℤ, pos, ◌+◌, ◌-◌, ◌*◌, ◌^◌, ◌<◌, ◌≤◌, ◌≡◌, Bool, true, false, nat_eq}
-use Rattle.std.specs.Prelude.{List, [], ◌∷◌, map, length, slice_index_or, Option, None, Some, IfSome, Result, Ok, Err}
+use Rattle.std.specs.Prelude.{List, [], ◌∷◌, map, length, drop, slice_index_or, Option, None, Some, IfSome, Result, Ok, Err}
 use Rattle.std.specs.List.{range_with_len}
 use Rattle.apl_faults.specs.declared.fault.Fault.{Fault}
 use Rattle.apl_faults.specs.declared.fault.Fault.TheVariants.{Domain}
@@ -38,6 +38,17 @@ folds_beside f raw axis count from till = all_ok (λ p. line_fold f raw axis p c
 -- each number of a row is taken into the fold beside it
 abbrev pub AreTaken : (ℤ → ℤ → Result ℤ Fault) → List ℤ → List ℤ → List ℤ → Type 0
 AreTaken f row old new = (j : ℕ) → j < length old → f (slice_index_or row j (pos 0)) (slice_index_or old j (pos 0)) ≡ Ok (slice_index_or new j (pos 0))
+
+-- the numbers of four rows are taken into the fold beside them
+abbrev pub AreFourTaken : (ℤ → ℤ → Result ℤ Fault) → List ℤ → List ℤ → List ℤ → List ℤ → List ℤ → List ℤ → Type 0
+AreFourTaken f first second third fourth old new =
+    (j : ℕ) → j < length old →
+    fold_by f (slice_index_or first j (pos 0) ∷ slice_index_or second j (pos 0) ∷ slice_index_or third j (pos 0) ∷ slice_index_or fourth j (pos 0) ∷ slice_index_or old j (pos 0) ∷ [])
+    ≡ Ok (slice_index_or new j (pos 0))
+
+-- each of these numbers is the fold of what one of the lines that begin side by side from a place on has from an index on
+abbrev pub AreFoldsFrom : (ℤ → ℤ → Result ℤ Fault) → List ℤ → Axis → ℕ → ℕ → ℕ → List ℤ → Type 0
+AreFoldsFrom f raw axis at count index folds = (j : ℕ) → j < length folds → fold_by f (drop index (line_of (pos 0) raw axis (at + j) count)) ≡ Ok (slice_index_or folds j (pos 0))
 
 -- each of these numbers is the fold of one of the lines that begin from a place on, side by side
 abbrev pub AreFolds : (ℤ → ℤ → Result ℤ Fault) → List ℤ → Axis → ℕ → ℕ → List ℤ → Type 0

@@ -1,8 +1,8 @@
 // Folds of lines of numbers that begin side by side, a row of them at a time.
-ghost use Rattle.std.specs.Prelude.{◌≡◌, ◌^◌, ◌<◌, ◌≤◌, ◌+◌, ◌*◌, ◌≤ℤ◌, ℕ, length, slice_index_or, pos, IsTrue};
+ghost use Rattle.std.specs.Prelude.{◌≡◌, ◌^◌, ◌<◌, ◌≤◌, ◌+◌, ◌-◌, ◌*◌, ◌≤ℤ◌, ℕ, pos, ◌∷◌, [], length, slice_index_or, IsTrue, Ok};
 ghost use Rattle.apl_arrays.specs.Answers.{Appends};
 ghost use Rattle.apl_arrays.specs.Strides.{step_at};
-ghost use Rattle.apl_folds.specs.Lines.{folds_beside, AreFolds, AreTaken, IsLine};
+ghost use Rattle.apl_folds.specs.Lines.{fold_by, folds_beside, AreFolds, AreFoldsFrom, AreFourTaken, AreTaken, IsLine};
 
 use crate::line::{fold_strided, row};
 use apl_arrays::{Axis, Stop, along};
@@ -26,6 +26,46 @@ fn take_row<F: Scalar>(numbers: &[i64], folds: &mut [i64]) -> i64
     flags
 }
 
+/// The fold of four numbers and of those after them, of which the fold is known, and a flag, which is not negative only if it is a value.
+#[inline(always)]
+fn fold_four<F: Scalar>(first: i64, second: i64, third: i64, fourth: i64, known: i64) -> (i64, i64)
+    ensures { pos 0 ≤ℤ result.1 → fold_by F.meaning (first ∷ second ∷ third ∷ fourth ∷ known ∷ []) ≡ Ok result.0 }
+{
+    let (one, flag) = F::tried(fourth, known);
+    let (two, flag_two) = F::tried(third, one);
+    let (three, flag_three) = F::tried(second, two);
+    let (four, flag_four) = F::tried(first, three);
+    (
+        four,
+        either(either(flag, flag_two), either(flag_three, flag_four)),
+    )
+}
+
+/// Takes four rows of numbers more into the folds, from the last row to the first, so that each fold is read and written once for four. The
+/// flag is as of [`take_row`].
+#[inline(never)]
+fn take_four<F: Scalar>(
+    first: &[i64],
+    second: &[i64],
+    third: &[i64],
+    fourth: &[i64],
+    folds: &mut [i64],
+) -> i64
+    requires first { length first.now ≡ length folds.old }
+    requires second { length second.now ≡ length folds.old }
+    requires third { length third.now ≡ length folds.old }
+    requires fourth { length fourth.now ≡ length folds.old }
+    ensures { pos 0 ≤ℤ result → AreFourTaken F.meaning first.now second.now third.now fourth.now folds.old folds.new }
+{
+    let mut flags = 0i64;
+    for j in 0..folds.len() {
+        let (value, flag) = fold_four::<F>(first[j], second[j], third[j], fourth[j], folds[j]);
+        folds[j] = value;
+        flags = either(flags, flag);
+    }
+    flags
+}
+
 /// The numbers at an index of an axis, from a place on, for so many lines.
 #[inline(always)]
 fn beside<'a>(numbers: &'a [i64], axis: &Axis, at: usize, index: usize, lines: usize) -> &'a [i64]
@@ -37,6 +77,39 @@ fn beside<'a>(numbers: &'a [i64], axis: &Axis, at: usize, index: usize, lines: u
     ensures numbers { (j : ℕ) → j < lines → slice_index_or result.now j (pos 0) ≡ slice_index_or numbers.now (at + j + step_at axis.now index) (pos 0) }
 {
     row(numbers, along(at, axis, index), lines)
+}
+
+/// Takes row after row into the folds, from the last but one, four at a time. It answers a flag, which is not negative only if all are values,
+/// and how many rows are left, fewer than four.
+fn fold_fours<F: Scalar>(
+    numbers: &[i64],
+    axis: &Axis,
+    at: usize,
+    count: usize,
+    folds: &mut [i64],
+) -> (i64, usize)
+    requires some { 0 < length folds.old }
+    requires lines { (j : ℕ) → j < length folds.old → IsLine (length numbers.now) axis.now (at + j) count }
+    requires last { AreFoldsFrom F.meaning numbers.now axis.now at count (count - 1) folds.old }
+    ensures few { result.1 < count }
+    ensures size { length folds.new ≡ length folds.old }
+    ensures folds { pos 0 ≤ℤ result.0 → AreFoldsFrom F.meaning numbers.now axis.now at count result.1 folds.new }
+{
+    let lines = folds.len();
+    let mut flags = 0i64;
+    let mut left = count - 1;
+    while 4 <= left {
+        left -= 4;
+        let flag = take_four::<F>(
+            beside(numbers, axis, at, left, lines),
+            beside(numbers, axis, at, left + 1, lines),
+            beside(numbers, axis, at, left + 2, lines),
+            beside(numbers, axis, at, left + 3, lines),
+            folds,
+        );
+        flags = either(flags, flag);
+    }
+    (flags, left)
 }
 
 /// Folds the lines that begin side by side from a place on, one for each fold. It answers whether all are values.
@@ -53,8 +126,8 @@ fn fold_block<F: Scalar>(
 {
     let last = count - 1;
     folds.copy_from_slice(beside(numbers, axis, at, last, folds.len()));
-    let mut flags = 0i64;
-    for k in (0..last).rev() {
+    let (mut flags, left) = fold_fours::<F>(numbers, axis, at, count, folds);
+    for k in (0..left).rev() {
         let flag = take_row::<F>(beside(numbers, axis, at, k, folds.len()), folds);
         flags = either(flags, flag);
     }

@@ -23,3 +23,4 @@ pub mod Few
 pub mod Frequently
 pub mod Written
 pub mod Silent
+mod Running

@@ -5,8 +5,9 @@ ghost use Rattle.apl_contexts.specs.Contexts.{behind, line_in};
 ghost use Rattle.apl_machine.specs.Spaces.{IsSound, IsStatement, branched_in, escaped_in, left_behind, state_of};
 
 use crate::returns::returning;
-use crate::workspace::{Workspace, put_away};
+use crate::workspace::Workspace;
 use apl_contexts::function_line;
+use apl_frames::FrameBuf;
 use apl_machine_state::OutLine;
 use std::alloc::AllocError;
 
@@ -21,12 +22,12 @@ impl Workspace {
         ensures err { OnErr result (self.new ≡ self.old) }
     {
         let Some(at) = aim else {
-            put_away(&mut self.lines, self.contexts.leave());
+            self.contexts.leave();
             return Ok(());
         };
         let below = self.contexts.stack().beneath();
         let Some(call) = below.call() else {
-            put_away(&mut self.lines, self.contexts.leave());
+            self.contexts.leave();
             return Ok(());
         };
         if let Some(tokens) = call.definition().tokens(at) {
@@ -38,14 +39,14 @@ impl Workspace {
                 at,
                 tokens,
             )?;
-            let line = self.lines.begin(translated)?;
-            put_away(&mut self.lines, self.contexts.leave());
+            let line = FrameBuf::of(self.alloc, translated)?;
+            self.contexts.leave();
             self.contexts.put_line(at, line);
             return Ok(());
         }
         let (given, mut report) = returning(self.alloc, &self.names, call, below.beneath())?;
         self.output.append(&mut report)?;
-        put_away(&mut self.lines, self.contexts.leave());
+        self.contexts.leave();
         self.leave(given);
         Ok(())
     }
@@ -78,10 +79,10 @@ impl Workspace {
         ensures { self.new ≡ record self.old { maps = left_behind self.old.maps self.old.contexts; contexts = behind self.old.contexts } }
     {
         while self.contexts.call().is_some() {
-            put_away(&mut self.lines, self.contexts.leave());
+            self.contexts.leave();
             self.names.leave();
         }
-        put_away(&mut self.lines, self.contexts.leave());
+        self.contexts.leave();
     }
 
     /// The contexts from the newest through the nearest statement go; one that was typed goes before
@@ -93,7 +94,7 @@ impl Workspace {
         ensures state { state_of self.new ≡ escaped_in self.old [] }
     {
         if self.contexts.call().is_none() {
-            put_away(&mut self.lines, self.contexts.leave());
+            self.contexts.leave();
         }
         self.drop_statement();
     }

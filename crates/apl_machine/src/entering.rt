@@ -39,9 +39,8 @@ impl Workspace {
             1,
             tokens,
         )?;
-        let line = self.lines.begin(translated)?;
-        let call = Call::new(function, 1, line);
-        self.contexts.enter(Context::Call(call), left)?;
+        self.contexts
+            .enter_call(self.alloc, function, translated, left)?;
         Ok(())
     }
 

@@ -8,10 +8,11 @@ ghost use Rattle.apl_machine.specs.inside.Locals.{alone, names_with};
 
 use apl_arrays::{Array, Origin, SharedArray};
 use apl_defn::Definition;
-use apl_names::{Binding, Names};
+use apl_names::{Binding, DefinedFunction, Names};
 use apl_parts::bind_labels;
 use apl_phrases::{Scene, origin_name};
 use apl_symbols::Name;
+use apl_translate::Cache;
 use std::alloc::AllocError;
 
 /// The index origin that a local `⎕IO` has at first, where it is among these locals: the caller's.
@@ -88,6 +89,16 @@ fn bind_names(
     bind_named(names, header.right.as_ref(), right)?;
     bind_named(names, header.left.as_ref(), left)?;
     bind_named(names, header.result.as_ref(), None)
+}
+
+/// Binds the lines of a function, for the calls of it that come, where they aren't bound yet.
+#[inline]
+pub(crate) fn prepare(names: &mut Names, cache: &mut Cache, function: &DefinedFunction)
+    ensures { names.new ≡ names.old }
+{
+    if !function.is_ready() {
+        names.make_ready(cache, &function.definition().header().name);
+    }
 }
 
 /// The newest scope is that of a call from now on, with its names. After an error nothing has changed.

@@ -16,11 +16,11 @@ ghost use Rattle.apl_machine.specs.Spaces.{IsSound, state_of};
 
 use crate::objects::{clear, define, erase, function_in, is_variable};
 use crate::reports::{token_fault, typed_fault};
-use crate::stepping::{abandon, make, progress_of};
+use crate::stepping::{abandon, make};
 use crate::workspace::Workspace;
 use apl_arrays::{Origin, SharedArray};
 use apl_charset::{Ch, Text};
-use apl_contexts::{Context, Contexts, Lines, Statement, TextLine, text_line};
+use apl_contexts::{Contexts, Lines, TextLine, text_line};
 use apl_defn::Definition;
 use apl_faults::Fault;
 use apl_frames::Frame;
@@ -122,11 +122,10 @@ fn start(workspace: &mut Workspace, text: &[Ch], line: Rc<Translated>) -> Result
     ensures ok { OnOk result (state_of workspace.new ≡ begun (state_of workspace.old) text.now) }
     ensures err { OnErr result (workspace.new ≡ workspace.old) }
 {
-    let line = workspace.lines.begin(line)?;
     let text = Text::new(Vec::from_slice(workspace.alloc, text)?);
     workspace
         .contexts
-        .push(Context::Statement(Statement { text, line }))?;
+        .push_statement(workspace.alloc, text, line)?;
     Ok(())
 }
 
@@ -188,8 +187,8 @@ impl Machine {
         if self.is_idle() {
             return Ok(Progress::Idle);
         }
-        let pace = make(&mut self.workspace)?;
-        Ok(progress_of(&self.workspace.contexts, pace))
+        let progress = make(&mut self.workspace)?;
+        Ok(progress)
     }
 
     /// Abandons what runs, with a report; an idle machine stays as it is. After an error the

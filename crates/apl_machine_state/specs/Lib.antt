@@ -1,3 +1,5 @@
+pub mod IndexLists
+pub mod Lights
 pub mod Items
 pub mod Environment
 pub mod Frames

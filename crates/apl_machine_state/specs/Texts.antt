@@ -1,5 +1,5 @@
 -- Texts that are typed or executed: their faults, and labels, which they have not.
-use Rattle.std.specs.Prelude.{ℕ, List, [], ◌∷◌, Option, Some, None}
+use Rattle.std.specs.Prelude.{ℕ, List, ◌∷◌, Option, Some, None}
 use Rattle.apl_faults.specs.declared.fault.Fault.{Fault}
 use Rattle.apl_faults.specs.declared.fault.Fault.TheVariants.{Syntax, Limit as LimitFault}
 use Rattle.apl_symbols.specs.declared.symbol.Symbol.TheVariants.{Colon}

@@ -1,5 +1,5 @@
 -- ⎕STOP and ⎕TRACE, and what traced lines write.
-use Rattle.std.specs.Prelude.{ℕ, suc, ℤ, pos, nat_le, Bool, ◌&&◌, List, [], ◌∷◌, ◌++◌}
+use Rattle.std.specs.Prelude.{ℕ, suc, ℤ, pos, nat_le, Bool, List, [], ◌∷◌, ◌++◌}
 use Rattle.std.specs.Prelude.{length, map, filter, Option, Some, None, if◌then◌else◌}
 use Rattle.std.specs.List.{list_any}
 use Rattle.std.specs.Ordering.{int_eq}

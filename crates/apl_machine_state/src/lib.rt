@@ -9,7 +9,7 @@ mod texts;
 mod watch;
 
 pub use level::Level;
-pub use operand::{Operand, Slots};
+pub use operand::{Light, Operand, Slots};
 pub use output::{OutLine, Progress};
 pub use texts::colon_of;
 pub use watch::Watch;

@@ -13,3 +13,6 @@ pub mod ScopeAnswers
 pub mod GlobalKinds
 pub mod Swaps
 pub mod Binds
+pub mod Bindable
+pub mod Deciding
+pub mod Again

@@ -1,2 +1,4 @@
 pub mod Maps
+pub mod Bound
+pub mod Ready
 pub mod Slots

@@ -2,13 +2,16 @@
 #![tactic(auto)]
 
 mod binding;
+mod bound;
 mod function;
 mod global_scope;
 mod names;
+mod ready;
 mod recent;
 mod slots;
 
 pub use binding::Binding;
+pub use bound::Bound;
 pub use function::DefinedFunction;
 pub use names::Names;
 pub use recent::LikelySlot;

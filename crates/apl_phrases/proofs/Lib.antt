@@ -6,3 +6,4 @@ pub mod Effects
 pub mod Marks
 pub mod Rows
 mod Kept
+mod Slotted

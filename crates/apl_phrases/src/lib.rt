@@ -20,7 +20,8 @@ pub use effect::{Deed, Effect};
 pub use execute::executed;
 pub use frequent::{
     NumberAssigned, assigned, assigned_indexed, given, number_assigned, number_given, numbers_kept,
+    value_read,
 };
 pub use lines::said;
-pub use phrase::{perform, slots_given};
+pub use phrase::{perform, slot_given, slots_given};
 pub use scene::{Scene, origin_name};

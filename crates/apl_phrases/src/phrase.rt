@@ -1,6 +1,8 @@
 //! What a phrase does with its operands.
-ghost use Rattle.std.specs.Prelude.{◌≡◌, IfNone, IfOk, IfSome, map, false, true, List, [], ◌∷◌, Option};
+ghost use Rattle.std.specs.Prelude.{◌≡◌, IfNone, IfOk, IfSome, map, false, true, ℤ, List, [], ◌∷◌, Option, Some};
 ghost use Rattle.apl_arrays.specs.Cells.{Arr};
+ghost use Rattle.apl_arrays.specs.declared.cell.Cell.TheVariants.{Num};
+ghost use Rattle.apl_arrays.specs.Simple.{single};
 ghost use Rattle.apl_code.specs.declared.instr.Source.{Source};
 ghost use Rattle.apl_machine_state.specs.declared.operand.Operand.{Operand};
 ghost use Rattle.apl_code.specs.declared.row.Row.TheVariants.{Group};
@@ -8,7 +10,7 @@ ghost use Rattle.apl_machine_state.specs.Environment as model;
 ghost use Rattle.apl_machine_state.specs.Outcomes.{Makes, outcome, shown, operand_value, of_result};
 ghost use Rattle.apl_primitives.specs.Taken.{as_taken};
 ghost use Rattle.apl_primitives.specs.Values.{phrase_value};
-ghost use Rattle.apl_operands.specs.Operands.{Offers, fetched_from};
+ghost use Rattle.apl_operands.specs.Operands.{Offers, fetched_from, one_value};
 ghost use Rattle.apl_phrases.specs.Effects.{ComesOf, ComesWith, DoesTo, FetchesSlot, MakesSlots, acted};
 
 use crate::assign::{assign, assign_indexed, read};
@@ -21,7 +23,7 @@ use apl_code::{Action, Row, Source};
 use apl_faults::Fault;
 use apl_format::display;
 use apl_machine_state::{Operand, Slots};
-use apl_operands::{Held, Operands, arguments, fetch};
+use apl_operands::{Held, Operands, arguments, fetch, one_value};
 use apl_primitives::Arguments;
 use std::alloc::{AllocError, Global};
 
@@ -66,8 +68,8 @@ fn slot(
     }
 }
 
-/// The slots of an index list.
-fn slots(
+/// The slots of an index list of several.
+fn several_slots(
     alloc: Global,
     sources: &[Option<Source>],
     operands: Operands<'_>,
@@ -85,6 +87,23 @@ fn slots(
     Ok(slots)
 }
 
+/// The slots of an index list.
+fn slots(
+    alloc: Global,
+    sources: &[Option<Source>],
+    operands: Operands<'_>,
+) -> Result<Slots, AllocError>
+    requires { Offers operands sources.now }
+    ensures { IfOk result (λ slots. slots ≡ map operand_value (fetched_from operands.entry sources.now)) }
+{
+    if let [source] = sources {
+        let (only, _beneath) = slot(operands, *source)?;
+        return Ok(Slots::one(only));
+    }
+    let slots = several_slots(alloc, sources, operands)?;
+    Ok(Slots::new(slots))
+}
+
 /// An index list.
 fn index_list(
     alloc: Global,
@@ -95,7 +114,7 @@ fn index_list(
     ensures { IfOk result (ComesWith (fetched_from operands.entry sources.now) (Makes (map operand_value (fetched_from operands.entry sources.now)))) }
 {
     let slots = slots(alloc, sources, operands)?;
-    Ok(Effect::Gives(Operand::Slots(Slots::new(slots))))
+    Ok(Effect::Gives(Operand::Slots(slots)))
 }
 
 /// Whether an instruction makes an index list.
@@ -128,7 +147,38 @@ pub fn slots_given(
         return Ok(None);
     }
     let slots = slots(alloc, sources, operands)?;
-    Ok(Some(Slots::new(slots)))
+    Ok(Some(slots))
+}
+
+/// The number that an instruction takes, if it takes one value alone and that is a number.
+#[inline(always)]
+fn lone_number(sources: &[Option<Source>], operands: Operands<'_>) -> Option<i64>
+    requires there { Offers operands sources.now }
+    ensures is { IfSome result (λ z. one_value (fetched_from operands.entry sources.now) ≡ Some (single (Num z))) }
+    ensures none { IfNone result ((z : ℤ) → ¬ (one_value (fetched_from operands.entry sources.now) ≡ Some (single (Num z)))) }
+{
+    match one_value(sources, operands) {
+        Some(value) => value.as_number(),
+        None => None,
+    }
+}
+
+/// The number that is the one slot of the index list that an instruction makes. Where it makes something else, another list or none, there
+/// is none.
+#[inline(always)]
+pub fn slot_given(
+    action: &Action,
+    sources: &[Option<Source>],
+    operands: Operands<'_>,
+) -> Option<i64>
+    requires there { Offers operands sources.now }
+    ensures is { IfSome result (λ z. MakesSlots (λ s. acted s action.now (fetched_from operands.entry sources.now)) (Some (single (Num z)) ∷ [])) }
+    ensures none { IfNone result ((z : ℤ) → ¬ MakesSlots (λ s. acted s action.now (fetched_from operands.entry sources.now)) (Some (single (Num z)) ∷ [])) }
+{
+    if !is_index_list(action) {
+        return None;
+    }
+    lone_number(sources, operands)
 }
 
 /// What a phrase of this row does.

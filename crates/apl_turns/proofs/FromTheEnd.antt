@@ -1,11 +1,10 @@
 -- Lines taken the other way, by index lists and by places.
-use Rattle.std.proofs.Common.{◌≡◌, ℕ, pos, zero, suc, ◌∷◌, ◌+◌, ◌-◌, ◌*◌, ◌%◌, ◌<◌, ◌≤◌, true, List, [], ◌++◌, map, length, get_or, take, drop, refl, ap, sym, ◌∙◌, arith, append_assoc, append-nil, take-append-drop}
-use Rattle.std.specs.Prelude.{reverse, slice_range}
+use Rattle.std.proofs.Common.{◌≡◌, ℕ, pos, suc, ◌+◌, ◌-◌, ◌*◌, ◌%◌, ◌<◌, ◌≤◌, true, List, ◌++◌, map, length, get_or, take, drop, ap, sym, ◌∙◌, arith}
+use Rattle.std.specs.Prelude.{reverse}
 use Rattle.std.specs.List.{range_with_len}
-use Rattle.std.proofs.lemmas.List.{same_lists, length-map, length-reverse, get_or-reverse, reverse-append, drop_all, take_all}
+use Rattle.std.proofs.lemmas.List.{length-map, length-reverse, get_or-reverse, drop_all}
 use Rattle.std.proofs.lemmas.List.FromFn.{length-range_with_len}
 use Rattle.std.proofs.lemmas.Nat.{div-mul-add, mod-mul-add}
-use Rattle.std.proofs.lemmas.Slice.{between_is}
 use Rattle.apl_arrays.specs.declared.cell.Cell.TheVariants.{Num, Char}
 use Rattle.apl_arrays.specs.Index.{size_of, indices, is_within, position_in}
 use Rattle.apl_arrays.specs.Cells.{Arr, Items, Numbers, Characters, cells_of}
@@ -14,38 +13,6 @@ use Rattle.apl_turns.specs.inside.Mirrored.{mirror, mirrored}
 use Rattle.apl_turns.proofs.Blocks.{grown_by, piece_get, piece_length}
 use Rattle.apl_turns.proofs.Parts.{position_parts, position_on, within_at_axis, behind_below, whole_parts}
 use Rattle.apl_turns.proofs.Rotated.{each_sourced}
-
--- items that are written the other way over as many
-pub written_back : {A : Type 0} (to items old : List A) (n : ℕ) → length to ≡ length old → length old ≡ length items → length items ≤ n →
-    ((k : ℕ) (d : A) → k < n → get_or to k d ≡ get_or items (length items - 1 - k) d) → to ≡ reverse items
-written_back to items old n e f h each =
-    same_lists to (reverse items) (e ∙ f ∙ sym (length-reverse items)) (λ k d l. each k d (omega (arith, l, e, f)) ∙ sym (get_or-reverse items k d (omega (arith, l, e, f))))
-
--- a block more of a line, from its end
-take_parts : {A : Type 0} (xs : List A) (i j : ℕ) → i ≤ j → take i xs ++ slice_range xs i j ≡ take j xs
-take_parts {A = A} xs i j h =
-    ap (λ (l : List A). take i xs ++ l) (between_is xs i j)
-    ∙ ap (λ (l : List A). l ++ drop i (take j xs)) (sym (front i j xs h))
-    ∙ take-append-drop i (take j xs)
-  where
-    front : (i j : ℕ) (xs : List A) → i ≤ j → take i (take j xs) ≡ take i xs
-    front zero j xs h = refl
-    front (suc i) zero xs h = absurd (omega arith)
-    front (suc i) (suc j) [] h = refl
-    front (suc i) (suc j) (x ∷ xs) h = ap (λ (l : List A). x ∷ l) (front i j xs (omega arith))
-
-pub block_more : {A : Type 0} (all out new line : List A) (i j : ℕ) → i ≤ j → new ≡ out ++ reverse (slice_range line i j) → out ++ reverse (take j line) ≡ all → new ++ reverse (take i line) ≡ all
-block_more {A = A} all out new line i j h e f =
-    ap (λ (l : List A). l ++ reverse (take i line)) e
-    ∙ append_assoc out (reverse (slice_range line i j)) (reverse (take i line))
-    ∙ ap (λ (l : List A). out ++ l) (sym (reverse-append (take i line) (slice_range line i j)) ∙ ap reverse (take_parts line i j h))
-    ∙ f
-
-pub line_begun : {A : Type 0} (out line : List A) (n : ℕ) → n ≡ length line → out ++ reverse (take n line) ≡ out ++ reverse line
-line_begun {A = A} out line n e = ap (λ (l : List A). out ++ reverse l) (take_all n line (omega arith))
-
-pub line_done : {A : Type 0} (all out line : List A) (n : ℕ) → n ≡ 0 → out ++ reverse (take n line) ≡ all → out ≡ all
-line_done {A = A} all out line n e f = sym (append-nil out) ∙ sym (ap (λ (m : ℕ). out ++ reverse (take m line)) e) ∙ f
 
 -- the place from which the element at a place of a line comes
 mirror_at : (size line t : ℕ) → t < size → mirror size (line * size + t) ≡ line * size + (size - 1 - t)

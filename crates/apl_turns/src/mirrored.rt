@@ -10,41 +10,11 @@ use crate::lines::{extent_along, piece};
 use apl_arrays::{Array, Elements, Ravel};
 use std::alloc::{AllocError, Global};
 
-/// How many elements are appended before they are turned round.
-const BLOCK: usize = 512;
-
-/// Writes elements the other way over as many.
-fn write_back<T: Copy>(to: &mut [T], items: &[T])
-    requires { length to.old ≡ length items.now }
-    ensures { to.new ≡ reverse items.now }
-{
-    let count = items.len();
-    for place in 0..count {
-        to[place] = items[count - 1 - place];
-    }
-}
-
-/// Appends elements the other way.
-fn push_block<T: Copy>(out: &mut Vec<T>, items: &[T]) -> Result<(), AllocError>
-    ensures { OnOk result (out.new.items ≡ out.old.items ++ reverse items.now) }
-{
-    let before = out.len();
-    out.extend_from_slice(items)?;
-    write_back(out.as_mut_slice().split_at_mut(before).1, items);
-    Ok(())
-}
-
-/// Appends a line the other way, block by block, so that what is turned round is still at hand.
+/// Appends a line the other way, in one pass.
 fn push_line<T: Copy>(out: &mut Vec<T>, line: &[T]) -> Result<(), AllocError>
     ensures { OnOk result (out.new.items ≡ out.old.items ++ reverse line.now) }
 {
-    let mut left = line.len();
-    while 0 < left {
-        let from = left.saturating_sub(BLOCK);
-        push_block(out, &line[from..left])?;
-        left = from;
-    }
-    Ok(())
+    out.extend(line.iter().rev())
 }
 
 /// So many lines of a ravel, which are so long, each the other way.

@@ -6,9 +6,9 @@ use Rattle.apl_folds.proofs.Rights.{fold_last, fold_before}
 use Rattle.apl_folds.proofs.Rows.{length-line, line_at}
 use Rattle.apl_folds.proofs.columns.fold_block.Goals as goal
 
-pub loop-k-init : goal.loop-k-init
-loop-k-init g c =
-    λ z j h.
+pub fold_fours-flags-requires-clause-last : goal.fold_fours-flags-requires-clause-last
+fold_fours-flags-requires-clause-last g c =
+    λ j h.
     let line : List ℤ = line_of (pos 0) c.args.numbers.now c.args.axis.now (c.args.at + j) c.args.count in
     let within : j < length c.args.folds.now = search rules in
     let some = (c.requires.lines j within).some in
@@ -16,6 +16,13 @@ loop-k-init g c =
     ∙ ap (λ (x : ℤ). Ok x) (line_at (pos 0) c.args.numbers.now c.args.axis.now (c.args.at + j) c.args.count (c.args.count - 1) (omega (arith, some))
     ∙ sym (c.beside.ensures.numbers j within)
     ∙ ap (λ (l : List ℤ). get_or l j (pos 0)) (sym c.copy_from_slice.ensures.after))
+
+pub loop-k-init : goal.loop-k-init
+loop-k-init g c =
+    λ z j h.
+    let fits : SFits w64 c.fold_fours-flags.result.0 = search rules in
+    let raised : pos 0 ≤ℤ c.fold_fours-flags.result.0 = simp to_z-of_z at z in
+    c.fold_fours-flags.ensures.folds raised j h
 
 pub beside-requires-in-loop-k-clause-placed : goal.beside-requires-in-loop-k-clause-placed
 beside-requires-in-loop-k-clause-placed g c =

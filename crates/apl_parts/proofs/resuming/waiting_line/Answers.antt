@@ -1,7 +1,7 @@
 use Rattle.apl_tokens.proofs.Answered.{answer_spells}
 use Rattle.apl_tokens.proofs.Limits.{tokens_limits}
 use Rattle.apl_translate.proofs.Spelt.{spells_names}
-use Rattle.apl_contexts.proofs.Bindable.{placed, small}
+use Rattle.apl_names.proofs.Bindable.{placed, small}
 use Rattle.apl_parts.proofs.resuming.waiting_line.Goals as goal
 
 pub bind-requires-clause-few : goal.bind-requires-clause-few

@@ -1,0 +1,42 @@
+use Rattle.std.proofs.Common.{rules, ◌≤ℤ◌, pos, Ok, ap, sym, ◌∙◌, ℤ, w64}
+use Rattle.std.proofs.lemmas.Int.{to_z-of_z}
+use mir.Val.{SFits}
+use Rattle.apl_folds.proofs.Rights.{fold_four}
+use Rattle.apl_folds.proofs.columns.fold_four.Goals as goal
+
+pub returns : goal.returns
+returns g c =
+    λ z.
+    let fits_first : SFits w64 c.args.first = search rules in
+    let fits_second : SFits w64 c.args.second = search rules in
+    let fits_third : SFits w64 c.args.third = search rules in
+    let fits_fourth : SFits w64 c.args.fourth = search rules in
+    let fits_known : SFits w64 c.args.known = search rules in
+    let fits_one : SFits w64 c.tried-one.result.0 = search rules in
+    let fits_two : SFits w64 c.tried-two.result.0 = search rules in
+    let fits_three : SFits w64 c.tried-three.result.0 = search rules in
+    let fits_four : SFits w64 c.tried-four.result.0 = search rules in
+    let flag_one : SFits w64 c.tried-one.result.1 = search rules in
+    let flag_two : SFits w64 c.tried-two.result.1 = search rules in
+    let flag_three : SFits w64 c.tried-three.result.1 = search rules in
+    let flag_four : SFits w64 c.tried-four.result.1 = search rules in
+    let fits_last : SFits w64 c.either.result = search rules in
+    let fits_front : SFits w64 c.either-2.result = search rules in
+    let fits_all : SFits w64 c.either-3.result = search rules in
+    let raised : pos 0 ≤ℤ c.either-3.result = simp to_z-of_z at z in
+    let halves = c.either-3.ensures.neither raised in
+    let last : pos 0 ≤ℤ c.either.result = simp to_z-of_z at halves.0 in
+    let front : pos 0 ≤ℤ c.either-2.result = simp to_z-of_z at halves.1 in
+    let lasts = c.either.ensures.neither last in
+    let fronts = c.either-2.ensures.neither front in
+    let one : pos 0 ≤ℤ c.tried-one.result.1 = simp to_z-of_z at lasts.0 in
+    let two : pos 0 ≤ℤ c.tried-two.result.1 = simp to_z-of_z at lasts.1 in
+    let three : pos 0 ≤ℤ c.tried-three.result.1 = simp to_z-of_z at fronts.0 in
+    let four : pos 0 ≤ℤ c.tried-four.result.1 = simp to_z-of_z at fronts.1 in
+    let is_one = c.tried-one.ensures.value one in
+    let is_two = c.tried-two.ensures.value two in
+    let is_three = c.tried-three.ensures.value three in
+    let is_four = c.tried-four.ensures.value four in
+    fold_four g.F.Scalar.meaning c.args.first c.args.second c.args.third c.args.fourth c.args.known c.tried-one.result.0 c.tried-two.result.0 c.tried-three.result.0 c.tried-four.result.0
+    (simp to_z-of_z at is_one) (simp to_z-of_z at is_two) (simp to_z-of_z at is_three) (simp to_z-of_z at is_four)
+    ∙ ap (λ (x : ℤ). Ok x) (sym (to_z-of_z w64 c.tried-four.result.0 fits_four))

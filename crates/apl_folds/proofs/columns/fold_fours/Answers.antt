@@ -1,0 +1,33 @@
+use Rattle.std.proofs.Common.{rules, arith, ◌≡◌, ◌≤ℤ◌, ◌<◌, ◌-◌, ◌+◌, ℕ, ℤ, List, pos, length, get_or, drop, ap, sym, ◌∙◌, w64}
+use Rattle.std.proofs.lemmas.Int.{to_z-of_z}
+use mir.Val.{SFits}
+use Rattle.apl_folds.specs.Lines.{fold_by, line_of}
+use Rattle.apl_folds.proofs.Rights.{four_before}
+use Rattle.apl_folds.proofs.Rows.{length-line, line_at}
+use Rattle.apl_folds.proofs.columns.fold_fours.Goals as goal
+
+pub loop-left-preserved : goal.loop-left-preserved
+loop-left-preserved g c =
+    let few : c.loop-left.left - 4 + 4 < c.args.count = omega (arith, c.loop-left.invariant.few) in
+    record {
+      few = omega (arith, c.loop-left.invariant.few);
+      size = search rules;
+      so_far =
+          λ z j h.
+          let line : List ℤ = line_of (pos 0) c.args.numbers.now c.args.axis.now (c.args.at + j) c.args.count in
+          let within : j < length c.args.folds.now = search rules in
+          let here : j < length c.loop-left.folds = search rules in
+          let fits : SFits w64 c.either-flags.result = search rules in
+          let fits_flag : SFits w64 c.take_four-flag.result = search rules in
+          let raised : pos 0 ≤ℤ c.either-flags.result = simp to_z-of_z at z in
+          let both = c.either-flags.ensures.neither raised in
+          let fresh : pos 0 ≤ℤ c.take_four-flag.result = simp to_z-of_z at both.1 in
+          let back : c.loop-left.left - 4 + 4 ≡ c.loop-left.left = omega arith in
+          four_before g.F.Scalar.meaning line (c.loop-left.left - 4) _ _ _ _ (get_or c.loop-left.folds j (pos 0)) _ (omega (arith, few, length-line (pos 0) c.args.numbers.now c.args.axis.now (c.args.at + j) c.args.count))
+          (line_at (pos 0) c.args.numbers.now c.args.axis.now (c.args.at + j) c.args.count (c.loop-left.left - 4) (omega (arith, few)) ∙ sym (c.beside.ensures.numbers j within))
+          (line_at (pos 0) c.args.numbers.now c.args.axis.now (c.args.at + j) c.args.count (c.loop-left.left - 4 + 1) (omega (arith, few)) ∙ sym (c.beside-in-loop-left.ensures.numbers j within))
+          (line_at (pos 0) c.args.numbers.now c.args.axis.now (c.args.at + j) c.args.count (c.loop-left.left - 4 + 2) (omega (arith, few)) ∙ sym (c.beside-in-loop-left-2.ensures.numbers j within))
+          (line_at (pos 0) c.args.numbers.now c.args.axis.now (c.args.at + j) c.args.count (c.loop-left.left - 4 + 3) (omega (arith, few)) ∙ sym (c.beside-in-loop-left-3.ensures.numbers j within))
+          (ap (λ (m : ℕ). fold_by g.F.Scalar.meaning (drop m line)) back ∙ c.loop-left.invariant.so_far both.0 j here)
+          (c.take_four-flag.ensures fresh j here);
+    }
