@@ -14,11 +14,17 @@ fn typed(alloc: Global, line: &str) -> Result<[Event; 2], AllocError> {
     Ok([Event::Line(Bytes::new(bytes)), Event::Steps(1000)])
 }
 
-fn main(rt: HostRuntime) -> anyhow::Result<()> {
-    let alloc = rt.alloc();
+/// The workspace of a session in which a line was typed.
+fn kept(alloc: Global) -> anyhow::Result<Vec<u8>> {
     let mut session = Session::new(alloc, Machine::new(alloc));
     session.drive(&typed(alloc, "TOTAL←+/⍳4")?)?;
     let workspace = save(alloc, session.machine())?;
+    Ok(workspace)
+}
+
+fn main(rt: HostRuntime) -> anyhow::Result<()> {
+    let alloc = rt.alloc();
+    let workspace = kept(alloc)?;
     let mut session = Session::new(alloc, load(alloc, &workspace)?);
     session.drive(&typed(alloc, "2×TOTAL")?)?;
     for line in session.take_output() {
