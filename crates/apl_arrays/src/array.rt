@@ -16,13 +16,25 @@ use std::alloc::{AllocError, AllocFailed, Global};
 use std::marker::Model;
 use std::rc::Rc;
 
-/// How an array is kept: a scalar by itself, any other array by itself or shared with its copies.
+/// How an array is kept: a scalar, or a vector of at most one number, in its place; any other array by itself or shared with its copies.
 #[derive(Drop)]
 pub(crate) enum Kept {
     Num(i64),
     Char(Ch),
+    /// The vector of no number.
+    Empty,
+    /// The vector of this number.
+    Single(i64),
     Own(Dense),
     Dense(Rc<Dense>),
+}
+
+/// Becomes a number in the place of something else, which is let go. It stands apart, since there mostly is a number.
+#[inline(never)]
+fn become_number(kept: &mut Kept, number: i64)
+    ensures { kept.new ≡ Kept.Num number }
+{
+    *kept = Kept::Num(number);
 }
 
 /// A shape, and an element for each index list within it. A scalar takes no memory.
@@ -44,7 +56,7 @@ impl Model for Array {
 impl Array {
     ghost use Rattle.apl_arrays.specs.Cells.{cells_of, cell_at, IsArray, Numbers, Characters};
     ghost use Rattle.apl_arrays.specs.Kept.{arr_of};
-    ghost use Rattle.apl_arrays.specs.Simple.{simple, single, vector, number_of_scalar};
+    ghost use Rattle.apl_arrays.specs.Simple.{simple, single, vector, at_most_one, number_of_scalar};
     ghost use Rattle.apl_arrays.specs.Checks.{limited};
     ghost use Rattle.apl_arrays.specs.Results.{ok_map};
     ghost use Rattle.apl_arrays.specs.Ravels.{items_of};
@@ -66,6 +78,17 @@ impl Array {
         Array::kept(match cell {
             Cell::Num(number) => Kept::Num(number),
             Cell::Char(character) => Kept::Char(character),
+        })
+    }
+
+    /// The vector of this number, or of none. It takes no memory.
+    #[inline]
+    pub fn at_most_one(number: Option<i64>) -> Array
+        ensures { result ≡ at_most_one number }
+    {
+        Array::kept(match number {
+            Some(number) => Kept::Single(number),
+            None => Kept::Empty,
         })
     }
 
@@ -189,6 +212,8 @@ impl Array {
         Lent::at(match &self.kept {
             Kept::Num(number) => Place::Num(number),
             Kept::Char(character) => Place::Char(character),
+            Kept::Empty => Place::Empty,
+            Kept::Single(number) => Place::Single(number),
             Kept::Own(dense) => Place::Dense(dense),
             Kept::Dense(dense) => Place::Dense(dense),
         })
@@ -251,7 +276,8 @@ impl Array {
         }
     }
 
-    /// An equal array. It takes no memory of a scalar or of an array that is [`shared`](Array::into_shared).
+    /// An equal array. It takes no memory of a scalar, of what [`at_most_one`](Array::at_most_one) made or of an array that is
+    /// [`shared`](Array::into_shared).
     #[inline]
     pub fn copy(&self) -> Result<Array, AllocError>
         ensures value { IfOk result (λ copied. copied ≡ self.now) }
@@ -260,6 +286,8 @@ impl Array {
         let kept = match &self.kept {
             Kept::Num(number) => Kept::Num(*number),
             Kept::Char(character) => Kept::Char(*character),
+            Kept::Empty => Kept::Empty,
+            Kept::Single(number) => Kept::Single(*number),
             Kept::Own(dense) => {
                 let _axes = dense.shape();
                 Kept::Own(dense.copy()?)
@@ -272,8 +300,8 @@ impl Array {
         Ok(Array { kept })
     }
 
-    /// The same array, whose copies share its elements. For a scalar, and for an array that is shared already, no memory is asked for. Where
-    /// memory is refused, the array comes back.
+    /// The same array, whose copies share its elements. For a scalar, for what [`at_most_one`](Array::at_most_one) made and for an array that
+    /// is shared already, no memory is asked for. Where memory is refused, the array comes back.
     #[inline]
     pub fn into_shared(self, alloc: Global) -> Result<SharedArray, AllocFailed<Array>>
         ensures ok { IfOk result (λ array. array ≡ self) }
@@ -283,6 +311,8 @@ impl Array {
         let dense = match kept {
             Kept::Num(number) => return Ok(SharedArray::kept(Sharing::Num(number))),
             Kept::Char(character) => return Ok(SharedArray::kept(Sharing::Char(character))),
+            Kept::Empty => return Ok(SharedArray::kept(Sharing::Empty)),
+            Kept::Single(number) => return Ok(SharedArray::kept(Sharing::Single(number))),
             Kept::Dense(dense) => return Ok(SharedArray::kept(Sharing::Dense(dense))),
             Kept::Own(dense) => dense,
         };
@@ -295,13 +325,13 @@ impl Array {
     }
 
     /// Becomes a number, as a scalar. It takes no memory, and a number is written in the place of another.
-    #[inline]
+    #[inline(always)]
     pub fn put_number(&mut self, number: i64)
         ensures { self.new ≡ record { shape = []; items = Numbers (number ∷ []) } }
     {
         match &mut self.kept {
             Kept::Num(kept) => *kept = number,
-            kept => *kept = Kept::Num(number),
+            kept => become_number(kept, number),
         }
     }
 }

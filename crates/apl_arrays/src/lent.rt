@@ -12,6 +12,10 @@ use std::marker::Model;
 pub(crate) enum Place<'a> {
     Num(&'a i64),
     Char(&'a Ch),
+    /// The vector of no number.
+    Empty,
+    /// The vector of this number.
+    Single(&'a i64),
     Dense(&'a Dense),
 }
 
@@ -53,7 +57,7 @@ impl<'a> Lent<'a> {
     {
         match &self.place {
             Place::Num(number) => Some(**number),
-            Place::Char(_) => None,
+            Place::Char(_) | Place::Empty | Place::Single(_) => None,
             // What lies so has axes, and is no scalar.
             Place::Dense(dense) => {
                 let _axes = dense.shape();
@@ -77,6 +81,11 @@ impl<'a> Lent<'a> {
                 let _code = character.code();
                 &[]
             }
+            Place::Empty => &[0],
+            Place::Single(number) => {
+                let _number = **number;
+                &[1]
+            }
             Place::Dense(dense) => dense.shape(),
         }
     }
@@ -99,7 +108,7 @@ impl<'a> Lent<'a> {
         ensures small { length (cells_of self.now.items) ≤ MAX_ELEMENTS }
     {
         match &self.place {
-            Place::Num(number) => {
+            Place::Num(number) | Place::Single(number) => {
                 let _number = **number;
                 Elements::Nums(std::slice::from_ref(*number))
             }
@@ -107,6 +116,7 @@ impl<'a> Lent<'a> {
                 let _code = character.code();
                 Elements::Chars(std::slice::from_ref(*character))
             }
+            Place::Empty => Elements::Nums(&[]),
             Place::Dense(dense) => Elements::new(dense.ravel()),
         }
     }

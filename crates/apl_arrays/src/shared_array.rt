@@ -12,15 +12,20 @@ use std::marker::Model;
 use std::mem;
 use std::rc::Rc;
 
-/// How an array is kept that shares its elements: a scalar by itself, any other where its copies find it too.
+/// How an array is kept that shares its elements: a scalar, or a vector of at most one number, in its place; any other where its copies find
+/// it too.
 #[derive(Drop)]
 pub(crate) enum Sharing {
     Num(i64),
     Char(Ch),
+    /// The vector of no number.
+    Empty,
+    /// The vector of this number.
+    Single(i64),
     Dense(Rc<Dense>),
 }
 
-/// An array whose copies share its elements, so that a copy takes no memory. It is small: what is not a scalar lies elsewhere.
+/// An array whose copies share its elements, so that a copy takes no memory. It is small: what has many elements lies elsewhere.
 #[derive(Drop)]
 pub struct SharedArray {
     kept: Sharing,
@@ -90,6 +95,8 @@ impl SharedArray {
         Lent::at(match &self.kept {
             Sharing::Num(number) => Place::Num(number),
             Sharing::Char(character) => Place::Char(character),
+            Sharing::Empty => Place::Empty,
+            Sharing::Single(number) => Place::Single(number),
             Sharing::Dense(dense) => Place::Dense(dense),
         })
     }
@@ -131,6 +138,8 @@ impl SharedArray {
         let kept = match &self.kept {
             Sharing::Num(number) => Sharing::Num(*number),
             Sharing::Char(character) => Sharing::Char(*character),
+            Sharing::Empty => Sharing::Empty,
+            Sharing::Single(number) => Sharing::Single(*number),
             Sharing::Dense(dense) => {
                 let _axes = dense.shape();
                 Sharing::Dense(dense.clone()?)
@@ -158,6 +167,8 @@ impl SharedArray {
         Array::kept(match kept {
             Sharing::Num(number) => Kept::Num(number),
             Sharing::Char(character) => Kept::Char(character),
+            Sharing::Empty => Kept::Empty,
+            Sharing::Single(number) => Kept::Single(number),
             Sharing::Dense(dense) => Kept::Dense(dense),
         })
     }
@@ -182,6 +193,10 @@ impl SharedArray {
     {
         match &mut self.kept {
             Sharing::Num(kept) if place == 0 => {
+                *kept = number;
+                true
+            }
+            Sharing::Single(kept) if place == 0 => {
                 *kept = number;
                 true
             }

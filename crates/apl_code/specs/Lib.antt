@@ -2,3 +2,4 @@ pub mod Names
 pub mod Taken
 pub mod Instr
 pub mod Code
+pub mod Operations

@@ -6,10 +6,10 @@ ghost use Rattle.apl_folds.specs.Lines.{fold_by, folds_beside, AreFolds, AreFold
 
 use crate::line::{fold_strided, row};
 use apl_arrays::{Axis, Stop, along};
-use apl_scalar::{Scalar, either};
+use apl_scalar::{Scalar, either, grow};
 
 /// How many lines are folded together.
-const BLOCK: usize = 512;
+const BLOCK: usize = 256;
 
 /// Takes a number more into each fold, before the numbers that are in it. It answers a flag, which is not negative only if all are values.
 #[inline(never)]
@@ -155,14 +155,14 @@ fn push_each<F: Scalar>(
     Ok(())
 }
 
-/// Appends the folds of a block of lines that begin side by side, from one to another. Only where a flag is raised is there a test at each.
+/// Appends the folds of a block of lines that begin side by side, from one to another, where they are made. Only where a flag is raised are they
+/// taken back, and is there a test at each.
 fn push_block<F: Scalar>(
     numbers: &[i64],
     axis: &Axis,
     from: usize,
     till: usize,
     count: usize,
-    room: &mut [i64; BLOCK],
     out: &mut Vec<i64>,
 ) -> Result<(), Stop>
     requires order { from < till }
@@ -170,11 +170,12 @@ fn push_block<F: Scalar>(
     requires lines { (p : ℕ) → from ≤ p → p < till → IsLine (length numbers.now) axis.now p count }
     ensures { Appends out.old.items out.new.items (folds_beside F.meaning numbers.now axis.now count from till) result }
 {
-    let folds = &mut room[..till - from];
+    let before = grow(out, till - from)?;
+    let folds = out.as_mut_slice().split_at_mut(before).1;
     if fold_block::<F>(numbers, axis, from, count, folds) {
-        out.extend_from_slice(folds)?;
         return Ok(());
     }
+    out.truncate(before);
     push_each::<F>(numbers, axis, from, till, count, out)
 }
 
@@ -191,11 +192,10 @@ pub(crate) fn push_columns<F: Scalar>(
     requires lines { (p : ℕ) → first ≤ p → p < till → IsLine (length numbers.now) axis.now p count }
     ensures { Appends out.old.items out.new.items (folds_beside F.meaning numbers.now axis.now count first till) result }
 {
-    let mut room = [0i64; BLOCK];
     let mut from = first;
     while from < till {
         let next = from + (till - from).min(BLOCK);
-        push_block::<F>(numbers, axis, from, next, count, &mut room, out)?;
+        push_block::<F>(numbers, axis, from, next, count, out)?;
         from = next;
     }
     Ok(())

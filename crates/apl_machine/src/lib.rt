@@ -10,6 +10,7 @@ mod ending;
 mod entering;
 mod executing;
 mod frequent;
+mod light;
 mod locals;
 mod machine;
 mod objects;

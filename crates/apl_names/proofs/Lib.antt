@@ -13,6 +13,7 @@ pub mod ScopeAnswers
 pub mod GlobalKinds
 pub mod Swaps
 pub mod Binds
+pub mod Places
 pub mod Bindable
 pub mod Deciding
 pub mod Again

@@ -7,7 +7,8 @@ ghost use Rattle.apl_names.specs.Maps.{entry_at, kinds_in, last_map};
 ghost use Rattle.apl_names.specs.Slots.{IsSound, held_of, maps_of, name_at};
 
 use crate::binding::Binding;
-use crate::slots::{SlotContent, Symbols, content_beneath};
+use crate::hidden::content_beneath;
+use crate::slots::{SlotContent, Symbols};
 use apl_symbols::Name;
 use std::alloc::{AllocError, Global};
 use std::collections::BTreeMap;

@@ -5,6 +5,7 @@ mod binding;
 mod bound;
 mod function;
 mod global_scope;
+mod hidden;
 mod names;
 mod ready;
 mod recent;

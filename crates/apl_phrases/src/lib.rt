@@ -19,7 +19,7 @@ pub use calling::{FunctionCalled, called};
 pub use effect::{Deed, Effect};
 pub use execute::executed;
 pub use frequent::{
-    NumberAssigned, assigned, assigned_indexed, given, number_assigned, number_given, numbers_kept,
+    NumberAssigned, assigned, assigned_indexed, given, number_assigned, number_given, number_kept,
     value_read,
 };
 pub use lines::said;

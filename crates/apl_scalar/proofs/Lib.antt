@@ -1,5 +1,6 @@
 pub mod Signs
 pub mod Operands
+pub mod Rooms
 pub mod Extension
 pub mod Whole
 pub mod Rests

@@ -1,5 +1,5 @@
 -- The elements of an operand by the places of the result.
-use Rattle.std.specs.Prelude.{◌≡◌, ◌≢◌, ◌≤◌, ◌<◌, ℕ, ℤ, pos, Bool, cond, nat_eq, List, [], ◌∷◌, length, slice_index_or, replicate, SomeIndex, Result, Ok, IsErr}
+use Rattle.std.specs.Prelude.{◌≡◌, ◌≢◌, ◌≤◌, ◌<◌, ℕ, ℤ, pos, Bool, cond, nat_eq, List, [], ◌∷◌, length, slice_index_or, SomeIndex, Result, Ok, IsErr}
 use Rattle.std.specs.List.{range_with_len}
 use Rattle.apl_faults.specs.declared.fault.Fault.{Fault}
 use Rattle.apl_arrays.specs.Cells.{Items, Numbers, Characters}
@@ -35,11 +35,6 @@ IsEach x zs = (k : ℕ) → k < length zs → slice_index_or zs k (pos 0) ≡ x
 abbrev pub Covers : Operand → ℕ → Type 0
 Covers (One x) n = Unit {0}
 Covers (Many xs) n = n ≤ length xs.now
-
--- a block of the one number
-abbrev pub spread_of : Operand → List ℤ
-spread_of (One x) = replicate 512 x
-spread_of (Many xs) = replicate 512 (pos 0)
 
 -- the operand stands for an array's elements, of which a single one serves at each place
 abbrev pub Shows : Operand → Items → Type 0

@@ -1,11 +1,13 @@
 // A scalar function at each place, block by block.
 ghost use Rattle.std.specs.Prelude.{◌≡◌, ◌≤◌, ◌+◌, ◌-◌, length, IsTrue, IsFalse};
 ghost use Rattle.apl_arrays.specs.Answers.{Answers, Appends};
+ghost use Rattle.apl_scalar.specs.declared.operand.Operand.TheVariants.{One, Many};
 ghost use Rattle.apl_scalar.specs.Operands.{Covers, values_from, AreValues, SomeHasNone};
 ghost use Rattle.apl_scalar.specs.inside.Pieces.{Serves};
 
 use crate::function::Scalar;
 use crate::operand::{BLOCK, Blocks, Operand};
+use crate::room::grow;
 use apl_arrays::Stop;
 use std::alloc::Global;
 
@@ -52,14 +54,14 @@ fn fill_block<F: Scalar>(x: Operand, y: Operand, a: &[i64], b: &[i64], out: &mut
     }
 }
 
-/// Appends the values for the places of a block. Only where one has none is there a test at each.
+/// Appends the values for the places of a block, which are written where they stay. Only where one has none are they taken back, and is there a
+/// test at each.
 fn push_block<F: Scalar>(
     out: &mut Vec<i64>,
     a: &Blocks,
     b: &Blocks,
     from: usize,
     till: usize,
-    room: &mut [i64; BLOCK],
 ) -> Result<(), Stop>
     requires a { Covers a.now.operand till }
     requires b { Covers b.now.operand till }
@@ -67,37 +69,77 @@ fn push_block<F: Scalar>(
     requires few { till ≤ from + BLOCK }
     ensures { Appends out.old.items out.new.items (values_from F.meaning a.now.operand b.now.operand from (till - from)) result }
 {
-    let values = &mut room[..till - from];
     let x = a.piece(from, till);
     let y = b.piece(from, till);
+    let before = grow(out, till - from)?;
+    let values = out.as_mut_slice().split_at_mut(before).1;
     if fill_block::<F>(a.operand, b.operand, x, y, values) {
-        out.extend_from_slice(values)?;
         return Ok(());
     }
+    out.truncate(before);
     push_tested::<F>(out, a.operand, b.operand, from, till)
 }
 
 /// Appends the values for the places below a count, block by block.
 fn push_blocks<F: Scalar>(
     out: &mut Vec<i64>,
-    a: Operand,
-    b: Operand,
+    a: &Blocks,
+    b: &Blocks,
     count: usize,
 ) -> Result<(), Stop>
+    requires a { Covers a.now.operand count }
+    requires b { Covers b.now.operand count }
+    ensures { Appends out.old.items out.new.items (values_from F.meaning a.now.operand b.now.operand 0 count) result }
+{
+    let mut from = 0usize;
+    while from < count {
+        let till = from + (count - from).min(BLOCK);
+        push_block::<F>(out, a, b, from, till)?;
+        from = till;
+    }
+    Ok(())
+}
+
+/// The same where each first number is this one.
+fn push_by_first<F: Scalar>(out: &mut Vec<i64>, x: i64, b: &[i64], count: usize) -> Result<(), Stop>
+    requires { count ≤ length b.now }
+    ensures { Appends out.old.items out.new.items (values_from F.meaning (One x) (Many b.entry) 0 count) result }
+{
+    let spread = [x; BLOCK];
+    push_blocks::<F>(out, &Blocks::one(x, &spread), &Blocks::many(b), count)
+}
+
+/// The same where each second number is this one.
+fn push_by_second<F: Scalar>(
+    out: &mut Vec<i64>,
+    a: &[i64],
+    y: i64,
+    count: usize,
+) -> Result<(), Stop>
+    requires { count ≤ length a.now }
+    ensures { Appends out.old.items out.new.items (values_from F.meaning (Many a.entry) (One y) 0 count) result }
+{
+    let spread = [y; BLOCK];
+    push_blocks::<F>(out, &Blocks::many(a), &Blocks::one(y, &spread), count)
+}
+
+/// Appends the values for the places below a count. A number that serves at each place is laid out for a block, and many are read where they
+/// stand.
+fn push_all<F: Scalar>(out: &mut Vec<i64>, a: Operand, b: Operand, count: usize) -> Result<(), Stop>
     requires a { Covers a count }
     requires b { Covers b count }
     ensures { Appends out.old.items out.new.items (values_from F.meaning a.entry b.entry 0 count) result }
 {
-    let a = Blocks::new(a);
-    let b = Blocks::new(b);
-    let mut room = [0i64; BLOCK];
-    let mut from = 0usize;
-    while from < count {
-        let till = from + (count - from).min(BLOCK);
-        push_block::<F>(out, &a, &b, from, till, &mut room)?;
-        from = till;
+    match a {
+        Operand::One(x) => match b {
+            Operand::One(_) => push_tested::<F>(out, a, b, 0, count),
+            Operand::Many(y) => push_by_first::<F>(out, x, y, count),
+        },
+        Operand::Many(x) => match b {
+            Operand::One(y) => push_by_second::<F>(out, x, y, count),
+            Operand::Many(y) => push_blocks::<F>(out, &Blocks::many(x), &Blocks::many(y), count),
+        },
     }
-    Ok(())
 }
 
 /// The values for the places below a count, or the first fault.
@@ -116,6 +158,6 @@ pub(crate) fn apply_all<F: Scalar>(
         push_tested::<F>(&mut out, a, b, 0, count)?;
         return Ok(out);
     }
-    push_blocks::<F>(&mut out, a, b, count)?;
+    push_all::<F>(&mut out, a, b, count)?;
     Ok(out)
 }

@@ -17,6 +17,7 @@ mod overflow;
 mod powers;
 mod products;
 mod reciprocals;
+mod room;
 mod small_residues;
 
 pub use apply::{dyadic, monadic, number_of_two};
@@ -29,3 +30,4 @@ pub use function::{Dyadic, Monadic, Scalar, Swapped};
 pub use logic::{And, Connective, Logical, Nand, Nor, Or};
 pub use overflow::{either, wider, widest};
 pub use powers::Power;
+pub use room::grow;

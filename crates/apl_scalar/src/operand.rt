@@ -1,9 +1,10 @@
 // The numbers of an operand by the places of the result.
-ghost use Rattle.std.specs.Prelude.{◌≡◌, ◌<◌, ◌≤◌, ◌+◌, ◌-◌, ℕ, length, slice_index_or, slice_range, pos};
-ghost use Rattle.apl_scalar.specs.Operands.{number_at, Covers, spread_of};
+ghost use Rattle.std.specs.Prelude.{◌≡◌, ◌<◌, ◌≤◌, ◌+◌, ◌-◌, ℕ, ℤ, length, slice_index_or, slice_range, pos, replicate};
+ghost use Rattle.apl_scalar.specs.declared.operand.Operand.TheVariants.{One, Many};
+ghost use Rattle.apl_scalar.specs.Operands.{number_at, Covers};
 
 /// How many values are made without a test at each.
-pub(crate) const BLOCK: usize = 512;
+pub(crate) const BLOCK: usize = 256;
 
 /// The numbers of an operand: one that serves at each place of the result, or one for each place.
 #[derive(Clone, Copy)]
@@ -36,26 +37,37 @@ fn between(numbers: &[i64], from: usize, till: usize) -> &[i64]
 }
 
 /// The numbers of an operand by blocks of consecutive places.
-#[derive(Drop)]
+#[derive(Clone, Copy)]
 pub(crate) struct Blocks<'a> {
     pub(crate) operand: Operand<'a>,
-    spread: [i64; BLOCK],
-    ghost is_spread: { spread ≡ spread_of operand },
+    spread: &'a [i64],
+    ghost is_spread: { (x : ℤ) → operand ≡ One x → spread.now ≡ replicate 256 x },
 }
 
 impl<'a> Blocks<'a> {
-    pub(crate) fn new(operand: Operand<'a>) -> Blocks<'a>
-        ensures { result.operand ≡ operand.entry }
+    /// Those of one number, which is laid out for a block.
+    pub(crate) fn one(number: i64, spread: &'a [i64; BLOCK]) -> Blocks<'a>
+        requires { spread.now ≡ replicate 256 number }
+        ensures { result.operand ≡ One number }
     {
-        let spread = match operand {
-            Operand::One(number) => [number; BLOCK],
-            Operand::Many(_) => [0; BLOCK],
-        };
-        Blocks { operand, spread }
+        Blocks {
+            operand: Operand::One(number),
+            spread,
+        }
+    }
+
+    /// Those of many.
+    pub(crate) fn many(numbers: &'a [i64]) -> Blocks<'a>
+        ensures { result.operand ≡ Many numbers.entry }
+    {
+        Blocks {
+            operand: Operand::Many(numbers),
+            spread: numbers,
+        }
     }
 
     /// The numbers for the places from one to another.
-    pub(crate) fn piece(&self, from: usize, till: usize) -> &[i64]
+    pub(crate) fn piece(&self, from: usize, till: usize) -> &'a [i64]
         requires covers { Covers self.now.operand till }
         requires order { from ≤ till }
         requires few { till ≤ from + BLOCK }
