@@ -11,6 +11,7 @@ pub mod Totals
 pub mod Swings
 pub mod LastTwo
 pub mod Associative
+pub mod InQuarters
 pub mod Faults
 pub mod ByPlaces
 pub mod Whole

@@ -5,9 +5,10 @@ ghost use Rattle.apl_scalar.specs.Functions.{dyadic_of};
 ghost use Rattle.apl_folds.specs.Folds.{folded, identity};
 ghost use Rattle.apl_folds.specs.Lines.{fold_by};
 
+use crate::quarters::fold_chains;
 use crate::sums::sum_row;
 use apl_faults::Fault;
-use apl_scalar::{ByFunction, Dyadic, Scalar};
+use apl_scalar::{ByFunction, Dyadic, Maximum, Minimum, Scalar};
 
 /// The fold of no number, which [`Dyadic::Nand`] and [`Dyadic::Nor`] have not.
 pub(crate) fn identity_of(function: Dyadic) -> Result<i64, Fault>
@@ -85,6 +86,8 @@ pub(crate) fn fold_some(function: Dyadic, numbers: &[i64]) -> Result<i64, Fault>
 {
     match function {
         Dyadic::Plus => sum_row(numbers),
+        Dyadic::Maximum => fold_chains::<Maximum>(numbers),
+        Dyadic::Minimum => fold_chains::<Minimum>(numbers),
         _ => function.apply(Row { numbers }),
     }
 }

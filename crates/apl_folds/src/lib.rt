@@ -12,6 +12,7 @@ mod kept;
 mod line;
 mod lines;
 mod order;
+mod quarters;
 mod reduction;
 mod running;
 mod scanning;
