@@ -8,8 +8,8 @@ use crate::line::{fold_strided, row};
 use apl_arrays::{Axis, Stop, along};
 use apl_scalar::{Scalar, either, grow};
 
-/// How many lines are folded together.
-const BLOCK: usize = 256;
+/// How many lines are folded together: so many that their numbers lie in long pieces, and their folds still stay in cache.
+const BLOCK: usize = 1024;
 
 /// Takes a number more into each fold, before the numbers that are in it. It answers a flag, which is not negative only if all are values.
 #[inline(never)]
