@@ -13,3 +13,4 @@ pub mod Rounded
 pub mod LastFirst
 pub mod Lessened
 pub mod Encodings
+pub mod Entries

@@ -2,6 +2,7 @@
 #![tactic(auto)]
 
 mod counting;
+mod dealing;
 mod decoding;
 mod dividing;
 mod encoding;
