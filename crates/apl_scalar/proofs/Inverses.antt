@@ -3,7 +3,7 @@ use Rattle.std.proofs.Common.{◌≡◌, ℕ, ◌+◌, ◌-◌, ◌*◌, ◌/◌
 use Rattle.std.proofs.Math.Nat.{mul_assoc, mul_comm, add-mul, mul-add, mul-le-mul_left, mul-le-mul_right, mod-eq_of_lt, add-mul-mod_self_right}
 
 -- a product with a reciprocal, by its high half q and its low half e
-pub parts : (u m q e d : ℕ) → u * m ≡ q * 2 ^ 64 + e → u * (m * d) ≡ q * d * 2 ^ 64 + e * d
+parts : (u m q e d : ℕ) → u * m ≡ q * 2 ^ 64 + e → u * (m * d) ≡ q * d * 2 ^ 64 + e * d
 parts u m q e d h =
     sym (mul_assoc u m d) ∙ ap (λ p. p * d) h ∙ add-mul (q * 2 ^ 64) e d ∙ ap (λ p. p + e * d) (turn q d)
   where
@@ -29,7 +29,7 @@ close u m q e d h s t o l =
     let g : (u + 1) * d ≡ u * d + 1 * d = add-mul u 1 d in
     omega arith
 
-pub halves : (n : ℕ) → n ≡ n / 2 ^ 64 * 2 ^ 64 + n % 2 ^ 64
+halves : (n : ℕ) → n ≡ n / 2 ^ 64 * 2 ^ 64 + n % 2 ^ 64
 halves n = omega arith
 
 pub quotient_below : (u m d : ℕ) → m * d ≤ 2 ^ 64 → u * m / 2 ^ 64 * d ≤ u

@@ -12,3 +12,4 @@ pub mod LowHalves
 pub mod Inverses
 pub mod Turns
 pub mod Multiples
+pub mod Exact

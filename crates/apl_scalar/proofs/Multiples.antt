@@ -1,32 +1,13 @@
--- Exact quotients by a product with a reciprocal.
-use Rattle.std.proofs.Common.{◌≡◌, ℕ, zero, suc, ℤ, pos, negsuc, neg_ℤ, ◌≤ℤ◌, ◌<ℤ◌, ◌+◌, ◌*◌, ◌/◌, ◌%◌, ◌^◌, ◌<◌, ◌≤◌, Ok, Err, cond, FitsSigned, ap, sym, ◌∙◌, arith}
-use Rattle.std.specs.Prelude.{bit_xor, unsigned_abs, int_rem, int_div}
+-- Exact quotients by their multiples.
+use Rattle.std.proofs.Common.{◌≡◌, ℕ, zero, suc, ℤ, pos, negsuc, neg_ℤ, ◌≤ℤ◌, ◌<ℤ◌, ◌*◌, ◌/◌, ◌%◌, ◌<◌, Ok, Err, cond, FitsSigned, ap, sym, ◌∙◌, arith}
+use Rattle.std.specs.Prelude.{unsigned_abs, int_rem, int_div}
 use Rattle.std.specs.Int.{w64}
-use Rattle.std.proofs.Math.Nat.{mul-add, mul-le-mul_left, mul-le-mul_right, mul-mod_left, mul-div_cancel}
+use Rattle.std.proofs.Math.Nat.{mul-mod_left, mul-div_cancel}
 use Rattle.std.proofs.lemmas.Bool.{ne_eqb}
 use Rattle.std.proofs.lemmas.Int.{ints}
-use Rattle.std.proofs.lemmas.Nat.{and_le_l, and_le_r}
-use Rattle.std.specs.Int.Bits.{xor_add_and}
 use Rattle.apl_faults.specs.declared.fault.Fault.TheVariants.{Domain}
 use Rattle.apl_scalar.specs.Functions.{in_range, int_eq, quotient}
-use Rattle.apl_scalar.proofs.Inverses.{parts, halves}
 use Rattle.apl_scalar.proofs.Signs.{in_range-fits}
-
--- the quotient times the divisor is not much more than the number
-product_fits : (u m q e d : ℕ) → u * m ≡ q * 2 ^ 64 + e → u ≤ 2 ^ 63 → d < 2 ^ 63 → m * d ≤ 2 ^ 64 + d → q * d < 2 ^ 64
-product_fits u m q e d h s t l =
-    let p : u * (m * d) ≡ q * d * 2 ^ 64 + e * d = parts u m q e d h in
-    let r : u * (m * d) ≤ u * (2 ^ 64 + d) = mul-le-mul_left u l in
-    let a : u * (2 ^ 64 + d) ≡ u * 2 ^ 64 + u * d = mul-add u (2 ^ 64) d in
-    let b : u * d ≤ 2 ^ 63 * d = mul-le-mul_right d s in
-    omega arith
-
-pub multiple_fits : (u m d : ℕ) → u ≤ 2 ^ 63 → d < 2 ^ 63 → m * d ≤ 2 ^ 64 + d → u * m / 2 ^ 64 * d < 2 ^ 64
-multiple_fits u m d s t l = product_fits u m (u * m / 2 ^ 64) (u * m % 2 ^ 64) d (halves (u * m)) s t l
-
--- numbers that differ in no bit
-same_bits : (a b : ℕ) → bit_xor a b ≡ 0 → a ≡ b
-same_bits a b h = omega (arith, xor_add_and a b, and_le_l a b, and_le_r a b)
 
 by_positive : (x : ℤ) (n : ℕ) → quotient x (pos (suc n)) ≡ cond (int_eq (int_rem x (pos (suc n))) (pos 0)) (in_range (int_div x (pos (suc n)))) (Err Domain)
 by_positive x n =
@@ -50,12 +31,12 @@ exact_down m q n h f =
     ∙ in_range-fits (neg_ℤ (pos q)) f
 
 -- a magnitude that is a multiple of the divisor gives the quotient with its sign
-pub exact_value : (x : ℤ) (d q : ℕ) (v : ℤ) → 0 < d → FitsSigned w64 v → bit_xor (unsigned_abs x) (q * d) ≡ 0 → (pos 0 ≤ℤ x → v ≡ pos q) → (x <ℤ pos 0 → v ≡ neg_ℤ (pos q)) →
+pub exact_value : (x : ℤ) (d q : ℕ) (v : ℤ) → 0 < d → FitsSigned w64 v → unsigned_abs x ≡ q * d → (pos 0 ≤ℤ x → v ≡ pos q) → (x <ℤ pos 0 → v ≡ neg_ℤ (pos q)) →
     quotient x (pos d) ≡ Ok v
 exact_value x zero q v o f h up down = absurd (omega arith)
 exact_value (pos m) (suc n) q v o f h up down =
     let e : v ≡ pos q = up (omega (arith, ints)) in
-    exact_up m q n (same_bits m (q * suc n) h) (rw (sym e) f) ∙ ap (λ z. Ok z) (sym e)
+    exact_up m q n h (rw (sym e) f) ∙ ap (λ z. Ok z) (sym e)
 exact_value (negsuc m) (suc n) q v o f h up down =
     let e : v ≡ neg_ℤ (pos q) = down (omega (arith, ints)) in
-    exact_down m q n (same_bits (suc m) (q * suc n) h) (rw (sym e) f) ∙ ap (λ z. Ok z) (sym e)
+    exact_down m q n h (rw (sym e) f) ∙ ap (λ z. Ok z) (sym e)

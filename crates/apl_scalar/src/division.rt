@@ -4,8 +4,9 @@ ghost use Rattle.apl_scalar.specs.declared.function.Monadic.TheVariants as one;
 ghost use Rattle.apl_scalar.specs.declared.function.Dyadic.TheVariants as two;
 ghost use Rattle.apl_scalar.specs.Functions.{monadic_of, dyadic_of, quotient, residue};
 
+use crate::exact_quotients::fill_quotients;
 use crate::function::Scalar;
-use crate::reciprocals::{fill_left, fill_quotients};
+use crate::reciprocals::fill_left;
 use crate::small_residues::{are_small, begin_small, fill_small};
 use apl_faults::Fault;
 
@@ -77,7 +78,7 @@ impl Scalar for Quotient {
         exact_quotient(x, y)
     }
 
-    // Where the quotients by one number are exact, its reciprocal makes them without a division.
+    // Where the quotients by one number are exact, its inverse makes them without a division.
     #[inline(always)]
     fn fill_by_second(a: &[i64], y: i64, b: &[i64], out: &mut [i64]) -> bool {
         if 1 < y && fill_quotients(a, y as u64, out) {

@@ -9,6 +9,7 @@ mod comparison;
 mod complements;
 mod dispatch;
 mod division;
+mod exact_quotients;
 mod examples;
 mod function;
 mod logic;
