@@ -1,19 +1,22 @@
 -- Products of each number with each of others that all fit.
-use Rattle.std.proofs.Common.{◌≡◌, ⊎_elim, ℕ, ℤ, pos, ◌*ℤ◌, ◌+◌, ◌-◌, ◌*◌, ◌/◌, ◌%◌, ◌<◌, ◌≤◌, List, ◌++◌, length, get_or, Ok, FitsSigned, ap, sym, ◌∙◌, arith, w64}
+use Rattle.std.proofs.Common.{◌≡◌, ⊎_elim, ℕ, ℤ, pos, ◌*ℤ◌, ◌+◌, ◌-◌, ◌*◌, ◌/◌, ◌%◌, ◌<◌, ◌≤◌, List, ◌++◌, length, take, drop, replicate, set, get_or, Ok, FitsSigned, ap, sym, ◌∙◌, arith, w64}
 use Rattle.std.proofs.lemmas.Bool.{cases_lt}
+use Rattle.std.proofs.lemmas.Grind.{common_steps}
 use Rattle.std.proofs.lemmas.Int.{unsigned_abs-mul}
-use Rattle.std.proofs.lemmas.List.{length-append, get_or_append_left, get_or-append_right}
+use Rattle.std.proofs.lemmas.List.{length-append, get_or_append_left, get_or-append_right, get_or-replicate, get_or-set_other}
 use Rattle.std.proofs.lemmas.Nat.{mul-add-lt}
 use Rattle.std.proofs.Math.Nat.{div-add-mod}
 use Rattle.apl_arrays.proofs.Nth.{row_below, rest_below}
 use Rattle.apl_scalar.specs.declared.function.Dyadic.TheVariants as two
 use Rattle.apl_scalar.specs.Functions.{dyadic_of}
 use Rattle.apl_scalar.proofs.Signs.{in_range-fits}
+use Rattle.apl_scalar.proofs.Exact.{each_step}
+use Rattle.apl_scalar.proofs.Rooms.{room_size, written_over}
 use Rattle.apl_scalar.proofs.Whole.{all_values}
 use Rattle.apl_folds.proofs.Totals.{fits_below}
 use Rattle.apl_operators.specs.Places.{crossed, crossing}
 use Rattle.apl_operators.specs.inside.SumsOfProducts.{FitTogether}
-use Rattle.apl_operators.specs.inside.SmallProducts.{AreProducts}
+use Rattle.apl_operators.specs.inside.SmallProducts.{AreProducts, IsMultiplied}
 
 pub product_fits : (xs ys : List ℤ) (i k : ℕ) → FitTogether xs ys 1 → FitsSigned w64 (get_or xs i (pos 0) *ℤ get_or ys k (pos 0))
 product_fits xs ys i k small =
@@ -58,3 +61,27 @@ products_cross xs ys zs small products =
   where
     place : (r c : ℕ) → r ≡ (r / c) * c + r % c
     place r c = omega (arith, div-add-mod r c)
+
+-- each number before a place is multiplied, and those from it on are as they were
+abbrev pub IsSoFar : List ℤ → List ℤ → List ℤ → ℕ → Type 0
+IsSoFar was ys now i = ((k : ℕ) → k < i → get_or now k (pos 0) ≡ get_or was k (pos 0) *ℤ get_or ys k (pos 0)) × ((k : ℕ) → i ≤ k → get_or now k (pos 0) ≡ get_or was k (pos 0))
+
+-- one more is
+pub one_more : (was ys now : List ℤ) (i : ℕ) (v : ℤ) → i < length now → IsSoFar was ys now i → v ≡ get_or now i (pos 0) *ℤ get_or ys i (pos 0) → IsSoFar was ys (set now i v) (i + 1)
+one_more was ys now i v l before e = (
+  each_step (λ k z. z ≡ get_or was k (pos 0) *ℤ get_or ys k (pos 0)) i now v l before.0 (e ∙ ap (λ (z : ℤ). z *ℤ get_or ys i (pos 0)) (before.1 i (omega arith))),
+  λ k h. get_or-set_other now i k v (pos 0) (λ m. omega arith) ∙ before.1 k (omega arith),
+)
+
+-- a number that is repeated behind a list, and multiplied there
+pub multiplied : (x : ℤ) (ys old grown front back filled : List ℤ) (before len : ℕ) → grown ≡ old ++ replicate (length ys) x → before ≡ length old → front ≡ take before grown → back ≡ drop before grown → length filled ≡ length back → len ≡ length grown →
+    ((k : ℕ) → k < length ys → get_or filled k (pos 0) ≡ get_or back k (pos 0) *ℤ get_or ys k (pos 0)) → IsMultiplied x ys old (take len (front ++ filled ++ drop (length (front ++ filled)) grown))
+multiplied x ys old grown front back filled before len g b f d s l each =
+    let room : back ≡ replicate (length ys) x = grind (arith, common_steps) in
+    let size : length filled ≡ length ys = grind (arith, common_steps) in
+    record {
+      row = filled;
+      size = size;
+      is = written_over old grown front filled x (length ys) before len g b f size l;
+      each = λ k h. each k h ∙ ap (λ (z : ℤ). z *ℤ get_or ys k (pos 0)) (ap (λ (zs : List ℤ). get_or zs k (pos 0)) room ∙ get_or-replicate (length ys) k x (pos 0) h);
+    }

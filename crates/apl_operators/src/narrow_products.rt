@@ -39,7 +39,7 @@ struct Sums {
 
 /// The product. Told that both numbers have 32 bits, the compiler multiplies two pairs at once.
 #[inline(always)]
-fn narrow_times(x: i64, y: i64) -> i64
+pub(crate) fn narrow_times(x: i64, y: i64) -> i64
     requires x { unsigned_abs x < 2 ^ 31 }
     requires y { unsigned_abs y < 2 ^ 31 }
     ensures { result ≡ x *ℤ y }

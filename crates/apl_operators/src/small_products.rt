@@ -1,42 +1,92 @@
 // Outer products of numbers so small that no product leaves the range.
-ghost use Rattle.std.specs.Prelude.{◌≡◌, ◌<◌, ◌*◌, ◌^◌, ◌*ℤ◌, ℕ, FitsSigned, length, slice_index_or, pos, Ok, IfOk, IfSome};
+ghost use Rattle.std.specs.Prelude.{◌≡◌, ◌<◌, ◌*◌, ◌^◌, ◌*ℤ◌, ◌++◌, ℕ, FitsSigned, length, replicate, slice_index_or, unsigned_abs, pos, Ok, IfOk, IfSome, IsTrue, OnOk};
 ghost use Rattle.std.specs.Int.{w64};
 ghost use Rattle.apl_scalar.specs.declared.function.Dyadic.TheVariants as two;
 ghost use Rattle.apl_scalar.specs.Functions.{dyadic_of};
 ghost use Rattle.apl_operators.specs.Places.{crossing};
 ghost use Rattle.apl_operators.specs.inside.SumsOfProducts.{FitTogether};
-ghost use Rattle.apl_operators.specs.inside.SmallProducts.{AreProducts};
+ghost use Rattle.apl_operators.specs.inside.NarrowProducts.{AreNarrow};
+ghost use Rattle.apl_operators.specs.inside.SmallProducts.{AreProducts, IsMultiplied};
 
-use crate::sums_of_products::fit_together;
+use crate::narrow_products::narrow_times;
+use crate::sums_of_products::{are_narrow, fit_together};
 use apl_scalar::widest;
 use std::alloc::{AllocError, Global};
 
-/// A row of more numbers than this is not made at once, since it would not stay in the nearest memory until it is appended.
+/// A row of more numbers than this is not made at once, since it would not stay in the nearest memory until it is multiplied.
 const LONG: usize = 2048;
 
-/// Writes the product of a number with each of others.
+/// Appends a number so many times, each to be written over, and gives where the first stands.
+#[inline(always)]
+fn repeat(out: &mut Vec<i64>, x: i64, count: usize) -> Result<usize, AllocError>
+    ensures place { IfOk result (λ before. before ≡ length out.old.items) }
+    ensures repeated { OnOk result (out.new.items ≡ out.old.items ++ replicate count x) }
+{
+    let before = out.len();
+    let Some(all) = before.checked_add(count) else {
+        return Err(AllocError);
+    };
+    out.resize(all, x)?;
+    Ok(before)
+}
+
+/// Multiplies numbers by others, each by that at its place.
 #[inline(never)]
-fn multiply(x: i64, ys: &[i64], products: &mut [i64])
+fn multiply(products: &mut [i64], ys: &[i64])
     requires size { length products.old ≡ length ys.now }
-    requires fits { (k : ℕ) → k < length ys.now → FitsSigned w64 (x *ℤ slice_index_or ys.now k (pos 0)) }
-    ensures { (k : ℕ) → k < length ys.now → slice_index_or products.new k (pos 0) ≡ x *ℤ slice_index_or ys.now k (pos 0) }
+    requires fits { (k : ℕ) → k < length ys.now → FitsSigned w64 (slice_index_or products.old k (pos 0) *ℤ slice_index_or ys.now k (pos 0)) }
+    ensures { (k : ℕ) → k < length ys.now → slice_index_or products.new k (pos 0) ≡ slice_index_or products.old k (pos 0) *ℤ slice_index_or ys.now k (pos 0) }
 {
     for k in 0..ys.len() {
-        products[k] = x * ys[k];
+        products[k] = products[k] * ys[k];
     }
 }
 
+/// The same of numbers of 32 bits, two products at once. Both are read where they stand: of one number that meets a whole row the compiler
+/// forgets, before the loop, that it has 32 bits.
+#[inline(never)]
+fn multiply_narrow(products: &mut [i64], ys: &[i64])
+    requires size { length products.old ≡ length ys.now }
+    requires products { (k : ℕ) → k < length ys.now → unsigned_abs (slice_index_or products.old k (pos 0)) < 2 ^ 31 }
+    requires ys { AreNarrow ys.now }
+    ensures { (k : ℕ) → k < length ys.now → slice_index_or products.new k (pos 0) ≡ slice_index_or products.old k (pos 0) *ℤ slice_index_or ys.now k (pos 0) }
+{
+    for k in 0..ys.len() {
+        products[k] = narrow_times(products[k], ys[k]);
+    }
+}
+
+/// Appends the products of a number with each of others.
+fn push_products(out: &mut Vec<i64>, x: i64, ys: &[i64], narrow: bool) -> Result<(), AllocError>
+    requires fits { (k : ℕ) → k < length ys.now → FitsSigned w64 (x *ℤ slice_index_or ys.now k (pos 0)) }
+    requires narrow { IsTrue narrow → (unsigned_abs x < 2 ^ 31) × AreNarrow ys.now }
+    ensures { OnOk result (IsMultiplied x ys.now out.old.items out.new.items) }
+{
+    let before = repeat(out, x, ys.len())?;
+    let products = out.as_mut_slice().split_at_mut(before).1;
+    if narrow {
+        multiply_narrow(products, ys);
+        return Ok(());
+    }
+    multiply(products, ys);
+    Ok(())
+}
+
 /// The products of each number with each of others.
-fn multiply_each(alloc: Global, xs: &[i64], ys: &[i64]) -> Result<Vec<i64>, AllocError>
+fn multiply_each(
+    alloc: Global,
+    xs: &[i64],
+    ys: &[i64],
+    narrow: bool,
+) -> Result<Vec<i64>, AllocError>
     requires count { length xs.now * length ys.now < 2 ^ 63 }
     requires small { FitTogether xs.now ys.now 1 }
+    requires narrow { IsTrue narrow → AreNarrow xs.now × AreNarrow ys.now }
     ensures { IfOk result (λ v. AreProducts xs.now ys.now (length xs.now) v.items) }
 {
     let mut out = Vec::with_capacity(alloc, xs.len() * ys.len())?;
-    let mut products = vec![in alloc; 0i64; ys.len()]?;
     for r in 0..xs.len() {
-        multiply(xs[r], ys, products.as_mut_slice());
-        out.extend_from_slice(products.as_slice())?;
+        push_products(&mut out, xs[r], ys, narrow)?;
     }
     Ok(out)
 }
@@ -53,8 +103,11 @@ pub(crate) fn small_products(
     if LONG < ys.len() {
         return Ok(None);
     }
-    if !fit_together(widest(xs), widest(ys), 1) {
+    let left = widest(xs);
+    let right = widest(ys);
+    if !fit_together(left, right, 1) {
         return Ok(None);
     }
-    Ok(Some(multiply_each(alloc, xs, ys)?))
+    let narrow = are_narrow(left, right);
+    Ok(Some(multiply_each(alloc, xs, ys, narrow)?))
 }

@@ -38,7 +38,7 @@ pub(crate) fn fit_together(left: u64, right: u64, count: usize) -> bool
 }
 
 /// Whether numbers within two bounds have 32 bits.
-fn are_narrow(left: u64, right: u64) -> bool
+pub(crate) fn are_narrow(left: u64, right: u64) -> bool
     ensures { IsTrue result → (xs ys : List ℤ) → AreWithin left xs → AreWithin right ys → AreNarrow xs × AreNarrow ys }
 {
     wider(left, right) < NARROW
