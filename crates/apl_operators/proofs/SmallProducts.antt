@@ -11,7 +11,7 @@ use Rattle.apl_scalar.specs.declared.function.Dyadic.TheVariants as two
 use Rattle.apl_scalar.specs.Functions.{dyadic_of}
 use Rattle.apl_scalar.proofs.Signs.{in_range-fits}
 use Rattle.apl_scalar.proofs.Exact.{each_step}
-use Rattle.apl_scalar.proofs.Rooms.{room_size, written_over}
+use Rattle.apl_scalar.proofs.Rooms.{written_over}
 use Rattle.apl_scalar.proofs.Whole.{all_values}
 use Rattle.apl_folds.proofs.Totals.{fits_below}
 use Rattle.apl_operators.specs.Places.{crossed, crossing}

@@ -1,4 +1,4 @@
-use Rattle.std.proofs.Common.{◌≡◌, ◌<◌, ◌≤◌, ◌*ℤ◌, ℤ, FitsSigned, length, get_or, pos, to_z, of_z, w64, ap, sym, ◌∙◌, subst, rules, arith}
+use Rattle.std.proofs.Common.{◌≡◌, ◌<◌, ◌*ℤ◌, ℤ, FitsSigned, length, get_or, pos, to_z, of_z, w64, ◌∙◌, rules}
 use Rattle.std.proofs.lemmas.Int.{to_z-of_z}
 use Rattle.apl_operators.proofs.SmallProducts.{one_more}
 use Rattle.apl_operators.proofs.small_products.multiply_narrow.Goals as goal
