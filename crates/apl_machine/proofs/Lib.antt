@@ -22,5 +22,6 @@ pub mod Held
 pub mod Few
 pub mod Frequently
 pub mod Written
+pub mod Owned
 pub mod Silent
 mod Running

@@ -2,6 +2,7 @@
 ghost use Rattle.std.specs.Prelude.{◌≡◌, [], IfOk, IsSome, List, OnErr, OnOk, ℕ};
 ghost use Rattle.apl_machine_state.specs.Reports.{plain_lines};
 ghost use Rattle.apl_contexts.specs.Contexts.{behind, line_in};
+ghost use Rattle.apl_order.specs.Kept.{IsKept};
 ghost use Rattle.apl_machine.specs.Spaces.{IsSound, IsStatement, branched_in, escaped_in, left_behind, state_of};
 
 use crate::returns::returning;
@@ -16,6 +17,7 @@ impl Workspace {
     /// returns where it has no such line. After an error nothing has changed.
     fn resume(&mut self, aim: Option<usize>) -> Result<(), AllocError>
         requires sound { IsSound self.old }
+        requires kept { IsKept (state_of self.old) }
         requires statement { IsStatement self.old.contexts }
         ensures sound { IsSound self.new }
         ensures ok { OnOk result ((texts : List (List ℕ)) → state_of self.new ≡ (branched_in self.old aim texts).state) }
@@ -59,6 +61,7 @@ impl Workspace {
         lines: Vec<OutLine>,
     ) -> Result<bool, AllocError>
         requires sound { IsSound self.old }
+        requires kept { IsKept (state_of self.old) }
         requires runs { IsSome (line_in self.old.contexts) }
         ensures sound { IsSound self.new }
         ensures ok { OnOk result ((texts : List (List ℕ)) → lines.items ≡ plain_lines texts → state_of self.new ≡ (branched_in self.old aim texts).state) }

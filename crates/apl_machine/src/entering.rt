@@ -4,6 +4,7 @@ ghost use Rattle.apl_code.specs.declared.instr.Instr.{Instr};
 ghost use Rattle.apl_defn.specs.Definitions.{is_line};
 ghost use Rattle.apl_frames.specs.Ends.{IsColumn};
 ghost use Rattle.apl_machine_state.specs.declared.operand.Operand.TheVariants.{Value};
+ghost use Rattle.apl_names.specs.Owned.{Owns};
 ghost use Rattle.apl_contexts.specs.Contexts.{line_in, suspended};
 ghost use Rattle.apl_contexts.specs.Moves.{CanMove};
 ghost use Rattle.apl_vectors.specs.Vectors.{has_line};
@@ -25,6 +26,7 @@ impl Workspace {
     fn begin_call(&mut self, function: DefinedFunction, left: usize) -> Result<(), AllocError>
         requires can { IfSome (line_in self.old.contexts) (λ f. CanMove (Move.Awaits left) f) }
         requires line { is_line function 1 ≡ true }
+        requires own { Owns self.old.maps function }
         ensures ok { OnOk result (HasEntered self.old self.new function left) }
         ensures err { OnErr result (self.new ≡ self.old) }
     {
@@ -70,6 +72,7 @@ impl Workspace {
     ) -> Result<(), AllocError>
         requires can { IfSome (line_in self.old.contexts) (λ f. CanMove (Move.Awaits left) f) }
         requires line { is_line function 1 ≡ true }
+        requires own { Owns self.old.maps function }
         ensures ok { OnOk result (HasComeIn stops self.old self.new function left) }
         ensures err { OnErr result (self.new ≡ self.old) }
     {
@@ -123,6 +126,7 @@ impl Workspace {
     ) -> Result<bool, AllocError>
         requires can { IfSome (line_in self.old.contexts) (λ f. CanMove (Move.Awaits left) f) }
         requires line { is_line function 1 ≡ true }
+        requires own { Owns self.old.maps function }
         ensures stopped { IfOk result (λ stopped. stopped ≡ has_line function.header.name 1 self.old.kept.stops) }
         ensures ok { IfOk result (λ stopped. HasComeIn stopped self.old self.new function left) }
         ensures err { OnErr result (1 < length self.old.maps → self.new ≡ record self.old { maps = drop 1 self.old.maps }) }

@@ -2,7 +2,8 @@
 ghost use Rattle.std.specs.Prelude.{◌≡◌, ◌≤◌, ◌∷◌, ℤ, List, OnErr, OnOk, map, option_copied};
 ghost use Rattle.apl_arrays.specs.Origins.{origin_number};
 ghost use Rattle.apl_machine_state.specs.Calls.{bound_name, bound_to, local_of};
-ghost use Rattle.apl_names.specs.Maps.{AreBeneath, map_of, with_locals};
+ghost use Rattle.apl_names.specs.Maps.{AreBeneath, map_of, with_local, with_locals};
+ghost use Rattle.apl_names.specs.declared.binding.Binding.TheVariants.{Unset};
 ghost use Rattle.apl_phrases.specs.Effects.{seen};
 ghost use Rattle.apl_machine.specs.inside.Locals.{alone, names_with};
 
@@ -40,6 +41,7 @@ fn local_of(origin: Origin, name: &Name) -> Binding
 }
 
 /// Makes a name, where there is one, stand in the newest scope for a copy of this value, or for nothing yet.
+#[inline(always)]
 fn bind_named(
     names: &mut Names,
     name: Option<&Name>,
@@ -53,8 +55,17 @@ fn bind_named(
     };
     match value {
         Some(value) => names.bind_value(name, value),
-        None => names.bind(name, Binding::Unset),
+        None => bind_unset(names, name),
     }
+}
+
+/// Makes a name stand in the newest scope for nothing yet.
+#[inline(never)]
+fn bind_unset(names: &mut Names, name: &Name) -> Result<(), AllocError>
+    ensures ok { OnOk result (names.new ≡ with_local name.now Unset names.old) }
+    ensures err { OnErr result (names.new ≡ names.old) }
+{
+    names.bind(name, Binding::Unset)
 }
 
 /// Makes locals stand in the newest scope for what they stand for as a call begins. After an error some

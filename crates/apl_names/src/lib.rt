@@ -7,6 +7,7 @@ mod function;
 mod global_scope;
 mod hidden;
 mod names;
+mod own;
 mod ready;
 mod recent;
 mod slots;
