@@ -63,7 +63,7 @@ pub(crate) fn others_among(
     Ok(others)
 }
 
-/// A name is among these from now on, unless it is a function's own and stood for none.
+/// A name is among these from now on, unless it is a function's own and stood for no function.
 fn ask_unless_own(
     others: &mut Vec<Asked>,
     one: &Asked,
