@@ -1,7 +1,7 @@
 -- Lines that are written one after the other.
-use Rattle.std.proofs.Common.{◌≡◌, ℕ, Bool, List, [], ◌∷◌, ◌++◌, drop, ap, ◌∙◌, sym, refl, append_assoc, length, get_or, subst, ◌+◌, ◌<◌}
+use Rattle.std.proofs.Common.{◌≡◌, ℕ, Bool, List, [], ◌∷◌, ◌++◌, drop, take, ap, ◌∙◌, sym, refl, append_assoc, length, get_or, subst, ◌+◌, ◌<◌}
 use Rattle.std.specs.Prelude.{IsTrue, Result, Ok, Err}
-use Rattle.std.proofs.lemmas.List.{at_drop_more}
+use Rattle.std.proofs.lemmas.List.{at_drop_more, take-append-drop}
 use Rattle.apl_charset.specs.Text.{bytes}
 use Rattle.apl_machine_state.specs.declared.output.OutLine.{OutLine}
 use Rattle.apl_devices.specs.Devices.{Wrote, Extends}
@@ -35,6 +35,36 @@ labelled-next label lines i x within read =
     ∙ sym (append_assoc (label ++ bytes x.text) (10 ∷ []) (labelled label (drop (i + 1) lines)))
     ∙ ap (λ (front : List ℕ). front ++ labelled label (drop (i + 1) lines)) (append_assoc label (bytes x.text) (10 ∷ []))
 
+-- lines, and others after them
+pub labelled-append : (label : List ℕ) (lines more : List OutLine) → labelled label (lines ++ more) ≡ labelled label lines ++ labelled label more
+labelled-append label [] more = refl
+labelled-append label (line ∷ lines) more =
+    ap (λ (rest : List ℕ). label ++ bytes line.text ++ 10 ∷ rest) (labelled-append label lines more)
+    ∙ sym (append_assoc (label ++ bytes line.text) (10 ∷ labelled label lines) (labelled label more))
+
+-- the first lines, and the rest
+pub labelled-split : (label : List ℕ) (n : ℕ) (lines : List OutLine) → labelled label lines ≡ labelled label (take n lines) ++ labelled label (drop n lines)
+labelled-split label n lines = ap (labelled label) (sym (take-append-drop n lines)) ∙ labelled-append label (take n lines) (drop n lines)
+
+-- the first of the lines that are left are written
+pub wrote-lines : (label old mid new : List ℕ) (lines left front rest : List OutLine) (n : ℕ) → front ≡ take n left → rest ≡ drop n left →
+    Wrote old mid (labelled label lines) (labelled label left) → new ≡ mid ++ labelled label front → Wrote old new (labelled label lines) (labelled label rest)
+wrote-lines label old mid new lines left front rest n first others w e =
+    wrote-more old mid new (labelled label lines) (labelled label left) (labelled label rest) w (record {
+      front = labelled label front;
+      spelled = labelled-split label n left ∙ ap (λ (f : List OutLine). labelled label f ++ labelled label (drop n left)) (sym first)
+          ∙ ap (λ (r : List OutLine). labelled label front ++ labelled label r) (sym others);
+      added = e;
+    })
+
+-- a front of the first of the lines that are left
+pub extends-lines : (label old mid new : List ℕ) (lines left front : List OutLine) (n : ℕ) → front ≡ take n left →
+    Wrote old mid (labelled label lines) (labelled label left) → Extends mid new (labelled label front) → Extends old new (labelled label lines)
+extends-lines label old mid new lines left front n first w e =
+    extends-rest old mid new (labelled label lines) (labelled label left) w
+    (subst (λ (t : List ℕ). Extends mid new t) (sym (labelled-split label n left ∙ ap (λ (f : List OutLine). labelled label f ++ labelled label (drop n left)) (sym first)))
+    (extends-first mid new (labelled label front) (labelled label (drop n left)) e))
+
 -- a front of the next line
 pub extends-line : (label old mid new : List ℕ) (lines : List OutLine) (i : ℕ) (x : OutLine) → i < length lines → x ≡ get_or lines i x →
     Wrote old mid (labelled label lines) (labelled label (drop i lines)) → Extends mid new (label ++ (bytes x.text ++ 10 ∷ [])) → Extends old new (labelled label lines)
@@ -43,6 +73,6 @@ extends-line label old mid new lines i x within read w e =
     (subst (λ (t : List ℕ). Extends mid new t) (sym (labelled-next label lines i x within read))
     (extends-first mid new (label ++ (bytes x.text ++ 10 ∷ [])) (labelled label (drop (i + 1) lines)) e))
 
-pub ruleset writing = (wrote-none, wrote-all, wrote-more, wrote-take, extends-wrote, extends-none, extends-first, extends-second, extends-line)
+pub ruleset writing = (wrote-none, wrote-all, wrote-more, wrote-take, extends-wrote, extends-none, extends-first, extends-second, extends-line, wrote-lines, extends-lines)
 
 pub ruleset unlabelled = (labelled-none)

@@ -14,6 +14,9 @@ use std::alloc::{AllocError, Global};
 /// The most bytes of a line, before its line feed.
 const MAX_LINE: usize = 2000;
 
+/// So many lines are written at once.
+const AT_ONCE: usize = 64;
+
 /// Takes off a carriage return at the end.
 fn drop_return(line: &mut Vec<u8>)
     ensures { line.new.items ≡ without_return line.old.items }
@@ -110,6 +113,55 @@ fn write_line<W: Sink>(
     write_text(writer, &text)
 }
 
+/// Writes the lines one by one, each behind the label. After an error a front of what they spell is written.
+#[tactic(auto, using(crate::proofs::Writing::writing))]
+fn write_each<W: Sink>(
+    alloc: Global,
+    writer: &mut W,
+    label: &[u8],
+    lines: &[OutLine],
+) -> Result<(), RunError>
+    ensures wrote { Writes result (labelled label.now lines.now) W.tells (W.written writer.old) (W.written writer.new) }
+    ensures writer { W.failed writer.new ≡ writer_failed result (W.failed writer.old) }
+{
+    for line in lines {
+        write_line(alloc, writer, label, line)?;
+    }
+    Ok(())
+}
+
+/// What lines spell, each behind the label.
+fn spelled(alloc: Global, label: &[u8], lines: &[OutLine]) -> Result<Vec<u8>, AllocError>
+    ensures { IfOk result (λ v. v.items ≡ labelled label.now lines.now) }
+{
+    let mut text = Vec::new(alloc);
+    for line in lines {
+        text.extend_from_slice(label)?;
+        text.extend_from_slice(&encode_line(alloc, line)?)?;
+    }
+    Ok(text)
+}
+
+/// Writes the lines, each behind the label, at once, or one by one where there is one alone or no memory for all. After an error a front of
+/// what they spell is written.
+fn write_together<W: Sink>(
+    alloc: Global,
+    writer: &mut W,
+    label: &[u8],
+    lines: &[OutLine],
+) -> Result<(), RunError>
+    ensures wrote { Writes result (labelled label.now lines.now) W.tells (W.written writer.old) (W.written writer.new) }
+    ensures writer { W.failed writer.new ≡ writer_failed result (W.failed writer.old) }
+{
+    if lines.len() < 2 {
+        return write_each(alloc, writer, label, lines);
+    }
+    match spelled(alloc, label, lines) {
+        Ok(text) => write_text(writer, &text),
+        Err(AllocError) => write_each(alloc, writer, label, lines),
+    }
+}
+
 /// Writes the lines, each behind the label. After an error a front of what they spell is written.
 #[tactic(auto, using(crate::proofs::Writing::writing))]
 pub fn write_lines<W: Sink>(
@@ -121,8 +173,11 @@ pub fn write_lines<W: Sink>(
     ensures wrote { Writes result (labelled label.now lines.now) W.tells (W.written writer.old) (W.written writer.new) }
     ensures writer { W.failed writer.new ≡ writer_failed result (W.failed writer.old) }
 {
-    for line in lines {
-        write_line(alloc, writer, label, line)?;
+    let mut left = lines;
+    while !left.is_empty() {
+        let (front, rest) = left.split_at(left.len().min(AT_ONCE));
+        write_together(alloc, writer, label, front)?;
+        left = rest;
     }
     Ok(())
 }
