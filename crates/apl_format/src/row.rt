@@ -11,6 +11,9 @@ use apl_arrays::Elements;
 use apl_charset::{Ch, Text};
 use std::alloc::{AllocError, Global};
 
+/// The most characters of a number.
+const LONGEST: usize = 20;
+
 /// Numbers with one blank between.
 pub(crate) fn push_numbers(line: &mut Vec<Ch>, numbers: &[i64]) -> Result<(), AllocError>
     ensures { OnOk result (line.new.items ≡ line.old.items ++ joined 32 (map number_text numbers.now)) }
@@ -45,7 +48,7 @@ pub(crate) fn vector_line(alloc: Global, items: Elements<'_>) -> Result<Text, Al
 {
     match items {
         Elements::Nums(numbers) => {
-            let mut line = Vec::with_capacity(alloc, numbers.len())?;
+            let mut line = Vec::with_capacity(alloc, numbers.len().max(LONGEST))?;
             push_numbers(&mut line, numbers)?;
             Ok(Text::new(line))
         }
