@@ -11,4 +11,4 @@ one_more {A = A} old out new line k x h e n f =
     ∙ ap (λ (l : List A). l ++ x ∷ []) f
     ∙ append_assoc old (take k (reverse line)) (x ∷ [])
     ∙ ap (λ (l : List A). old ++ l)
-      (ap (λ (y : A). take k (reverse line) ++ y ∷ []) (e ∙ sym (get_or-reverse line k x h)) ∙ sym (take_more (reverse line) k x (omega (arith, length-reverse line))))
+    (ap (λ (y : A). take k (reverse line) ++ y ∷ []) (e ∙ sym (get_or-reverse line k x h)) ∙ sym (take_more (reverse line) k x (omega (arith, length-reverse line))))

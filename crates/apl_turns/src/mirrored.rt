@@ -1,5 +1,5 @@
 // Lines along the last axis, each the other way in a ravel.
-ghost use Rattle.std.specs.Prelude.{◌≡◌, ◌+◌, ◌*◌, ◌<◌, ◌≤◌, ◌++◌, length, take, drop, reverse, slice_index_or, vec_capacity, vec_len, IfOk, Ok};
+ghost use Rattle.std.specs.Prelude.{◌≡◌, ◌+◌, ◌*◌, ◌%◌, ◌<◌, ◌≤◌, ◌++◌, length, take, drop, reverse, slice_index_or, vec_capacity, vec_len, IfOk, Ok};
 ghost use Rattle.apl_arrays.specs.Answers.{Answers};
 ghost use Rattle.apl_arrays.specs.Cells.{cells_of};
 ghost use Rattle.apl_arrays.specs.Left.{listed};
@@ -71,24 +71,25 @@ fn put_block<T: Copy>(out: &mut Vec<T>, block: &[T])
     put_eight(out, front);
 }
 
-/// Appends the blocks at the end of a line the other way, for which there is room, and answers what is in front of them.
+/// Appends whole blocks the other way, for which there is room.
 #[inline(always)]
-fn put_blocks<'a, T: Copy>(out: &mut Vec<T>, line: &'a [T]) -> &'a [T]
-    requires { vec_len out.old + length line.now ≤ vec_capacity out.old }
-    ensures items { out.new.items ++ reverse result.now ≡ out.old.items ++ reverse line.now }
-    ensures count { vec_len out.new + length result.now ≡ vec_len out.old + length line.now }
+fn put_blocks<T: Copy>(out: &mut Vec<T>, blocks: &[T])
+    requires whole { length blocks.now % BLOCK ≡ 0 }
+    requires room { vec_len out.old + length blocks.now ≤ vec_capacity out.old }
+    ensures items { out.new.items ≡ out.old.items ++ reverse blocks.now }
+    ensures count { vec_len out.new ≡ vec_len out.old + length blocks.now }
     ensures room { vec_capacity out.new ≡ vec_capacity out.old }
 {
-    let mut rest = line;
+    let mut rest = blocks;
     while rest.len() >= BLOCK {
         let (front, block) = rest.split_at(rest.len() - BLOCK);
         put_block(out, block);
         rest = front;
     }
-    rest
 }
 
-/// Appends a line the other way, for which there is room, in one pass.
+/// Appends a line the other way, for which there is room, in one pass. What is no whole block goes first, so that the loop over the blocks has
+/// nothing to keep for it.
 #[inline(always)]
 fn put_line<T: Copy>(out: &mut Vec<T>, line: &[T])
     requires { vec_len out.old + length line.now ≤ vec_capacity out.old }
@@ -96,8 +97,9 @@ fn put_line<T: Copy>(out: &mut Vec<T>, line: &[T])
     ensures count { vec_len out.new ≡ vec_len out.old + length line.now }
     ensures room { vec_capacity out.new ≡ vec_capacity out.old }
 {
-    let front = put_blocks(out, line);
-    put_each(out, front);
+    let (blocks, last) = line.split_at(line.len() - line.len() % BLOCK);
+    put_each(out, last);
+    put_blocks(out, blocks);
 }
 
 /// So many lines of a ravel, which are so long, each the other way.
