@@ -1,7 +1,7 @@
 -- Elements of a vector at the places that numbers count.
-use Rattle.std.proofs.Common.{◌≡◌, ℕ, ℤ, pos, ◌+◌, ◌*◌, ◌<◌, ◌≤◌, ◌&&◌, Bool, nat_le, List, [], ◌∷◌, map, length, get_or, refl, ap, sym, ◌∙◌, arith, append-nil, Some, Result, Ok, Err}
-use Rattle.std.proofs.lemmas.Bool.{le-leb}
-use Rattle.std.proofs.lemmas.List.{length-map, map-id}
+use Rattle.std.proofs.Common.{◌≡◌, ℕ, ℤ, pos, ◌+◌, ◌*◌, ◌<◌, ◌≤◌, ◌&&◌, Bool, nat_le, List, [], ◌∷◌, map, length, get_or, ◌++◌, refl, ap, sym, ◌∙◌, arith, append-nil, ⊎_elim, Some, Result, Ok, Err}
+use Rattle.std.proofs.lemmas.Bool.{cases_lt, le-leb}
+use Rattle.std.proofs.lemmas.List.{get_or_append_left, get_or_push, length-map, map-id}
 use Rattle.apl_faults.specs.declared.fault.Fault.{Fault}
 use Rattle.apl_faults.specs.declared.fault.Fault.TheVariants.{Limit}
 use Rattle.apl_arrays.specs.declared.cell.Cell.TheVariants.{Num, Char}
@@ -30,6 +30,23 @@ all_numbered {A = A} f d zs ys n e g h each =
   where
     from_none : (j : ℕ) → 0 + j ≡ j
     from_none j = omega arith
+
+-- a value more
+pub one_numbered : {A : Type 0} (f : A → ℤ → Result A Fault) (zs : List ℤ) (ys new : List A) (k : ℕ) (y : A) → length ys ≡ k → new ≡ ys ++ y ∷ [] →
+    ((j : ℕ) (d : A) → j < k → f d (get_or zs j (pos 0)) ≡ Ok (get_or ys j d)) → ((d : A) → f d (get_or zs k (pos 0)) ≡ Ok y) →
+    (j : ℕ) (d : A) → j < k + 1 → f d (get_or zs j (pos 0)) ≡ Ok (get_or new j d)
+one_numbered {A = A} f zs ys new k y e h each last j d l = ⊎_elim before at (cases_lt j k)
+  where
+    ok : List A → Result A Fault
+    ok ts = Ok (get_or ts j d)
+
+    before : j < k → f d (get_or zs j (pos 0)) ≡ Ok (get_or new j d)
+    before b = each j d b ∙ ap (λ (t : A). Ok t) (sym (get_or_append_left ys (y ∷ []) d j (omega (arith, e)))) ∙ ap ok (sym h)
+
+    at : k ≤ j → f d (get_or zs j (pos 0)) ≡ Ok (get_or new j d)
+    at b =
+        let same : j ≡ k = omega arith in
+        ap (λ (i : ℕ). f d (get_or zs i (pos 0))) same ∙ last d ∙ ap (λ (t : A). Ok t) (sym (get_or_push ys y d j (e ∙ sym same))) ∙ ap ok (sym h)
 
 -- what is read of each is what is read at all their places
 mapped : {A B C : Type 0} (f : B → C) (g : A → Result B Fault) (xs : List A) → all_ok (λ x. ok_map f (g x)) xs ≡ ok_map (map f) (all_ok g xs)

@@ -49,7 +49,8 @@ fn element_picked(b: &Array, slots: &[Option<Array>], origin: usize) -> Option<C
     b.items().cell(place)
 }
 
-/// The elements that slots pick, axis by axis.
+/// The elements that slots pick, axis by axis. It stands apart, so that the way of a vector stays short.
+#[inline(never)]
 fn elements_led_to(
     alloc: Global,
     b: &Array,

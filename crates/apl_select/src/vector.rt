@@ -1,17 +1,14 @@
 // Elements of a vector at places that numbers count.
-ghost use Rattle.std.specs.Prelude.{◌≡◌, ℕ, ◌<◌, ◌≤◌, ◌∷◌, [], length, IfOk, IfSome, IsTrue, Ok, Some};
+ghost use Rattle.std.specs.Prelude.{◌≡◌, ℕ, ◌<◌, ◌≤◌, ◌∷◌, [], length, pos, slice_index_or, IfOk, IfSome, Ok, Some};
 ghost use Rattle.apl_arrays.specs.Cells.{cells_of};
 ghost use Rattle.apl_arrays.specs.Left.{listed};
 ghost use Rattle.apl_arrays.specs.Ravels.{items_of};
 ghost use Rattle.apl_arrays.specs.Results.{all_ok};
 ghost use Rattle.apl_select.specs.Indexing.{indexed, place_numbered};
-ghost use Rattle.apl_select.specs.inside.Numbered.{item_numbered, items_numbered, AreNumbered};
+ghost use Rattle.apl_select.specs.inside.Numbered.{item_numbered, items_numbered};
 
 use apl_arrays::{Array, Elements, MAX_ELEMENTS, Ravel, numbers_in};
 use std::alloc::{AllocError, Global};
-
-/// How many elements are read before more room is made.
-const BLOCK: usize = 512;
 
 /// The place that a number counts from the index origin, or one beyond those of any array. It is one subtraction and no test.
 #[inline(always)]
@@ -22,45 +19,35 @@ fn place_from(number: i64, origin: usize) -> usize
     (number.cast_unsigned() as usize).wrapping_sub(origin)
 }
 
-/// Writes the elements at the places that numbers count over as many others, and says whether each number counts one.
-fn write_numbered<T: Copy>(to: &mut [T], raw: &[T], numbers: &[i64], origin: usize) -> bool
-    requires long { length to.old ≡ length numbers.now }
-    requires small { length raw.now ≤ MAX_ELEMENTS }
+/// The same of the number at a place of a list.
+#[inline(always)]
+fn place_at(numbers: &[i64], at: usize, origin: usize) -> usize
+    requires at { at < length numbers.now }
     requires origin { origin ≤ 1 }
-    ensures { IsTrue result → AreNumbered raw.now origin numbers.now to.new }
+    ensures { (n : ℕ) → n ≤ MAX_ELEMENTS → result < n → place_numbered n origin (slice_index_or numbers.now at (pos 0)) ≡ Ok result }
 {
-    for k in 0..numbers.len() {
-        let place = place_from(numbers[k], origin);
-        if raw.len() <= place {
-            return false;
-        }
-        to[k] = raw[place];
-    }
-    true
+    place_from(numbers[at], origin)
 }
 
-/// The elements at the places that numbers count, where each counts one. They are read block by block, into room that is still at hand.
+/// The elements at the places that numbers count, where each counts one. They go into room that is there already, so that the loop holds
+/// one test.
 fn read_numbered<T: Copy>(
     alloc: Global,
     raw: &[T],
     numbers: &[i64],
     origin: usize,
 ) -> Result<Option<Vec<T>>, AllocError>
-    requires some { 0 < length raw.now }
     requires small { length raw.now ≤ MAX_ELEMENTS }
     requires origin { origin ≤ 1 }
     ensures { IfOk result (λ found. IfSome found (λ v. (d : T) → all_ok (item_numbered raw.now origin d) numbers.now ≡ Ok v.items)) }
 {
     let mut out = Vec::with_capacity(alloc, numbers.len())?;
-    let mut from = 0usize;
-    while from < numbers.len() {
-        let till = from + (numbers.len() - from).min(BLOCK);
-        out.resize(till, raw[0])?;
-        let block = out.as_mut_slice().split_at_mut(from).1;
-        if !write_numbered(block, raw, &numbers[from..till], origin) {
+    for k in 0..numbers.len() {
+        let place = place_at(numbers, k, origin);
+        if raw.len() <= place {
             return Ok(None);
         }
-        from = till;
+        out.push_reserved(raw[place]);
     }
     Ok(Some(out))
 }
@@ -72,7 +59,6 @@ fn items_numbered(
     numbers: &[i64],
     origin: usize,
 ) -> Result<Option<Ravel>, AllocError>
-    requires some { 0 < length (cells_of (listed items)) }
     requires small { length (cells_of (listed items)) ≤ MAX_ELEMENTS }
     requires origin { origin ≤ 1 }
     ensures { IfOk result (λ found. IfSome found (λ r. items_numbered (listed items.entry) origin numbers.now ≡ Ok (items_of r))) }
@@ -101,9 +87,6 @@ pub(crate) fn vector_picked(
     ensures { IfOk result (λ found. IfSome found (λ r. indexed b.now (Some a.now ∷ []) origin ≡ Ok r)) }
 {
     let items = b.items();
-    if items.is_empty() {
-        return Ok(None);
-    }
     let Ok(numbers) = numbers_in(a.items()) else {
         return Ok(None);
     };

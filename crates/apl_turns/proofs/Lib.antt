@@ -5,3 +5,4 @@ pub mod Rotated
 pub mod Numbered
 pub mod Named
 pub mod FromTheEnd
+pub mod Blockwise

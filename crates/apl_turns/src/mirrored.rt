@@ -1,5 +1,6 @@
 // Lines along the last axis, each the other way in a ravel.
-ghost use Rattle.std.specs.Prelude.{◌≡◌, ◌+◌, ◌*◌, ◌<◌, ◌≤◌, ◌++◌, length, take, drop, reverse, slice_index_or, IfOk, OnOk};
+ghost use Rattle.std.specs.Prelude.{◌≡◌, ◌+◌, ◌*◌, ◌%◌, ◌<◌, ◌≤◌, ◌++◌, length, take, drop, reverse, slice_index_or, vec_capacity, vec_len, IfOk, Ok};
+ghost use Rattle.apl_arrays.specs.Answers.{Answers};
 ghost use Rattle.apl_arrays.specs.Cells.{cells_of};
 ghost use Rattle.apl_arrays.specs.Left.{listed};
 ghost use Rattle.apl_arrays.specs.Ravels.{items_of};
@@ -7,14 +8,98 @@ ghost use Rattle.apl_arrays.specs.Views.{reversed};
 ghost use Rattle.apl_turns.specs.inside.Mirrored.{mirrored, mirrored_list};
 
 use crate::lines::{extent_along, piece};
-use apl_arrays::{Array, Elements, Ravel};
+use apl_arrays::{Array, Elements, Ravel, Stop};
 use std::alloc::{AllocError, Global};
 
-/// Appends a line the other way, in one pass.
-fn push_line<T: Copy>(out: &mut Vec<T>, line: &[T]) -> Result<(), AllocError>
-    ensures { OnOk result (out.new.items ≡ out.old.items ++ reverse line.now) }
+/// How many elements are taken the other way at once.
+const BLOCK: usize = 16;
+
+/// Appends elements the other way, for which there is room, one by one.
+#[inline(always)]
+fn put_each<T: Copy>(out: &mut Vec<T>, line: &[T])
+    requires { vec_len out.old + length line.now ≤ vec_capacity out.old }
+    ensures items { out.new.items ≡ out.old.items ++ reverse line.now }
+    ensures count { vec_len out.new ≡ vec_len out.old + length line.now }
+    ensures room { vec_capacity out.new ≡ vec_capacity out.old }
 {
-    out.extend(line.iter().rev())
+    for k in 0..line.len() {
+        out.push_reserved(line[line.len() - 1 - k]);
+    }
+}
+
+/// Appends four elements the other way, for which there is room. All are read before one is written, so that they can go in pairs.
+#[inline(always)]
+fn put_four<T: Copy>(out: &mut Vec<T>, four: &[T])
+    requires size { length four.now ≡ 4 }
+    requires room { vec_len out.old + 4 ≤ vec_capacity out.old }
+    ensures items { out.new.items ≡ out.old.items ++ reverse four.now }
+    ensures count { vec_len out.new ≡ vec_len out.old + 4 }
+    ensures room { vec_capacity out.new ≡ vec_capacity out.old }
+{
+    let (first, second, third, fourth) = (four[0], four[1], four[2], four[3]);
+    out.push_reserved(fourth);
+    out.push_reserved(third);
+    out.push_reserved(second);
+    out.push_reserved(first);
+}
+
+/// The same of eight.
+#[inline(always)]
+fn put_eight<T: Copy>(out: &mut Vec<T>, eight: &[T])
+    requires size { length eight.now ≡ 8 }
+    requires room { vec_len out.old + 8 ≤ vec_capacity out.old }
+    ensures items { out.new.items ≡ out.old.items ++ reverse eight.now }
+    ensures count { vec_len out.new ≡ vec_len out.old + 8 }
+    ensures room { vec_capacity out.new ≡ vec_capacity out.old }
+{
+    let (front, back) = eight.split_at(4);
+    put_four(out, back);
+    put_four(out, front);
+}
+
+/// The same of a block.
+#[inline(always)]
+fn put_block<T: Copy>(out: &mut Vec<T>, block: &[T])
+    requires size { length block.now ≡ BLOCK }
+    requires room { vec_len out.old + BLOCK ≤ vec_capacity out.old }
+    ensures items { out.new.items ≡ out.old.items ++ reverse block.now }
+    ensures count { vec_len out.new ≡ vec_len out.old + BLOCK }
+    ensures room { vec_capacity out.new ≡ vec_capacity out.old }
+{
+    let (front, back) = block.split_at(8);
+    put_eight(out, back);
+    put_eight(out, front);
+}
+
+/// Appends whole blocks the other way, for which there is room.
+#[inline(always)]
+fn put_blocks<T: Copy>(out: &mut Vec<T>, blocks: &[T])
+    requires whole { length blocks.now % BLOCK ≡ 0 }
+    requires room { vec_len out.old + length blocks.now ≤ vec_capacity out.old }
+    ensures items { out.new.items ≡ out.old.items ++ reverse blocks.now }
+    ensures count { vec_len out.new ≡ vec_len out.old + length blocks.now }
+    ensures room { vec_capacity out.new ≡ vec_capacity out.old }
+{
+    let mut rest = blocks;
+    while rest.len() >= BLOCK {
+        let (front, block) = rest.split_at(rest.len() - BLOCK);
+        put_block(out, block);
+        rest = front;
+    }
+}
+
+/// Appends a line the other way, for which there is room, in one pass. What is no whole block goes first, so that the loop over the blocks has
+/// nothing to keep for it.
+#[inline(always)]
+fn put_line<T: Copy>(out: &mut Vec<T>, line: &[T])
+    requires { vec_len out.old + length line.now ≤ vec_capacity out.old }
+    ensures items { out.new.items ≡ out.old.items ++ reverse line.now }
+    ensures count { vec_len out.new ≡ vec_len out.old + length line.now }
+    ensures room { vec_capacity out.new ≡ vec_capacity out.old }
+{
+    let (blocks, last) = line.split_at(line.len() - line.len() % BLOCK);
+    put_each(out, last);
+    put_blocks(out, blocks);
 }
 
 /// So many lines of a ravel, which are so long, each the other way.
@@ -29,7 +114,7 @@ fn reverse_lines<T: Copy>(
 {
     let mut out = Vec::with_capacity(alloc, raw.len())?;
     for line in 0..lines {
-        push_line(&mut out, piece(raw, line, size))?;
+        put_line(&mut out, piece(raw, line, size));
     }
     Ok(out)
 }
@@ -51,11 +136,11 @@ fn mirrored_items(
 }
 
 /// An array with its last axis taken the other way.
-pub(crate) fn reverse_last(alloc: Global, b: &Array, axis: usize) -> Result<Array, AllocError>
+pub(crate) fn reverse_last(alloc: Global, b: &Array, axis: usize) -> Result<Array, Stop>
     requires { axis + 1 ≡ length b.now.shape }
-    ensures { IfOk result (λ turned. turned ≡ reversed axis b.now) }
+    ensures { Answers (λ turned. turned) (Ok (reversed axis b.now)) result }
 {
     let extent = extent_along(b.shape(), axis);
     let turned = mirrored_items(alloc, b.items(), extent.planes, extent.rows)?;
-    b.with_ravel(turned)
+    Ok(Array::in_shape(b.shape(), turned))
 }

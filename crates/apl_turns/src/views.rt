@@ -45,16 +45,33 @@ pub fn transpose_by(alloc: Global, a: &Array, b: &Array, origin: Origin) -> Resu
     Ok(View::whole(b).turned(axes.as_slice()).copied(alloc)?)
 }
 
-/// An array with one of its axes taken the other way.
-fn reverse_axis(alloc: Global, b: &Array, axis: usize) -> Result<Array, AllocError>
+/// An array with one of its axes taken the other way, by a view. It stands apart, so that the way of the last axis stays short.
+#[inline(never)]
+fn reverse_view(alloc: Global, b: &Array, axis: usize) -> Result<Array, AllocError>
     requires { axis < length b.now.shape }
     ensures { IfOk result (λ turned. turned ≡ reversed axis b.now) }
+{
+    View::whole(b).reversed(axis).copied(alloc)
+}
+
+/// An array with one of its axes taken the other way.
+fn reverse_axis(alloc: Global, b: &Array, axis: usize) -> Result<Array, Stop>
+    requires { axis < length b.now.shape }
+    ensures { Answers (λ turned. turned) (Ok (reversed axis b.now)) result }
 {
     let rank = b.rank();
     if axis + 1 == rank {
         return reverse_last(alloc, b, axis);
     }
-    View::whole(b).reversed(axis).copied(alloc)
+    Ok(reverse_view(alloc, b, axis)?)
+}
+
+/// An array as it is. It stands apart, since it is for scalars alone.
+#[inline(never)]
+fn as_it_is(b: &Array) -> Result<Array, AllocError>
+    ensures { IfOk result (λ same. same ≡ b.now) }
+{
+    b.copy()
 }
 
 /// An array with an axis taken the other way. A scalar stays.
@@ -65,7 +82,7 @@ pub fn reverse(alloc: Global, along: Along<'_>, b: &Array, origin: Origin) -> Re
     ensures at_once { FaultsFirst (reversed_along along.entry (origin_number origin) b.now) result }
 {
     match along.axis(b.rank(), origin)? {
-        Some(axis) => Ok(reverse_axis(alloc, b, axis)?),
-        None => Ok(b.copy()?),
+        Some(axis) => reverse_axis(alloc, b, axis),
+        None => Ok(as_it_is(b)?),
     }
 }

@@ -1,5 +1,5 @@
 -- Elements at the places that numbers count.
-use Rattle.std.specs.Prelude.{◌≡◌, ℕ, ℤ, pos, ◌<◌, List, map, length, slice_index_or, Result, Ok}
+use Rattle.std.specs.Prelude.{ℕ, ℤ, pos, List, map, length, slice_index_or, Result}
 use Rattle.apl_faults.specs.declared.fault.Fault.{Fault}
 use Rattle.apl_arrays.specs.Cells.{Items, Numbers, Characters, cells_of}
 use Rattle.apl_arrays.specs.Results.{all_ok, ok_map}
@@ -13,10 +13,6 @@ item_numbered xs origin d z = ok_map (λ p. slice_index_or xs p d) (place_number
 abbrev pub at_places : Items → List ℕ → Items
 at_places (Numbers zs) ps = Numbers (map (λ p. slice_index_or zs p (pos 0)) ps)
 at_places (Characters cs) ps = Characters (map (λ p. slice_index_or cs p 0) ps)
-
--- these are the items at the places that numbers count
-abbrev pub AreNumbered : {A : Type 0} → List A → ℕ → List ℤ → List A → Type 0
-AreNumbered {A = A} xs origin zs ys = (k : ℕ) (d : A) → k < length zs → item_numbered xs origin d (slice_index_or zs k (pos 0)) ≡ Ok (slice_index_or ys k d)
 
 -- the elements at the places that numbers count, or the first fault
 abbrev pub items_numbered : Items → ℕ → List ℤ → Result Items Fault
