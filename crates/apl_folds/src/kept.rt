@@ -81,6 +81,9 @@ fn push_along<F: Scalar, K: Kept<F>>(
 /// How many folds are told before they are appended together.
 const BLOCK: usize = 128;
 
+/// Below this many numbers a room for folds costs more than it saves.
+const FEW: usize = 32;
+
 /// Fills a room with folds of so many numbers of a line and one more, two more and so on, while they can be told. It answers what is kept then
 /// and how many it told.
 fn fill_known<F: Scalar, K: Kept<F>>(
@@ -256,7 +259,7 @@ pub(crate) fn push_told<F: Scalar, K: Kept<F>, R: Filling<F, K>>(
         up: 1,
         down: 0,
     };
-    if count < BLOCK {
+    if count < FEW {
         return push_along::<F, K>(numbers, &beside, at, count, out);
     }
     push_blocks::<F, K, R>(numbers, &beside, at, count, out)

@@ -1,5 +1,4 @@
-use Rattle.std.proofs.Common.{rules, ◌^◌, w64}
-use Rattle.std.proofs.lemmas.Bool.{ltb-true}
+use Rattle.std.proofs.Common.{rules, w64}
 use Rattle.std.proofs.lemmas.Int.{to_z-of_z}
 use mir.Val.{SFits}
 use Rattle.apl_folds.proofs.Totals.{little_more}

@@ -1,4 +1,4 @@
-use Rattle.std.proofs.Common.{rules, arith, ◌≡◌, ◌+◌, ℕ, ℤ, pos, length, Ok, ap, ◌∙◌, w64, to_z}
+use Rattle.std.proofs.Common.{rules, arith, ◌≡◌, ◌+◌, ℕ, pos, length, Ok, ap, ◌∙◌, w64, to_z}
 use Rattle.std.proofs.lemmas.Int.{to_z-of_z}
 use Rattle.std.proofs.lemmas.List.{length-set}
 use mir.Val.{SFits}
