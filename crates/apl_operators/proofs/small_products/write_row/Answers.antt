@@ -1,4 +1,4 @@
-use Rattle.std.proofs.Common.{rules, arith, ◌≡◌, ◌*ℤ◌, ◌*◌, ◌/◌, ◌+◌, ◌-◌, ◌≤◌, ◌<◌, ℕ, ℤ, pos, length, get_or, ◌∙◌}
+use Rattle.std.proofs.Common.{arith, ◌≡◌, ◌*ℤ◌, ◌*◌, ◌+◌, ◌≤◌, ◌<◌, ℕ, ℤ, pos, length, get_or, ◌∙◌}
 use Rattle.apl_operators.proofs.SmallProducts.{four_more, outside}
 use Rattle.apl_operators.proofs.small_products.write_row.Goals as goal
 
