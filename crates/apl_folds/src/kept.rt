@@ -82,7 +82,7 @@ fn push_along<F: Scalar, K: Kept<F>>(
 const BLOCK: usize = 128;
 
 /// Below this many numbers a room for folds costs more than it saves.
-const FEW: usize = 32;
+const FEW: usize = 64;
 
 /// Fills a room with folds of so many numbers of a line and one more, two more and so on, while they can be told. It answers what is kept then
 /// and how many it told.
