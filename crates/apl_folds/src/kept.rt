@@ -81,6 +81,9 @@ fn push_along<F: Scalar, K: Kept<F>>(
 /// How many folds are told before they are appended together.
 const BLOCK: usize = 128;
 
+/// Below this many numbers a room for folds costs more than it saves.
+const FEW: usize = 64;
+
 /// Fills a room with folds of so many numbers of a line and one more, two more and so on, while they can be told. It answers what is kept then
 /// and how many it told.
 fn fill_known<F: Scalar, K: Kept<F>>(
@@ -114,7 +117,7 @@ fn fill_known<F: Scalar, K: Kept<F>>(
 /// Fills a room with folds of so many numbers of a line and one more, two more and so on. They are those where what is kept at last tells
 /// the last, so that no number needs a test of its own.
 #[inline(always)]
-fn fill_all<F: Scalar, K: Kept<F>>(
+pub(crate) fn fill_all<F: Scalar, K: Kept<F>>(
     numbers: &[i64],
     axis: &Axis,
     at: usize,
@@ -138,9 +141,46 @@ fn fill_all<F: Scalar, K: Kept<F>>(
     kept
 }
 
+/// How a room is filled with folds that can be told.
+pub(crate) trait Filling<F: Scalar, K: Kept<F>> {
+    /// The same as [`fill_all`].
+    fn fill_room(
+        numbers: &[i64],
+        axis: &Axis,
+        at: usize,
+        from: usize,
+        before: K,
+        room: &mut [i64],
+    ) -> K
+        requires some { 0 < from }
+        requires line { IsLine (length numbers.now) axis.now at (from + length room.old) }
+        requires few { from + length room.old ≤ usize.MAX }
+        requires kept { K.knows before (line_of (pos 0) numbers.now axis.now at from) }
+        ensures size { length room.new ≡ length room.old }
+        ensures kept { K.knows result (line_of (pos 0) numbers.now axis.now at (from + length room.old)) }
+        ensures folds { K.tells result → AreTold F.meaning numbers.now axis.now at from room.new (length room.old) };
+}
+
+/// One fold after another.
+pub(crate) struct InTurn;
+
+impl<F: Scalar, K: Kept<F>> Filling<F, K> for InTurn {
+    #[inline(always)]
+    fn fill_room(
+        numbers: &[i64],
+        axis: &Axis,
+        at: usize,
+        from: usize,
+        before: K,
+        room: &mut [i64],
+    ) -> K {
+        fill_all::<F, K>(numbers, axis, at, from, before, room)
+    }
+}
+
 /// The same as [`fill_known`], with one test where all can be told.
 #[inline(always)]
-fn fill<F: Scalar, K: Kept<F>>(
+fn fill<F: Scalar, K: Kept<F>, R: Filling<F, K>>(
     numbers: &[i64],
     axis: &Axis,
     at: usize,
@@ -157,7 +197,7 @@ fn fill<F: Scalar, K: Kept<F>>(
     ensures kept { result.1 ≡ length room.old → K.knows result.0 (line_of (pos 0) numbers.now axis.now at (from + length room.old)) }
     ensures folds { AreTold F.meaning numbers.now axis.now at from room.new result.1 }
 {
-    let all = fill_all::<F, K>(numbers, axis, at, from, before, room);
+    let all = R::fill_room(numbers, axis, at, from, before, room);
     if all.is_told() {
         return (all, room.len());
     }
@@ -166,7 +206,7 @@ fn fill<F: Scalar, K: Kept<F>>(
 
 /// The same as [`push_along`], block by block.
 #[inline(always)]
-fn push_blocks<F: Scalar, K: Kept<F>>(
+fn push_blocks<F: Scalar, K: Kept<F>, R: Filling<F, K>>(
     numbers: &[i64],
     axis: &Axis,
     at: usize,
@@ -185,7 +225,7 @@ fn push_blocks<F: Scalar, K: Kept<F>>(
     let mut told = 1;
     while told < count {
         let size = (count - told).min(BLOCK);
-        let (next, more) = fill::<F, K>(numbers, axis, at, told, kept, &mut room[..size]);
+        let (next, more) = fill::<F, K, R>(numbers, axis, at, told, kept, &mut room[..size]);
         out.extend_from_slice(&room[..more])?;
         told += more;
         if more < size {
@@ -197,7 +237,7 @@ fn push_blocks<F: Scalar, K: Kept<F>>(
 }
 
 /// The same as [`push_along`], and faster where many numbers lie side by side.
-pub(crate) fn push_told<F: Scalar, K: Kept<F>>(
+pub(crate) fn push_told<F: Scalar, K: Kept<F>, R: Filling<F, K>>(
     numbers: &[i64],
     axis: &Axis,
     at: usize,
@@ -219,10 +259,10 @@ pub(crate) fn push_told<F: Scalar, K: Kept<F>>(
         up: 1,
         down: 0,
     };
-    if count < BLOCK {
+    if count < FEW {
         return push_along::<F, K>(numbers, &beside, at, count, out);
     }
-    push_blocks::<F, K>(numbers, &beside, at, count, out)
+    push_blocks::<F, K, R>(numbers, &beside, at, count, out)
 }
 
 /// The numbers along an axis, to be folded by a scalar function, with what is kept of the first of them.
@@ -244,7 +284,7 @@ impl<'a, F: Scalar, K: Kept<F>> Leaf for Telling<'a, F, K> {
     }
 
     fn push_fronts(&self, at: usize, length: usize, out: &mut Vec<i64>) -> Result<(), Stop> {
-        let told = push_told::<F, K>(self.numbers, &self.axis, at, length, out)?;
+        let told = push_told::<F, K, InTurn>(self.numbers, &self.axis, at, length, out)?;
         self.push_from(at, told, length, out)
     }
 

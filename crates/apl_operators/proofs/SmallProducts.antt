@@ -1,11 +1,11 @@
 -- Products of each number with each of others that all fit.
-use Rattle.std.proofs.Common.{◌≡◌, ⊎_elim, ℕ, ℤ, pos, ◌*ℤ◌, ◌+◌, ◌-◌, ◌*◌, ◌/◌, ◌%◌, ◌<◌, ◌≤◌, List, ◌++◌, length, take, drop, replicate, set, get_or, Ok, FitsSigned, ap, sym, ◌∙◌, arith, w64}
+use Rattle.std.proofs.Common.{◌≡◌, ◌⊎◌, inl, inr, ⊎_elim, ℕ, ℤ, pos, ◌*ℤ◌, ◌+◌, ◌-◌, ◌*◌, ◌/◌, ◌%◌, ◌<◌, ◌≤◌, List, ◌++◌, length, take, drop, replicate, set, get_or, Ok, FitsSigned, ap, sym, ◌∙◌, subst, arith, w64}
 use Rattle.std.proofs.lemmas.Bool.{cases_lt}
 use Rattle.std.proofs.lemmas.Grind.{common_steps}
 use Rattle.std.proofs.lemmas.Int.{unsigned_abs-mul}
 use Rattle.std.proofs.lemmas.List.{length-append, get_or_append_left, get_or-append_right, get_or-replicate, get_or-set_other}
 use Rattle.std.proofs.lemmas.Nat.{mul-add-lt}
-use Rattle.std.proofs.Math.Nat.{div-add-mod}
+use Rattle.std.proofs.Math.Nat.{div-add-mod, mul-le-mul_right}
 use Rattle.apl_arrays.proofs.Nth.{row_below, rest_below}
 use Rattle.apl_scalar.specs.declared.function.Dyadic.TheVariants as two
 use Rattle.apl_scalar.specs.Functions.{dyadic_of}
@@ -16,7 +16,7 @@ use Rattle.apl_scalar.proofs.Whole.{all_values}
 use Rattle.apl_folds.proofs.Totals.{fits_below}
 use Rattle.apl_operators.specs.Places.{crossed, crossing}
 use Rattle.apl_operators.specs.inside.SumsOfProducts.{FitTogether}
-use Rattle.apl_operators.specs.inside.SmallProducts.{AreProducts, IsMultiplied}
+use Rattle.apl_operators.specs.inside.SmallProducts.{AreProducts, IsMultiplied, IsRow}
 
 pub product_fits : (xs ys : List ℤ) (i k : ℕ) → FitTogether xs ys 1 → FitsSigned w64 (get_or xs i (pos 0) *ℤ get_or ys k (pos 0))
 product_fits xs ys i k small =
@@ -85,3 +85,58 @@ multiplied x ys old grown front back filled before len g b f d s l each =
       is = written_over old grown front filled x (length ys) before len g b f size l;
       each = λ k h. each k h ∙ ap (λ (z : ℤ). z *ℤ get_or ys k (pos 0)) (ap (λ (zs : List ℤ). get_or zs k (pos 0)) room ∙ get_or-replicate (length ys) k x (pos 0) h);
     }
+
+-- with four numbers more that are as they should be, so are all up to them
+pub four_more : (v : ℕ → ℤ) (old new : List ℤ) (at from : ℕ) → ((k : ℕ) → k < from → get_or old (at + k) (pos 0) ≡ v k) →
+    ((q : ℕ) → (q < at + from) ⊎ (at + from + 4 ≤ q) → get_or new q (pos 0) ≡ get_or old q (pos 0)) →
+    get_or new (at + from) (pos 0) ≡ v from → get_or new (at + from + 1) (pos 0) ≡ v (from + 1) → get_or new (at + from + 2) (pos 0) ≡ v (from + 2) → get_or new (at + from + 3) (pos 0) ≡ v (from + 3) →
+    (k : ℕ) → k < from + 4 → get_or new (at + k) (pos 0) ≡ v k
+four_more v old new at from before others first second third fourth k h = ⊎_elim early late (cases_lt k from)
+  where
+    early : k < from → get_or new (at + k) (pos 0) ≡ v k
+    early l = others (at + k) (inl (omega arith)) ∙ before k l
+
+    known : (i : ℕ) → k ≡ i → get_or new (at + i) (pos 0) ≡ v i → get_or new (at + k) (pos 0) ≡ v k
+    known i e f =
+        let P : ℕ → Type 0 = λ m. get_or new (at + m) (pos 0) ≡ v m in
+        subst P (sym e) f
+
+    grouped : (a b c : ℕ) → a + (b + c) ≡ a + b + c
+    grouped a b c = omega arith
+
+    beside : (i : ℕ) → get_or new (at + from + i) (pos 0) ≡ v (from + i) → get_or new (at + (from + i)) (pos 0) ≡ v (from + i)
+    beside i f = ap (λ (m : ℕ). get_or new m (pos 0)) (grouped at from i) ∙ f
+
+    late : from ≤ k → get_or new (at + k) (pos 0) ≡ v k
+    late l =
+        ⊎_elim (λ (m : k < from + 1). known from (omega arith) first)
+        (λ (m : from + 1 ≤ k).
+        ⊎_elim (λ (n : k < from + 2). known (from + 1) (omega arith) (beside 1 second))
+        (λ (n : from + 2 ≤ k). ⊎_elim (λ (o : k < from + 3). known (from + 2) (omega arith) (beside 2 third)) (λ (o : from + 3 ≤ k). known (from + 3) (omega arith) (beside 3 fourth)) (cases_lt k (from + 3)))
+        (cases_lt k (from + 2))) (cases_lt k (from + 1))
+
+-- what is outside a row is outside four of its places
+pub outside : (at n from q : ℕ) → from + 4 ≤ n → (q < at) ⊎ (at + n ≤ q) → (q < at + from) ⊎ (at + from + 4 ≤ q)
+outside at n from q w h = ⊎_elim (λ (l : q < at). inl (omega arith)) (λ (l : at + n ≤ q). inr (omega arith)) h
+
+-- the products of one number more are written
+pub row_written : (xs ys old new : List ℤ) (r : ℕ) (x : ℤ) → x ≡ get_or xs r (pos 0) → IsRow x ys (r * length ys) old new →
+    ((p q : ℕ) → p < r → q < length ys → get_or old (p * length ys + q) (pos 0) ≡ get_or xs p (pos 0) *ℤ get_or ys q (pos 0)) →
+    (p q : ℕ) → p < r + 1 → q < length ys → get_or new (p * length ys + q) (pos 0) ≡ get_or xs p (pos 0) *ℤ get_or ys q (pos 0)
+row_written xs ys old new r x e row before p q h l = ⊎_elim early late (cases_lt p r)
+  where
+    early : p < r → get_or new (p * length ys + q) (pos 0) ≡ get_or xs p (pos 0) *ℤ get_or ys q (pos 0)
+    early k = row.others (p * length ys + q) (inl (omega (arith, mul-add-lt p (length ys) q r k l))) ∙ before p q k l
+
+    late : r ≤ p → get_or new (p * length ys + q) (pos 0) ≡ get_or xs p (pos 0) *ℤ get_or ys q (pos 0)
+    late k =
+        let P : ℕ → Type 0 = λ m. get_or new (m * length ys + q) (pos 0) ≡ get_or xs m (pos 0) *ℤ get_or ys q (pos 0) in
+        let same : r ≡ p = omega arith in
+        subst P same (row.each q l ∙ ap (λ (z : ℤ). z *ℤ get_or ys q (pos 0)) e)
+
+-- a row more is within the table
+pub row_within : (r n w m : ℕ) → r < n → m ≡ n * w → r * w + w ≤ m
+row_within r n w m h e = omega (arith, e, mul-le-mul_right w (above r n h))
+  where
+    above : (r n : ℕ) → r < n → r + 1 ≤ n
+    above r n h = omega arith

@@ -1,6 +1,6 @@
 -- Sums of numbers without bounds, and of their magnitudes.
 -- Where no partial sum leaves the numbers of 64 bits, their sum is the fold by addition of `Folds`.
-use Rattle.std.specs.Prelude.{zero, suc, ◌≡◌, ◌+◌, ◌<◌, ◌^◌, ◌+ℤ◌, ◌-ℤ◌, ℕ, ℤ, pos, Bool, true, false, not, List, [], ◌∷◌, length, Result, unsigned_abs}
+use Rattle.std.specs.Prelude.{zero, suc, ◌≡◌, ◌+◌, ◌<◌, ◌≤◌, ◌^◌, ◌+ℤ◌, ◌-ℤ◌, ℕ, ℤ, pos, Bool, true, false, not, List, [], ◌∷◌, length, Result, unsigned_abs}
 use Rattle.apl_faults.specs.declared.fault.Fault.{Fault}
 use Rattle.apl_scalar.specs.declared.function.Dyadic.TheVariants as two
 use Rattle.apl_scalar.specs.Functions.{dyadic_of}
@@ -22,9 +22,9 @@ abbrev pub magnitudes : List ℤ → ℕ
 magnitudes [] = 0
 magnitudes (x ∷ xs) = unsigned_abs x + magnitudes xs
 
--- while the magnitude says so, it and the sum are those of the numbers
+-- while the magnitude says so, the sum is that of the numbers, and it is no less than that of their magnitudes
 abbrev pub IsRunning : Running → List ℤ → Type 0
-IsRunning r xs = r.magnitude < 2 ^ 63 → (r.sum ≡ total xs) × (r.magnitude ≡ magnitudes xs)
+IsRunning r xs = r.magnitude < 2 ^ 63 → (r.sum ≡ total xs) × (magnitudes xs ≤ r.magnitude)
 
 -- the first of some numbers less the second and with the third and so on, however large
 abbrev pub alternating : List ℤ → ℤ
