@@ -6,4 +6,3 @@ pub mod Kept
 pub mod Nearest
 pub mod Standing
 pub mod Blamed
-pub mod Running

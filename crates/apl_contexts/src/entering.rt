@@ -23,12 +23,10 @@ impl Contexts {
         ensures err { OnErr result (self.new ≡ self.old) }
     {
         let standing = self.standing + context.standing();
-        let runs = context.runs();
         let _ = take_last(&mut self.places, self.count);
         lay(&mut self.places, self.count, context)?;
         self.count += 1;
         self.standing = standing;
-        self.runs = runs;
         Ok(())
     }
 
@@ -40,13 +38,11 @@ impl Contexts {
         ensures err { OnErr result (self.new ≡ self.old) }
     {
         let standing = self.standing + context.standing();
-        let runs = context.runs();
         let _ = take_last(&mut self.places, self.count);
         lay(&mut self.places, self.count, context)?;
         change_beneath(&mut self.places, self.count, Move::Awaits(left));
         self.count += 1;
         self.standing = standing;
-        self.runs = runs;
         Ok(())
     }
 
@@ -69,7 +65,6 @@ impl Contexts {
         change_beneath(&mut self.places, self.count, Move::Awaits(left));
         self.count += 1;
         self.standing += 1;
-        self.runs = true;
         Ok(())
     }
 
@@ -91,7 +86,6 @@ impl Contexts {
         change_beneath(&mut self.places, self.count, Move::Awaits(left));
         self.count += 1;
         self.standing += 1;
-        self.runs = true;
         Ok(())
     }
 
@@ -108,7 +102,6 @@ impl Contexts {
     {
         lay_statement(&mut self.places, self.count, alloc, text, line)?;
         self.count += 1;
-        self.runs = true;
         Ok(())
     }
 }
