@@ -60,7 +60,7 @@ fn bind_named(
 }
 
 /// Makes a name stand in the newest scope for nothing yet.
-#[inline(never)]
+#[inline(always)]
 fn bind_unset(names: &mut Names, name: &Name) -> Result<(), AllocError>
     ensures ok { OnOk result (names.new ≡ with_local name.now Unset names.old) }
     ensures err { OnErr result (names.new ≡ names.old) }

@@ -1,11 +1,12 @@
 //! Operands of instructions.
-ghost use Rattle.std.specs.Prelude.{◌≡◌, ◌≤◌, ◌<◌, IfOk, length, reverse, take, List, [], ◌∷◌, Option, Some, option_copied, option_map};
+ghost use Rattle.std.specs.Prelude.{◌≡◌, ◌≤◌, ◌<◌, IfNone, IfOk, IfSome, length, reverse, take, List, [], ◌∷◌, Option, Some, option_copied, option_map};
 ghost use Rattle.apl_code.specs.declared.instr.Source.{Source};
 ghost use Rattle.apl_operands.specs.Operands.{Offers, fetched_from, fetched_one, unfetched_one, unfetched};
 ghost use Rattle.apl_operands.specs.Operands.{EndsInValue, FetchesFirst, LeavesBeneath, PassesLast, operand_of, only, one_value};
 ghost use Rattle.apl_machine_state.specs.Items.{constant_at};
 ghost use Rattle.apl_machine_state.specs.Outcomes.{taken_of, taken_one, taken_two, taken_three};
-ghost use Rattle.apl_primitives.specs.Taken.{as_taken};
+ghost use Rattle.apl_arrays.specs.Cells.{Arr};
+ghost use Rattle.apl_primitives.specs.Taken.{Two, as_taken};
 
 use apl_arrays::Array;
 use apl_code::Source;
@@ -40,14 +41,12 @@ pub fn fetch(operands: Operands<'_>, source: Source) -> (Held<'_>, Operands<'_>)
     match source {
         Source::Constant(k) => (Held::Value(&operands.constants[k]), operands),
         Source::Stack => {
-            let Some((top, stack)) = operands.stack.split_last() else {
-                unreachable!()
-            };
+            let left = operands.stack.len() - 1;
             let below = Operands {
                 constants: operands.constants,
-                stack,
+                stack: &operands.stack[..left],
             };
-            match top {
+            match &operands.stack[left] {
                 Operand::Value(array) => (Held::Value(array), below),
                 Operand::Slots(slots) => (Held::Slots(slots), below),
             }
@@ -134,6 +133,26 @@ fn three_arguments<'a>(
         }
         _ => Arguments::Other,
     }
+}
+
+/// The values that an instruction takes from these two places, the first of them further left, where values lie in both.
+#[inline(always)]
+pub fn two_values<'a>(
+    operands: Operands<'a>,
+    first: Source,
+    second: Source,
+) -> Option<(&'a Array, &'a Array)>
+    requires { Offers operands (Some first ∷ Some second ∷ []) }
+    ensures is { IfSome result (λ r. taken_of (fetched_from operands.entry (Some first ∷ Some second ∷ [])) ≡ Two r.0.now r.1.now) }
+    ensures none { IfNone result ((a b : Arr) → ¬ (taken_of (fetched_from operands.entry (Some first ∷ Some second ∷ [])) ≡ Two a b)) }
+{
+    let (Held::Value(a), rest) = fetch(operands, first) else {
+        return None;
+    };
+    let (Held::Value(b), _beneath) = fetch(rest, second) else {
+        return None;
+    };
+    Some((a, b))
 }
 
 /// The values and index lists that an instruction takes: what stands further left lies nearer the top.
