@@ -5,3 +5,4 @@ pub mod Stacks
 pub mod Kept
 pub mod Known
 pub mod Typed
+pub mod Light

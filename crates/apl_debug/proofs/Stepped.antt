@@ -1,40 +1,15 @@
 -- Runs of steps, from their last step and over idle states.
-use Rattle.std.proofs.Common.{◌≡◌, ℕ, zero, suc, ◌+◌, ◌-◌, ◌≤◌, ◌<◌, List, [], ◌∷◌, Option, Some, None, Bool, true, false, cond, arith, ap, ◌∙◌, sym, refl, zero-add}
+use Rattle.std.proofs.Common.{◌≡◌, ℕ, zero, suc, ◌+◌, ◌-◌, ◌<◌, List, Bool, true, false, cond, arith, ap, ◌∙◌, sym, refl}
 use Rattle.apl_machine_state.specs.declared.output.Progress.{Progress}
 use Rattle.apl_machine_state.specs.declared.output.Progress.TheVariants.{Idle, Stopped, LineEnd, Running}
 use Rattle.apl_defn.specs.Definitions.{Text, Definition, is_line}
 use Rattle.apl_names.specs.Maps.{Map}
 use Rattle.apl_vectors.specs.Vectors.{has_line}
-use Rattle.apl_machine_state.specs.Items.{Rest}
-use Rattle.apl_machine_state.specs.Environment.{World, Context, rest_of, is_suspended, is_idle_in}
-use Rattle.apl_machine_state.specs.Changes.{Change, Rests, Moves, AsksStops, Arrives, change, change_in}
-use Rattle.apl_machine_state.specs.State.{State, Turn, is_idle, step, steps, turn, applied, arrived, comes_to, progress}
-use Rattle.apl_debug.specs.Stepping.{Run, is_over, run, run_from}
-
-rests_suspended : (w : World) (context : Context) (below : List Context) (rest : Option Rest) → is_suspended rest ≡ true → change_in w context below rest ≡ Rests
-rests_suspended w context below None idle = refl
-rests_suspended w context below (Some rest) idle = cc
-
-rests_idle : (w : World) (contexts : List Context) → is_idle_in contexts ≡ true → change w contexts ≡ Rests
-rests_idle w [] idle = refl
-rests_idle w (context ∷ below) idle = rests_suspended w context below (rest_of context) idle
-
--- an idle state stays
-pub step-idle : (s : State) → is_idle s ≡ true → step s ≡ s
-step-idle s idle = ap (λ (c : Change). (applied s c).state) (rests_idle s.world s.contexts idle)
-
-pub steps-idle : (n : ℕ) (s : State) → is_idle s ≡ true → steps n s ≡ s
-steps-idle zero s idle = refl
-steps-idle (suc n) s idle = ap (steps n) (step-idle s idle) ∙ steps-idle n s idle
-
-pub steps-add : (m n : ℕ) (s : State) → steps (m + n) s ≡ steps n (steps m s)
-steps-add zero n s = ap (λ (k : ℕ). steps k s) (zero-add n)
-steps-add (suc m) n s =
-    let e : suc m + n ≡ suc (m + n) = omega arith in
-    ap (λ (k : ℕ). steps k s) e ∙ steps-add m n (step s)
-
-pub steps-more : (n : ℕ) (s : State) → steps (n + 1) s ≡ step (steps n s)
-steps-more n s = steps-add n 1 s
+use Rattle.apl_machine_state.specs.Environment.{World, Context}
+use Rattle.apl_machine_state.specs.Changes.{Change, Rests, Moves, AsksStops, Arrives, change}
+use Rattle.apl_machine_state.specs.State.{State, is_idle, step, steps, turn, applied, arrived, comes_to, progress}
+use Rattle.apl_machine.proofs.ManySteps.{steps-idle, steps-more}
+use Rattle.apl_debug.specs.Stepping.{Run, is_over, run_from}
 
 -- a run of an idle state is over
 pub run-idle : (ends : Progress → Bool) (before : Progress) (n : ℕ) (s : State) → is_idle s ≡ true → run_from ends before n s ≡ record { state = s; answer = before }

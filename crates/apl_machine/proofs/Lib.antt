@@ -24,4 +24,6 @@ pub mod Frequently
 pub mod Written
 pub mod Owned
 pub mod Silent
-mod Running
+pub mod ManySteps
+pub mod Stretched
+pub mod Lightly

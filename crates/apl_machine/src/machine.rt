@@ -1,12 +1,12 @@
 //! The machine.
 ghost use Rattle.std.specs.Prelude.{◌≡◌, ◌↔◌, [], ◌∷◌, None, Some, Ok, true, false, IfOk, IfSome};
-ghost use Rattle.std.specs.Prelude.{IfNone, OnOk, OnErr, IsErrOf, IsFalse, option_copied, option_map};
+ghost use Rattle.std.specs.Prelude.{◌<◌, IfErr, IfNone, OnOk, OnErr, IsErrOf, IsFalse, option_copied, option_map};
 ghost use Rattle.apl_machine_state.specs.Items.{Rest};
 ghost use Rattle.apl_machine_state.specs.Environment.{class_of, rest_at};
 ghost use Rattle.apl_machine_state.specs.Frames.{IsFrame};
 ghost use Rattle.apl_machine_state.specs.Objects.{cleared, erased, globals, levels, vectors_of};
 ghost use Rattle.apl_machine_state.specs.State.{State, clear, definition_of, interrupt, is_global_variable, is_idle};
-ghost use Rattle.apl_machine_state.specs.State.{progress, step, turn, value_of, with_function, with_lines};
+ghost use Rattle.apl_machine_state.specs.State.{progress, step, steps, steps_progress, turn, value_of, with_function, with_lines};
 ghost use Rattle.apl_machine_state.specs.Beginning.{begun};
 ghost use Rattle.apl_contexts.specs.Contexts.{line_in};
 ghost use Rattle.apl_contexts.specs.Typed.{IsTyped};
@@ -16,7 +16,7 @@ ghost use Rattle.apl_machine.specs.Spaces.{IsSound, state_of};
 
 use crate::objects::{clear, define, erase, function_in, is_variable};
 use crate::reports::{token_fault, typed_fault};
-use crate::stepping::{abandon, make};
+use crate::stepping::{abandon, make_many};
 use crate::workspace::Workspace;
 use apl_arrays::{Origin, SharedArray};
 use apl_charset::{Ch, Text};
@@ -184,11 +184,21 @@ impl Machine {
         ensures progress { IfOk result (λ p. p ≡ progress (turn self.old)) }
         ensures err { OnErr result (self.new ≡ self.old) }
     {
-        if self.is_idle() {
-            return Ok(Progress::Idle);
+        match make_many(&mut self.workspace, 1) {
+            Ok(progress) => Ok(progress),
+            Err(_) => Err(AllocError),
         }
-        let progress = make(&mut self.workspace)?;
-        Ok(progress)
+    }
+
+    /// At most `count` steps, until the machine is idle, and where it stands after them. Want of memory gives the number of those that are
+    /// done; the machine stands after these.
+    pub fn advance(&mut self, count: u64) -> Result<Progress, u64>
+        ensures ok { OnOk result (self.new ≡ steps count self.old) }
+        ensures progress { IfOk result (λ p. p ≡ steps_progress count self.old) }
+        ensures err { IfErr result (λ done. self.new ≡ steps done self.old) }
+        ensures part { IfErr result (λ done. done < count) }
+    {
+        make_many(&mut self.workspace, count)
     }
 
     /// Abandons what runs, with a report; an idle machine stays as it is. After an error the

@@ -1,4 +1,3 @@
-pub mod Steps
 pub mod Opened
 pub mod Events
 pub mod Blanks

@@ -1,6 +1,6 @@
 // A machine that is typed to.
 ghost use Rattle.std.specs.Prelude.{◌≡◌, ◌↔◌, [], ◌∷◌, ℕ, ◌<◌, take, slice_get, not, ◌==◌, find, true, Some, None, IfErr, IfOk, OnOk, OnErr, IsErrOf, IsFalse};
-ghost use Rattle.apl_machine_state.specs.State.{is_idle, progress_at, steps, steps_progress, interrupt};
+ghost use Rattle.apl_machine_state.specs.State.{is_idle, steps, steps_progress, interrupt};
 ghost use Rattle.apl_session.specs.Commands.{commanded};
 ghost use Rattle.apl_session.specs.Defining.{refused, closed, typed_behind_del};
 ghost use Rattle.apl_session.specs.Events as model;
@@ -119,39 +119,6 @@ fn first_mark(text: &[Ch]) -> Option<Ch>
     ensures { result ≡ model.first_mark text.now }
 {
     text.iter().copied().find(|c| *c != Ch::default())
-}
-
-/// What a machine answers that has made no step.
-fn standing(machine: &Machine) -> Progress
-    ensures { result ≡ progress_at machine.now }
-{
-    if machine.is_idle() {
-        Progress::Idle
-    } else {
-        Progress::Running
-    }
-}
-
-/// At most `count` steps, and where the machine stands after them. Want of memory gives the number
-/// of those that are done.
-#[tactic(auto, using(crate::proofs::Steps::many_steps))]
-fn advance(machine: &mut Machine, count: u64) -> Result<Progress, u64>
-    ensures ok { OnOk result (machine.new ≡ steps count machine.old) }
-    ensures progress { IfOk result (λ p. p ≡ steps_progress count machine.old) }
-    ensures err { IfErr result (λ done. machine.new ≡ steps done machine.old) }
-    ensures part { IfErr result (λ done. done < count) }
-{
-    let mut progress = standing(machine);
-    for done in 0..count {
-        if machine.is_idle() {
-            return Ok(progress);
-        }
-        match machine.step() {
-            Ok(next) => progress = next,
-            Err(AllocError) => return Err(done),
-        }
-    }
-    Ok(progress)
 }
 
 impl Session {
@@ -285,7 +252,7 @@ impl Session {
         ensures err { IfErr result (λ done. self.new ≡ steps done self.old) }
         ensures part { IfErr result (λ done. done < count) }
     {
-        let progress = advance(&mut self.machine, count)?;
+        let progress = self.machine.advance(count)?;
         Ok(progress)
     }
 

@@ -1,2 +1,3 @@
 mod Names
+mod Shorts
 pub mod Glyphs

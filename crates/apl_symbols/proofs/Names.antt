@@ -1,5 +1,5 @@
 -- A text laid over blanks.
-use Rattle.std.proofs.Common.{◌≡◌, ◌≤◌, ◌-◌, ◌+◌, ℕ, List, ◌++◌, drop, length, replicate, sym, ◌∙◌, ap, subst, length-append, arith}
+use Rattle.std.proofs.Common.{◌≡◌, ◌≤◌, ◌-◌, ◌+◌, ℕ, List, ◌++◌, drop, take, length, replicate, sym, ◌∙◌, ap, subst, length-append, arith}
 use Rattle.std.proofs.lemmas.List.{drop-replicate, length-replicate}
 use Rattle.std.proofs.Math.Seq.{take-append_seam}
 use Rattle.apl_symbols.specs.Padded.{IsPadded}
@@ -14,3 +14,7 @@ over_blanks text h = record {
 pub laid_over : (text front : List ℕ) (blank : ℕ) → front ≡ text → blank ≡ 32 → length text ≤ 32 → IsPadded (length text) (front ++ drop (length text) (replicate 32 blank))
 laid_over text front blank e b h =
     subst (λ (p : List ℕ). IsPadded (length text) p) (sym (ap (λ (f : List ℕ). f ++ drop (length text) (replicate 32 blank)) e ∙ ap (λ (r : List ℕ). text ++ r) (ap (λ (x : ℕ). drop (length text) (replicate 32 x)) b ∙ drop-replicate (length text) 32 32))) (over_blanks text h)
+
+-- the text is the front of what it was laid over
+pub front_of : (text front rest : List ℕ) → front ≡ text → text ≡ take (length text) (front ++ rest)
+front_of text front rest e = sym (take-append_seam text rest) ∙ ap (λ (f : List ℕ). take (length text) (f ++ rest)) (sym e)
