@@ -36,6 +36,14 @@ impl CharFault {
     }
 }
 
+impl From<AllocError> for CharFault {
+    ghost from_gives = { λ _ e. e ≡ Memory };
+
+    fn from(_e: AllocError) -> CharFault {
+        CharFault::Memory
+    }
+}
+
 impl<T: Drop> From<AllocFailed<T>> for CharFault {
     ghost from_gives = { λ _ e. e ≡ Memory };
 
@@ -49,7 +57,8 @@ fn decode_text(alloc: Global, text: &str) -> Result<Vec<Ch>, CharFault>
     ensures ok { IfOk result (λ v. IsLine text.now v.items) }
     ensures fault { IfErr result (λ e. IsOutside text.now e) }
 {
-    let mut out = Vec::new(alloc);
+    // A character takes at least a byte.
+    let mut out = Vec::with_capacity(alloc, text.len())?;
     let mut chars = text.chars();
     while let Some(c) = chars.next() {
         match Ch::new(c) {
@@ -97,11 +106,11 @@ pub fn decode_line(alloc: Global, line: &[u8]) -> Result<Vec<Ch>, CharFault>
     }
 }
 
-/// The bytes of a text, in UTF-8.
+/// The bytes of a text, in UTF-8. Those of one in ASCII have room for a line feed behind them.
 pub fn encode(alloc: Global, text: &[Ch]) -> Result<Vec<u8>, AllocError>
     ensures { IfOk result (λ v. v.items ≡ bytes text.now) }
 {
-    let mut out = String::new(alloc);
+    let mut out = String::with_capacity(alloc, text.len() + 1)?;
     for c in text {
         out.push(c.code())?;
     }

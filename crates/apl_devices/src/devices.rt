@@ -54,6 +54,7 @@ pub trait Sink {
 }
 
 /// Reads one byte; None is the end.
+#[inline(always)]
 pub fn read_byte<R: Source>(reader: &mut R) -> Result<Option<u8>, Failed>
     ensures bytes { IsTrue R.tells → TakesFirst (R.left reader.old) result (R.left reader.new) }
     ensures fine { OnOk result (R.failed reader.new ≡ R.failed reader.old) }

@@ -5,4 +5,5 @@ mod operands;
 
 pub use operands::{
     Given, Held, Operands, arguments, fetch, last_operand, left, left_of, one_value, two_values,
+    value_from,
 };

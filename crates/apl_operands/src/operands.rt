@@ -6,7 +6,7 @@ ghost use Rattle.apl_operands.specs.Operands.{EndsInValue, FetchesFirst, LeavesB
 ghost use Rattle.apl_machine_state.specs.Items.{constant_at};
 ghost use Rattle.apl_machine_state.specs.Outcomes.{taken_of, taken_one, taken_two, taken_three};
 ghost use Rattle.apl_arrays.specs.Cells.{Arr};
-ghost use Rattle.apl_primitives.specs.Taken.{Two, as_taken};
+ghost use Rattle.apl_primitives.specs.Taken.{One, Two, as_taken};
 
 use apl_arrays::Array;
 use apl_code::Source;
@@ -133,6 +133,19 @@ fn three_arguments<'a>(
         }
         _ => Arguments::Other,
     }
+}
+
+/// The value that an instruction takes from this place alone, where a value lies in it.
+#[inline(always)]
+pub fn value_from<'a>(operands: Operands<'a>, source: Source) -> Option<&'a Array>
+    requires { Offers operands (Some source ∷ []) }
+    ensures is { IfSome result (λ b. taken_of (fetched_from operands.entry (Some source ∷ [])) ≡ One b.now) }
+    ensures none { IfNone result ((b : Arr) → ¬ (taken_of (fetched_from operands.entry (Some source ∷ [])) ≡ One b)) }
+{
+    let (Held::Value(b), _beneath) = fetch(operands, source) else {
+        return None;
+    };
+    Some(b)
 }
 
 /// The values that an instruction takes from these two places, the first of them further left, where values lie in both.

@@ -65,7 +65,7 @@ fn of_one(alloc: Global, function: Primitive, b: &Array, origin: Origin) -> Resu
 }
 
 /// The number that a primitive scalar function of two numbers gives, where it has a value there. Other arrays and primitives give none.
-#[inline]
+#[inline(always)]
 pub fn number_of_two(function: Primitive, a: &Array, b: &Array) -> Option<i64>
     ensures some { IfSome result (λ z. (origin : ℕ) → by_two (Row.Dyadic (Function.Primitive function)) a.now b.now origin ≡ Ok (single (Num z))) }
     ensures none { IfNone result (IfSome (dyadic_of function) (λ g. HasNoNumber g a.now b.now)) }

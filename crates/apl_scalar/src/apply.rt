@@ -63,7 +63,7 @@ impl ByFunction for Pair {
 }
 
 /// The value of a function of two numbers, or its fault.
-#[inline]
+#[inline(always)]
 fn dyadic_number(function: Dyadic, x: i64, y: i64) -> Result<i64, Fault>
     ensures { result ≡ dyadic_of function x y }
 {
@@ -71,7 +71,7 @@ fn dyadic_number(function: Dyadic, x: i64, y: i64) -> Result<i64, Fault>
 }
 
 /// The number that a function of two numbers gives, where it has a value there. Other arrays give none.
-#[inline]
+#[inline(always)]
 pub fn number_of_two(function: Dyadic, a: &Array, b: &Array) -> Option<i64>
     ensures some { IfSome result (λ z. dyadic function a.now b.now ≡ Ok (single (Num z))) }
     ensures none { IfNone result (HasNoNumber function a.now b.now) }

@@ -32,7 +32,7 @@ pub trait ByFunction {
 
 impl Dyadic {
     /// Does by this function what a visitor does by any.
-    #[inline]
+    #[inline(always)]
     pub fn apply<V: ByFunction>(self, visitor: V) -> V::Output
         requires { V.can visitor (dyadic_of self) }
         ensures { V.gives visitor (dyadic_of self) result }
