@@ -1,5 +1,5 @@
 -- The names in force: maps from names to what they stand for, the newest first and the global one last.
-use Rattle.std.specs.Prelude.{◌≡◌, ℕ, List, [], ◌∷◌, drop, length, map, Bool, true, false, Option, Some, None, option_map, is_some, if◌then◌else◌}
+use Rattle.std.specs.Prelude.{◌≡◌, ℕ, ℤ, pos, List, [], ◌∷◌, drop, length, map, Bool, true, false, Option, Some, None, option_map, is_some, if◌then◌else◌}
 use Rattle.std.specs.Option.{option_or}
 use Rattle.std.specs.declared.cmp.Ordering.{Ordering}
 use Rattle.std.specs.declared.cmp.Ordering.TheVariants.{Less}
@@ -9,6 +9,7 @@ use Rattle.std.specs.Str.{bytes_eq}
 use Rattle.std.specs.Map.{lookup, remove_entry}
 use Rattle.std.specs.BTreeMap.{insert_entry}
 use Rattle.apl_arrays.specs.Cells.{Arr}
+use Rattle.apl_arrays.specs.Simple.{number_of_scalar}
 use Rattle.apl_symbols.specs.declared.class.Class.{Class}
 use Rattle.apl_symbols.specs.declared.class.Class.TheVariants.{Variable}
 use Rattle.apl_defn.specs.Definitions as defn
@@ -102,6 +103,14 @@ value_in (Some Unset) = None
 value_in (Some (Label line)) = None
 value_in (Some (Value array)) = Some array
 value_in (Some (Function d)) = None
+
+-- the number that a name gives where it is read: that which its value is, if it is a scalar and a number, or that of a label's line
+abbrev pub number_in : Option Binding → Option ℤ
+number_in None = None
+number_in (Some Unset) = None
+number_in (Some (Label line)) = Some (pos line)
+number_in (Some (Value array)) = number_of_scalar array
+number_in (Some (Function d)) = None
 
 -- a binding with the value a in place of its own, if it has one
 abbrev pub with_value : Arr → Option Binding → Option Binding

@@ -1,8 +1,9 @@
 //! What a name stands for.
-ghost use Rattle.std.specs.Prelude.{◌≡◌, is_some, unwrap_or, option_copied, Some, IfOk};
+ghost use Rattle.std.specs.Prelude.{◌≡◌, ◌≢◌, ℕ, pos, is_some, unwrap_or, option_copied, MatchOption, Some, IfOk};
 ghost use Rattle.apl_arrays.specs.declared.cell.Cell.TheVariants.{Num};
 ghost use Rattle.apl_arrays.specs.Simple.{single};
-ghost use Rattle.apl_names.specs.Maps.{value_in, class_in, is_function, set_value, takes_value, with_value};
+ghost use Rattle.apl_names.specs.declared.binding.Binding.TheVariants.{Label};
+ghost use Rattle.apl_names.specs.Maps.{value_in, number_in, class_in, is_function, set_value, takes_value, with_value};
 
 use crate::function::DefinedFunction;
 use apl_arrays::{Array, SharedArray};
@@ -32,6 +33,28 @@ impl Binding {
             Binding::Unset => None,
             Binding::Label(_) => None,
             Binding::Function(_) => None,
+        }
+    }
+
+    /// The number that it gives where it is read: that which its value is, or of its line.
+    #[inline(always)]
+    pub(crate) fn number(&self) -> Option<i64>
+        ensures { result ≡ number_in (Some self.now) }
+    {
+        match self {
+            Binding::Value(value) => value.as_number(),
+            other => other.line(),
+        }
+    }
+
+    /// The number of its line, where it is a label. It stands apart, since most names that are read have a value.
+    #[inline(never)]
+    fn line(&self) -> Option<i64>
+        ensures { MatchOption result ((line : ℕ) → self.now ≢ Label line) (λ number. (line : ℕ) × (self.now ≡ Label line) × (number ≡ pos line)) }
+    {
+        match self {
+            Binding::Label(line) => Some(i64::from(*line)),
+            _ => None,
         }
     }
 
@@ -76,7 +99,7 @@ impl Binding {
                 *self = Binding::Value(SharedArray::number(number));
                 true
             }
-            Binding::Label(_) | Binding::Function(_) => false,
+            _ => false,
         }
     }
 

@@ -130,6 +130,7 @@ fn label_at(line: usize) -> Binding
 
 /// Makes labels of the newest scope's stand for the numbers of their lines. Of two of one name, the first stands. After an error some of them
 /// do.
+#[inline(always)]
 pub fn bind_labels(names: &mut Names, labels: &[(Name, usize)]) -> Result<(), AllocError>
     requires { All (λ l. l.1 ≤ 999) labels.now }
     ensures ok { OnOk result (names.new ≡ with_locals (map label_of labels.now) names.old) }

@@ -1,6 +1,7 @@
 pub mod Becoming
 mod NoCalls
 mod NoNumbers
+mod NumbersRead
 mod Elsewhere
 pub mod Effects
 pub mod Marks
