@@ -324,6 +324,36 @@ impl Array {
         }
     }
 
+    /// An equal array whose copies share its elements, and which shares them with this one where this one is
+    /// [`shared`](Array::into_shared): then, of a scalar and of what [`at_most_one`](Array::at_most_one) made it takes no memory.
+    #[inline]
+    pub fn to_shared(&self, alloc: Global) -> Result<SharedArray, AllocError>
+        ensures value { IfOk result (λ shared. shared ≡ self.now) }
+        ensures scalar { self.now.shape ≡ [] → IsOk result }
+    {
+        let kept = match &self.kept {
+            Kept::Num(number) => Sharing::Num(*number),
+            Kept::Char(character) => Sharing::Char(*character),
+            Kept::Empty => Sharing::Empty,
+            Kept::Single(number) => Sharing::Single(*number),
+            Kept::Own(dense) => {
+                let _axes = dense.shape();
+                Sharing::Dense(Rc::new(alloc, dense.copy()?)?)
+            }
+            Kept::Dense(dense) => {
+                let _axes = dense.shape();
+                Sharing::Dense(dense.clone()?)
+            }
+        };
+        Ok(SharedArray::kept(kept))
+    }
+
+    /// Whether it has elements that no copy can share yet. Nothing hangs on that but what copies cost.
+    #[inline]
+    pub(crate) fn is_alone(&self) -> bool {
+        matches!(self.kept, Kept::Own(_))
+    }
+
     /// Becomes a number, as a scalar. It takes no memory, and a number is written in the place of another.
     #[inline(always)]
     pub fn put_number(&mut self, number: i64)

@@ -41,6 +41,23 @@ impl Model for SharedArray {
     ghost view = { λ a. shared_of a.kept };
 }
 
+/// The elements of an array lie where its copies share them, from then on. The array is the same, after an error too.
+#[inline(never)]
+fn share(array: &mut Array, alloc: Global) -> Result<(), AllocError>
+    ensures { array.new ≡ array.old }
+{
+    match mem::replace(array, Array::number(0)).into_shared(alloc) {
+        Ok(shared) => {
+            *array = shared.into_array();
+            Ok(())
+        }
+        Err(refused) => {
+            *array = refused.value;
+            Err(AllocError)
+        }
+    }
+}
+
 impl SharedArray {
     ghost use Rattle.apl_arrays.specs.Cells.{cells_of, IsArray, Numbers};
     ghost use Rattle.apl_arrays.specs.Index.{size_of};
@@ -63,20 +80,10 @@ impl SharedArray {
         ensures value { IfOk result (λ shared. shared ≡ array.old) }
         ensures same { array.new ≡ array.old }
     {
-        if let Some(number) = array.as_number() {
-            return Ok(SharedArray::number(number));
+        if array.is_alone() {
+            share(array, alloc)?;
         }
-        match mem::replace(array, Array::number(0)).into_shared(alloc) {
-            Ok(shared) => {
-                let copy = shared.copy();
-                *array = shared.into_array();
-                copy
-            }
-            Err(refused) => {
-                *array = refused.value;
-                Err(AllocError)
-            }
-        }
+        array.to_shared(alloc)
     }
 
     /// What is kept so.

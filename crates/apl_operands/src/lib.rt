@@ -4,6 +4,6 @@
 mod operands;
 
 pub use operands::{
-    Given, Held, Operands, arguments, fetch, last_operand, left, left_of, one_value, two_values,
-    value_from,
+    Given, Held, Operands, arguments, fetch, last_operand, left, left_of, left_with_last,
+    one_value, two_values, value_from,
 };

@@ -1,5 +1,5 @@
 //! Operands of instructions.
-ghost use Rattle.std.specs.Prelude.{◌≡◌, ◌≤◌, ◌<◌, IfNone, IfOk, IfSome, length, reverse, take, List, [], ◌∷◌, Option, Some, option_copied, option_map};
+ghost use Rattle.std.specs.Prelude.{◌≡◌, ◌≤◌, ◌<◌, ◌++◌, IfNone, IfOk, IfSome, length, reverse, take, List, [], ◌∷◌, Option, Some, option_copied, option_map};
 ghost use Rattle.apl_code.specs.declared.instr.Source.{Source};
 ghost use Rattle.apl_operands.specs.Operands.{Offers, fetched_from, fetched_one, unfetched_one, unfetched};
 ghost use Rattle.apl_operands.specs.Operands.{EndsInValue, FetchesFirst, LeavesBeneath, PassesLast, operand_of, only, one_value};
@@ -246,6 +246,39 @@ fn constant(operands: Operands<'_>, k: usize) -> Result<Array, AllocError>
     operands.constants[k].copy()
 }
 
+/// Where the last operand of an instruction lies, which is a value, and where the others lie.
+#[inline(always)]
+fn last_source<'s>(
+    sources: &'s [Option<Source>],
+    operands: Operands<'_>,
+) -> (Source, &'s [Option<Source>])
+    requires { EndsInValue (fetched_from operands sources.now) }
+    ensures { sources.now ≡ result.1.now ++ Some result.0 ∷ [] }
+{
+    let _ = operands;
+    let Some((last, others)) = sources.split_last() else {
+        unreachable!()
+    };
+    let Some(last) = last else { unreachable!() };
+    (*last, others)
+}
+
+/// How many operands are left where the value of an instruction's last operand stays on the stack: up to that value. There is none where it is
+/// a constant of the line.
+#[inline(always)]
+pub fn left_with_last(sources: &[Option<Source>], operands: Operands<'_>) -> Option<usize>
+    requires { EndsInValue (fetched_from operands sources.now) }
+    ensures within { IfSome result (λ left. left ≤ length operands.entry.stack.now) }
+    ensures value { IfSome result (PassesLast operands.entry sources.now Given.Stays) }
+    ensures none { IfNone result ((others : List (Option Source)) → ¬ (sources.now ≡ others ++ Some Source.Stack ∷ [])) }
+{
+    let (last, others) = last_source(sources, operands);
+    match last {
+        Source::Stack => Some(left(others, operands.stack)),
+        Source::Constant(_) => None,
+    }
+}
+
 /// The value of the last operand, and how many operands are left: up to that value where it stays on the stack, and beneath
 /// those that the instruction takes where it is new.
 pub fn last_operand(
@@ -257,15 +290,12 @@ pub fn last_operand(
     ensures within { IfOk result (λ r. r.1 ≤ length operands.entry.stack.now) }
     ensures value { IfOk result (λ r. PassesLast operands.entry sources.now r.0 r.1) }
 {
-    let Some((last, others)) = sources.split_last() else {
-        unreachable!()
-    };
+    let (last, others) = last_source(sources, operands);
     let left = left(others, operands.stack);
-    let Some(last) = last else { unreachable!() };
     match last {
         Source::Stack => Ok((Given::Stays, left)),
         Source::Constant(k) => {
-            let value = constant(operands, *k)?;
+            let value = constant(operands, k)?;
             Ok((Given::New(Operand::Value(value)), left))
         }
     }

@@ -98,6 +98,7 @@ fn asks_origin(row: &Row) -> bool
 }
 
 /// What the primitives give of a row.
+#[inline(always)]
 pub fn of_row(
     alloc: Global,
     scene: Scene<'_>,

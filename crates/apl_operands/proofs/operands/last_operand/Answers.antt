@@ -2,26 +2,21 @@ use Rattle.std.proofs.Common.{◌≡◌, ap, ◌∙◌, subst, length, ◌++◌,
 use Rattle.apl_code.specs.declared.instr.Source.{Source}
 use Rattle.apl_code.specs.declared.instr.Source.TheVariants.{Constant}
 use Rattle.apl_operands.specs.Operands.{AreThere}
-use Rattle.apl_operands.proofs.Fetching.{ends_in_some, last_copied, last_stays, last_there}
+use Rattle.apl_operands.proofs.Fetching.{last_copied, last_stays, last_there}
 use Rattle.apl_operands.proofs.operands.last_operand.Goals as goal
-
-pub unreachable-requires-in_default-last : goal.unreachable-requires-in_default-last
-unreachable-requires-in_default-last c =
-    ends_in_some c.args.operands.constants.now c.args.sources.now c.in-Some.others.now c.in-Some.last.now _ c.in-Some.ensures.cases.0 c.in_default-last.is c.requires.value
 
 pub constant-requires : goal.constant-requires
 constant-requires c =
-    let is : c.in-Some.last.now ≡ Some (Constant c.in-Constant.k) = c.in-Some-last.is ∙ ap (λ (s : Source). Some s) c.in-Constant.is in
-    let all : c.args.sources.now ≡ c.in-Some.others.now ++ Some (Constant c.in-Constant.k) ∷ [] = c.in-Some.ensures.cases.0 ∙ ap (λ (s : Option Source). c.in-Some.others.now ++ s ∷ []) is in
-    last_there (length c.args.operands.constants.now) c.in-Some.others.now c.in-Constant.k (length c.args.operands.stack.now)
+    let all : c.args.sources.now ≡ c.last_source-last.result.1.now ++ Some (Constant c.in-Constant.k) ∷ [] = c.last_source-last.ensures ∙ ap (λ (s : Source). c.last_source-last.result.1.now ++ Some s ∷ []) c.in-Constant.is in
+    last_there (length c.args.operands.constants.now) c.last_source-last.result.1.now c.in-Constant.k (length c.args.operands.stack.now)
     (subst (λ (ss : List (Option Source)). AreThere (length c.args.operands.constants.now) ss (length c.args.operands.stack.now)) all c.requires.there)
 
 pub returns-in-Stack-clause-value : goal.returns-in-Stack-clause-value
 returns-in-Stack-clause-value c = λ b h.
-    last_stays c.args.operands.constants.now c.args.sources.now c.in-Some.others.now c.in-Some.last.now c.args.operands.stack.now c.left-left.result b
-    c.in-Some.ensures.cases.0 (c.in-Some-last.is ∙ ap (λ (s : Source). Some s) c.in-Stack.is) c.left-left.ensures.left h
+    last_stays c.args.operands.constants.now c.args.sources.now c.last_source-last.result.1.now (Some c.last_source-last.result.0) c.args.operands.stack.now c.left-left.result b
+    c.last_source-last.ensures (ap (λ (s : Source). Some s) c.in-Stack.is) c.left-left.ensures.left h
 
 pub returns-in_ok-value-in-Constant-clause-value : goal.returns-in_ok-value-in-Constant-clause-value
 returns-in_ok-value-in-Constant-clause-value c = λ b h.
-    last_copied c.args.operands.constants.now c.args.sources.now c.in-Some.others.now c.in-Some.last.now c.args.operands.stack.now c.left-left.result c.in-Constant.k c.in_ok-value-in-Constant.value b
-    c.in-Some.ensures.cases.0 (c.in-Some-last.is ∙ ap (λ (s : Source). Some s) c.in-Constant.is) c.in_ok-value-in-Constant.ensures c.left-left.ensures.left h
+    last_copied c.args.operands.constants.now c.args.sources.now c.last_source-last.result.1.now (Some c.last_source-last.result.0) c.args.operands.stack.now c.left-left.result c.in-Constant.k c.in_ok-value-in-Constant.value b
+    c.last_source-last.ensures (ap (λ (s : Source). Some s) c.in-Constant.is) c.in_ok-value-in-Constant.ensures c.left-left.ensures.left h
