@@ -18,41 +18,30 @@ use crate::standing::standing;
 use apl_arrays::{Array, Cells, Elements, Ravel, Stop, View, joined_shape, within_limits};
 use apl_faults::Fault;
 use apl_folds::in_order;
-use apl_scalar::{ByFunction, Dyadic, Scalar};
+use apl_scalar::{ByFunction, Dyadic, Scalar, grow};
 use std::alloc::Global;
 
-/// How many values are made before they are appended.
+/// How many values are made at a time.
 const BLOCK: usize = 512;
 
-/// Appends the values of one number with each of a block of numbers.
-fn push_block<F: Attempt>(
-    out: &mut Vec<i64>,
-    x: &Same,
-    ys: &[i64],
-    room: &mut [i64; BLOCK],
-) -> Result<(), Stop>
-    requires { length ys.now ≤ BLOCK }
+/// Appends the values of one number with each of a block of numbers, which are written where they stay.
+fn push_block<F: Attempt>(out: &mut Vec<i64>, x: &Same, ys: &[i64]) -> Result<(), Stop>
     ensures { Appends out.old.items out.new.items (row_of F.meaning x.now.0 ys.now) result }
 {
-    let values = &mut room[..ys.len()];
+    let before = grow(out, ys.len())?;
+    let values = out.as_mut_slice().split_at_mut(before).1;
     meet::<F, Same, Each>(x, &Each(ys), values)?;
-    out.extend_from_slice(values)?;
     Ok(())
 }
 
 /// Appends the values of one number with each of others, block by block.
-fn push_row<F: Attempt>(
-    out: &mut Vec<i64>,
-    x: &Same,
-    ys: &[i64],
-    room: &mut [i64; BLOCK],
-) -> Result<(), Stop>
+fn push_row<F: Attempt>(out: &mut Vec<i64>, x: &Same, ys: &[i64]) -> Result<(), Stop>
     ensures { Appends out.old.items out.new.items (row_of F.meaning x.now.0 ys.now) result }
 {
     let mut from = 0usize;
     while from < ys.len() {
         let till = from + (ys.len() - from).min(BLOCK);
-        push_block::<F>(out, x, &ys[from..till], room)?;
+        push_block::<F>(out, x, &ys[from..till])?;
         from = till;
     }
     Ok(())
@@ -64,9 +53,8 @@ fn cross<F: Attempt>(alloc: Global, xs: &[i64], ys: &[i64]) -> Result<Vec<i64>, 
     ensures { Answers (λ v. v.items) (crossing F.meaning xs.now ys.now) result }
 {
     let mut out = Vec::with_capacity(alloc, xs.len() * ys.len())?;
-    let mut room = [0i64; BLOCK];
     for i in 0..xs.len() {
-        push_row::<F>(&mut out, &Same::new(xs, i), ys, &mut room)?;
+        push_row::<F>(&mut out, &Same::new(xs, i), ys)?;
     }
     Ok(out)
 }
