@@ -3,6 +3,7 @@ mod NoCalls
 mod NoNumbers
 mod NumbersRead
 mod Elsewhere
+mod Passing
 pub mod Effects
 pub mod Marks
 pub mod Rows

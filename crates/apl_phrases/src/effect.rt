@@ -84,6 +84,7 @@ fn goes_by_items(function: Primitive) -> bool
 }
 
 /// Whether what a phrase of this row gives may hang on the index origin.
+#[inline(always)]
 fn asks_origin(row: &Row) -> bool
     ensures { result ≡ false → IsOfNoOrigin row.now }
 {

@@ -23,5 +23,5 @@ pub use frequent::{
     value_read,
 };
 pub use lines::said;
-pub use phrase::{perform, slot_given, slots_given};
+pub use phrase::{perform, slot_given, slots_given, written};
 pub use scene::{Scene, origin_name};

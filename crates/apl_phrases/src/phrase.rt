@@ -8,10 +8,13 @@ ghost use Rattle.apl_machine_state.specs.declared.operand.Operand.{Operand};
 ghost use Rattle.apl_code.specs.declared.row.Row.TheVariants.{Group};
 ghost use Rattle.apl_machine_state.specs.Environment as model;
 ghost use Rattle.apl_machine_state.specs.Outcomes.{Makes, outcome, shown, operand_value, of_result};
+ghost use Rattle.apl_format.specs.Display.{display};
+ghost use Rattle.apl_machine_state.specs.Reports.{plain_lines};
 ghost use Rattle.apl_primitives.specs.Taken.{as_taken};
 ghost use Rattle.apl_primitives.specs.Values.{phrase_value};
 ghost use Rattle.apl_operands.specs.Operands.{Offers, fetched_from, one_value};
-ghost use Rattle.apl_phrases.specs.Effects.{ComesOf, ComesWith, DoesTo, FetchesSlot, MakesSlots, acted};
+ghost use Rattle.apl_phrases.specs.Effects.{ComesOf, ComesWith, DoesTo, FetchesSlot, MakesSlots, PassesWriting, acted};
+ghost use Rattle.apl_phrases.specs.Frequent.{IsPassing};
 
 use crate::assign::{assign, assign_indexed, read};
 use crate::calls::{call, dyadic, monadic};
@@ -22,7 +25,7 @@ use apl_arrays::Array;
 use apl_code::{Action, Row, Source};
 use apl_faults::Fault;
 use apl_format::display;
-use apl_machine_state::{Operand, Slots};
+use apl_machine_state::{Operand, OutLine, Slots};
 use apl_operands::{Held, Operands, arguments, fetch, one_value};
 use apl_primitives::Arguments;
 use std::alloc::{AllocError, Global};
@@ -38,14 +41,47 @@ fn group(arguments: Arguments<'_>) -> Effect
     }
 }
 
+/// The lines that show a value.
+fn shown(alloc: Global, b: &Array) -> Result<Vec<OutLine>, AllocError>
+    ensures { IfOk result (λ lines. lines.items ≡ plain_lines (display b.now)) }
+{
+    said(alloc, display(alloc, b)?)
+}
+
 /// `⎕ ← B`
 #[tactic(auto, using(apl_operands::proofs::Fetching::one_taken))]
 fn show(alloc: Global, arguments: Arguments<'_>) -> Result<Effect, AllocError>
     ensures { IfOk result (ComesOf (as_taken arguments.entry) (shown (as_taken arguments.entry))) }
 {
     match arguments {
-        Arguments::One(b) => Ok(Effect::Passes(Deed::Writes(said(alloc, display(alloc, b)?)?))),
+        Arguments::One(b) => Ok(Effect::Passes(Deed::Writes(shown(alloc, b)?))),
         _ => Ok(Effect::Fails(Fault::Syntax)),
+    }
+}
+
+/// The lines that a phrase writes which passes the value on that it takes: `( B )` none, and `⎕ ← B` those that show it. Another phrase, and one that
+/// takes something else, has none.
+pub fn written(
+    alloc: Global,
+    action: &Action,
+    sources: &[Option<Source>],
+    operands: Operands<'_>,
+) -> Result<Option<Vec<OutLine>>, AllocError>
+    requires there { Offers operands sources.now }
+    ensures is { let os = fetched_from operands.entry sources.now in
+        IfOk result (λ written. IfSome written (λ lines. PassesWriting (λ s. acted s action.now os) os lines.items)) }
+    ensures none { IfOk result (λ written. IfNone written ((b : Arr) → ¬ IsPassing action.now (fetched_from operands.entry sources.now) b)) }
+{
+    let Action::Phrase(row) = action else {
+        return Ok(None);
+    };
+    let Arguments::One(b) = arguments(sources, operands) else {
+        return Ok(None);
+    };
+    match row {
+        Row::Group => Ok(Some(Vec::new(alloc))),
+        Row::Show => Ok(Some(shown(alloc, b)?)),
+        _ => Ok(None),
     }
 }
 

@@ -60,7 +60,8 @@ pub(crate) fn derived(
     }
 }
 
-/// An outer product, where there is a function to take.
+/// An outer product, where there is a function to take. It stands apart, so that what is frequent makes no room for it.
+#[inline(never)]
 pub(crate) fn outer_by(
     alloc: Global,
     function: Option<Dyadic>,
@@ -75,7 +76,8 @@ pub(crate) fn outer_by(
     }
 }
 
-/// An inner product, where there are two functions to take.
+/// An inner product, where there are two functions to take. It stands apart too.
+#[inline(never)]
 pub(crate) fn inner_by(
     alloc: Global,
     first: Option<Dyadic>,

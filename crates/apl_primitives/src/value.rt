@@ -95,6 +95,7 @@ fn by_one(alloc: Global, row: &Row, b: &Array, origin: Origin) -> Result<Array, 
 }
 
 /// A row that takes two values.
+#[inline(always)]
 fn by_two(alloc: Global, row: &Row, a: &Array, b: &Array, origin: Origin) -> Result<Array, Stop>
     ensures { Answers (λ r. r) (by_two row.now a.now b.now (origin_number origin)) result }
 {
@@ -178,6 +179,7 @@ fn by_index_list(
 ///
 /// A row without a meaning is a syntax fault, and so are a function without the wanted valence, an axis of a function that takes none, and an
 /// operator beside anything but a scalar function of two arrays. Every other fault is the function's own.
+#[inline(always)]
 pub fn phrase_value(
     alloc: Global,
     row: &Row,
