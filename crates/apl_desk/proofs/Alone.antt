@@ -1,10 +1,10 @@
 -- Events in order leave each session where its own lead it.
-use Rattle.std.proofs.Common.{◌≡◌, ℕ, zero, suc, ◌+◌, ◌<◌, ◌==◌, Bool, true, false, List, [], ◌∷◌, ◌++◌, length, map, take, refl, sym, ap, subst, ◌∙◌, Option, Some, None, slice_get, slice_index_or, slice_set, arith, rules}
-use Rattle.std.specs.Prelude.{All, filter, option_map}
+use Rattle.std.proofs.Common.{◌≡◌, ℕ, zero, suc, ◌+◌, ◌<◌, ◌==◌, Bool, true, false, List, [], ◌∷◌, ◌++◌, length, map, take, refl, sym, ap, subst, ◌∙◌, Some, slice_get, slice_index_or, slice_set, arith, rules}
+use Rattle.std.specs.Prelude.{All, option_map}
 use Rattle.std.proofs.lemmas.Bool.{eqb-true, eqb-false}
 use Rattle.std.proofs.lemmas.List.{take_more, take-map, map-append}
 use Rattle.std.proofs.lemmas.Option.{slice_get-map, slice_get-get_or}
-use Rattle.apl_machine_state.specs.State.{State, steps, clear}
+use Rattle.apl_machine_state.specs.State.{State, steps}
 use Rattle.apl_session.specs.declared.session.Event.{Event as Typed}
 use Rattle.apl_session.specs.Views.{event}
 use Rattle.apl_session.specs.Events.{IsPart, after, after_event}

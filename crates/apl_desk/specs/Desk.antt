@@ -1,5 +1,5 @@
 -- Sessions side by side, each with events of its own.
-use Rattle.std.specs.Prelude.{◌≡◌, ◌<◌, ◌==◌, ℕ, false, List, length, map, filter, take, Option, Some, slice_get, slice_index_or}
+use Rattle.std.specs.Prelude.{◌≡◌, ◌<◌, ◌==◌, ℕ, false, List, length, map, filter, take, Some, slice_get, slice_index_or}
 use Rattle.apl_machine_state.specs.State.{State, steps, clear}
 use Rattle.apl_session.specs.Events.{Event, IsPart, after}
 

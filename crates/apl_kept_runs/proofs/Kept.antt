@@ -1,5 +1,5 @@
 -- A run that is saved and loaded again at its stops is the cut run.
-use Rattle.std.proofs.Common.{◌≡◌, ℕ, zero, suc, ◌+◌, Bool, true, false, List, [], ◌∷◌, ◌++◌, Option, None, arith, ap, ◌∙◌, sym, refl, subst, ◌⊎◌, inl, inr}
+use Rattle.std.proofs.Common.{◌≡◌, ℕ, zero, suc, ◌+◌, Bool, true, false, List, [], ◌∷◌, ◌++◌, Option, None, arith, ap, ◌∙◌, sym, refl, subst, inl, inr}
 use Rattle.std.specs.Prelude.{if◌then◌else◌}
 use Rattle.std.proofs.lemmas.List.{append_assoc}
 use Rattle.apl_defn.specs.Definitions.{Text, Definition, is_line}
@@ -20,11 +20,11 @@ use Rattle.apl_resume.specs.Cut.{after_stop, count, cut_steps, resume_line, resu
 use Rattle.apl_resume.proofs.Stops.{IsReady, ready-next, turn-idle}
 use Rattle.apl_resume.proofs.Typing.{IsSettled, settled_line, typed_line}
 use Rattle.apl_kept_sessions.specs.Promises.{behind}
-use Rattle.apl_kept_sessions.proofs.Behind.{after-behind, interrupt-behind, turn-behind, turn_behind}
+use Rattle.apl_kept_sessions.proofs.Behind.{after-behind, interrupt-behind, turn-behind}
 use Rattle.apl_kept_sessions.proofs.Going.{sessions-go-on}
 use Rattle.apl_kept_sessions.proofs.Sessions.{sessions-savable}
 use Rattle.apl_kept_runs.specs.Kept.{Run, after_turn, from, gone_on, kept_steps, reloaded, reloaded_at, whole, with_state}
-use Rattle.apl_kept_runs.specs.Promises.{CanBeKept, IsSameRun, KeptRunsAreTheSame}
+use Rattle.apl_kept_runs.specs.Promises.{CanBeKept, KeptRunsAreTheSame}
 
 -- ---- a stop
 

@@ -1,5 +1,5 @@
 -- What is loaded goes on as what it was saved of.
-use Rattle.std.proofs.Common.{◌≡◌, List, [], ◌++◌, Option, None, ap, sym, ◌∙◌}
+use Rattle.std.proofs.Common.{◌≡◌, List, [], Option, None, ap, sym, ◌∙◌}
 use Rattle.std.proofs.lemmas.List.{append-nil}
 use Rattle.apl_defn.specs.Definitions.{Text}
 use Rattle.apl_machine_state.specs.declared.output.OutLine.{OutLine}

@@ -1,7 +1,7 @@
 -- Arrays of a file.
 use Rattle.std.proofs.Common.{◌≡◌, ◌≢◌, ℕ, List, Option, Some, None, length, refl, sym, ap, ◌∙◌, subst}
 use Rattle.apl_charset.proofs.Unique.{one_text}
-use Rattle.apl_arrays.specs.Cells.{Arr, Items, IsArray, cells_of}
+use Rattle.apl_arrays.specs.Cells.{Arr, Items, cells_of}
 use Rattle.apl_arrays.specs.Cells as cells
 use Rattle.apl_arrays.specs.Index.{size_of}
 use Rattle.apl_machine_state.specs.declared.operand.Operand.{Operand}

@@ -1,5 +1,5 @@
 -- Variables of a file.
-use Rattle.std.proofs.Common.{◌≡◌, ◌↔◌, inl, inr, List, Option, Contains, refl, subst}
+use Rattle.std.proofs.Common.{inl, inr, List, Option, Contains, refl, subst}
 use Rattle.apl_arrays.specs.Cells.{Arr}
 use Rattle.apl_charset.specs.Text.{IsLine}
 use Rattle.apl_charset.proofs.Unique.{one_text}

@@ -1,8 +1,7 @@
 -- A map says of each of its names what stands there.
-use Rattle.std.proofs.Common.{◌≡◌, ℕ, Bool, cond, List, [], ◌∷◌, ◌++◌, length, map, reverse, suc, Option, Some, refl, sym, ap, ◌∙◌, arith}
+use Rattle.std.proofs.Common.{◌≡◌, ℕ, Bool, cond, List, [], ◌∷◌, ◌++◌, length, map, reverse, suc, Option, Some, refl, ap, ◌∙◌, arith}
 use Rattle.std.specs.declared.cmp.Ordering.TheVariants.{Less}
 use Rattle.std.specs.List.{flat_map}
-use Rattle.std.specs.Str.{bytes_eq}
 use Rattle.apl_names.specs.declared.binding.Binding.{Binding}
 use Rattle.apl_arrays.specs.Cells.{Arr}
 use Rattle.apl_vectors.specs.Vectors.{Vectors}

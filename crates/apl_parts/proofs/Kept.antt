@@ -6,24 +6,22 @@ use Rattle.std.specs.Str.{bytes_eq}
 use Rattle.std.proofs.lemmas.List.Elements.{All-cons, All-head, All-nil, All-tail}
 use Rattle.apl_arrays.specs.Cells.{Arr}
 use Rattle.apl_defn.specs.Definitions.{Text, Definition, line_of}
-use Rattle.apl_defn.specs.Defining.{IsDefined}
 use Rattle.apl_names.specs.declared.binding.Binding.{Binding}
 use Rattle.apl_names.specs.declared.binding.Binding.TheVariants.{Value, Function}
 use Rattle.apl_names.specs.Maps.{function_in, said, value_in}
 use Rattle.apl_names.proofs.Texts.{same, flip}
-use Rattle.apl_vectors.specs.Vectors.{Vectors}
 use Rattle.apl_machine_state.specs.Calls.{bound_to}
 use Rattle.apl_machine_state.specs.Environment as model
-use Rattle.apl_order.specs.Kept.{AreKept, AreAscending, AreGlobals, AreLines, AreVectors, IsKept, IsKeptContext, IsObject, IsOfLine, IsOfText, IsVectorOf, names_in}
+use Rattle.apl_order.specs.Kept.{AreKept, AreAscending, AreGlobals, AreLines, AreVectors, IsKeptContext, IsObject, IsOfLine, IsOfText, IsVectorOf}
 use Rattle.apl_order.proofs.Maps.{listed-map, said-listed}
 use Rattle.apl_order.proofs.Vectors.{listed-with, unless_empty, with-ascends}
 use Rattle.apl_order.proofs.CallMaps.{AreValues, first_names, listed-call-map}
 use Rattle.apl_order.proofs.Keeping.{vector-fits}
 use Rattle.apl_parts.specs.declared.parts.ContextPart.{ContextPart}
 use Rattle.apl_parts.specs.declared.parts.ContextPart.TheVariants.{Statement, Call, Execute}
-use Rattle.apl_parts.specs.Pieces.{Waiting, Standing, Watched}
+use Rattle.apl_parts.specs.Pieces.{Waiting, Watched}
 use Rattle.apl_parts.specs.Workspaces.{Pieces}
-use Rattle.apl_parts.specs.Restored.{AreWhole, IsContext, IsWaiting, IsWaitingIn, IsWatched, context_of, function_entry, globals_of, line_by, names_of, rest_of, standing_in, state_of, variable_entry, vectors_of}
+use Rattle.apl_parts.specs.Restored.{IsContext, IsWaiting, IsWaitingIn, IsWatched, context_of, function_entry, globals_of, line_by, rest_of, standing_in, variable_entry, vectors_of}
 use Rattle.apl_parts.specs.Promises.{WholePartsAreKept}
 use Rattle.apl_parts.proofs.Added.{all_reverse, map_reverse}
 use Rattle.apl_parts.proofs.InOrder.{whole-order}

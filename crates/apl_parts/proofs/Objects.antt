@@ -4,7 +4,6 @@ use Rattle.std.proofs.lemmas.List.{map_push}
 use Rattle.apl_arrays.specs.Cells.{Arr}
 use Rattle.apl_vectors.specs.Vectors.{Vectors, with_vector}
 use Rattle.apl_names.specs.declared.binding.Binding.{Binding}
-use Rattle.apl_names.specs.declared.binding.Binding.TheVariants.{Value, Function}
 use Rattle.apl_names.specs.Maps.{Text, Map, assigned, first_map, map_of, with_entry, with_global}
 use Rattle.apl_parts.specs.Pieces.{Watched}
 use Rattle.apl_parts.specs.Restored.{function_entry, variable_entry, vectors_of}

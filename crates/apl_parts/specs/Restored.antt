@@ -12,7 +12,7 @@ use Rattle.apl_translate.specs.Forms.{forms_after}
 use Rattle.apl_translate.specs.Lines.{Line}
 use Rattle.apl_translate.specs.Translation.{Translates}
 use Rattle.apl_vectors.specs.Vectors.{Vectors, with_vector}
-use Rattle.apl_defn.specs.Definitions.{Text, Definition, is_line, line_of}
+use Rattle.apl_defn.specs.Definitions.{Text, is_line, line_of}
 use Rattle.apl_defn.specs.Defining.{IsDefined}
 use Rattle.apl_names.specs.declared.binding.Binding.{Binding}
 use Rattle.apl_names.specs.declared.binding.Binding.TheVariants.{Value, Function}

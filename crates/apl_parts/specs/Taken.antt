@@ -1,5 +1,5 @@
 -- The parts of a state.
-use Rattle.std.specs.Prelude.{ℕ, List, [], ◌∷◌, map, reverse, Option, option_map}
+use Rattle.std.specs.Prelude.{List, [], ◌∷◌, map, reverse, Option, option_map}
 use Rattle.std.specs.List.{flat_map}
 use Rattle.apl_arrays.specs.Cells.{Arr}
 use Rattle.apl_symbols.specs.declared.class.Class.{Class}
@@ -11,7 +11,7 @@ use Rattle.apl_translate.specs.declared.form.Form.{Form}
 use Rattle.apl_translate.specs.declared.form.Form.TheVariants as forms
 use Rattle.apl_translate.specs.declared.form.Placed.{Placed}
 use Rattle.apl_vectors.specs.Vectors.{Vectors, vector_of}
-use Rattle.apl_defn.specs.Definitions.{Text, Definition}
+use Rattle.apl_defn.specs.Definitions.{Text}
 use Rattle.apl_names.specs.declared.binding.Binding.{Binding}
 use Rattle.apl_names.specs.declared.binding.Binding.TheVariants.{Value, Function}
 use Rattle.apl_names.specs.Maps.{Map, said, value_in}
@@ -21,7 +21,7 @@ use Rattle.apl_machine_state.specs.State.{State}
 use Rattle.apl_order.specs.Kept.{names_in}
 use Rattle.apl_parts.specs.declared.parts.ContextPart.{ContextPart}
 use Rattle.apl_parts.specs.declared.parts.ContextPart.TheVariants.{Statement, Call, Execute}
-use Rattle.apl_parts.specs.Pieces.{Waiting, Standing, Watched}
+use Rattle.apl_parts.specs.Pieces.{Waiting, Watched}
 use Rattle.apl_parts.specs.Workspaces.{Pieces}
 
 -- the class with which an item was bound, where it is a user name

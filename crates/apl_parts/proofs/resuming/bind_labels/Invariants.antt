@@ -1,4 +1,4 @@
-use Rattle.std.proofs.Common.{◌≡◌, ℕ, ◌≤◌, All, length, map}
+use Rattle.std.proofs.Common.{◌≡◌, ◌≤◌, All, length, map}
 use Rattle.apl_machine_state.specs.Calls.{label_of}
 use Rattle.apl_names.specs.Maps.{AreBeneath, with_locals}
 use Rattle.apl_parts.proofs.resuming.bind_labels.Given as goal

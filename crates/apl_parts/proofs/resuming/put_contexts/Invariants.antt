@@ -1,4 +1,4 @@
-use Rattle.std.proofs.Common.{◌≡◌, ◌++◌, All, List, reverse, vec_len}
+use Rattle.std.proofs.Common.{◌≡◌, ◌++◌, All, List, vec_len}
 use Rattle.apl_names.specs.Maps.{first_map}
 use Rattle.apl_parts.specs.declared.parts.ContextPart.{ContextPart}
 use Rattle.apl_parts.specs.Restored.{IsContext}

@@ -1,4 +1,4 @@
-use Rattle.std.proofs.Common.{ap, ◌∙◌, List, Bool}
+use Rattle.std.proofs.Common.{ap, ◌∙◌, Bool}
 use Rattle.std.specs.List.{flat_map}
 use Rattle.apl_arrays.specs.Origins.{origin_number}
 use Rattle.apl_names.specs.Maps.{Text, last_map, said}

@@ -1,6 +1,6 @@
-use Rattle.std.proofs.Common.{rules, ◌≡◌, ◌+◌, ◌<◌, ◌≤◌, All, length, Some, take, sym, ap, subst, refl, ◌∙◌, ◌++◌, ◌∷◌, [], arith}
+use Rattle.std.proofs.Common.{sym, ap, subst, ◌∙◌}
 use Rattle.std.proofs.lemmas.List.{take_all}
-use Rattle.apl_desk.specs.Desk.{AreAlone, LeftAt, session}
+use Rattle.apl_desk.specs.Desk.{AreAlone}
 use Rattle.apl_desk.specs.Views.{addressed_list}
 use Rattle.apl_desk.proofs.Alone.{after_all, are_alone, goes_on, left_at}
 use Rattle.apl_desk.proofs.desk.Desk.drive.Goals as goal

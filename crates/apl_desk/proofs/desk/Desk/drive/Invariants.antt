@@ -1,4 +1,4 @@
-use Rattle.std.proofs.Common.{◌≡◌, ◌<◌, All, length, take}
+use Rattle.std.proofs.Common.{◌≡◌, length, take}
 use Rattle.apl_desk.specs.Views.{addressed_list}
 use Rattle.apl_desk.proofs.Alone.{after_all}
 use Rattle.apl_desk.proofs.desk.Desk.drive.Given as goal
