@@ -62,7 +62,7 @@ Examples:
   apl --desk <lines                 Run sessions side by side
 ";
 
-const VERSION: &str = "apl 2026-11-28 (rattle-kit-13b logic dac8208d650f15bf)\n";
+const VERSION: &str = "apl 2026-11-29 (rattle-kit-13f logic dac8208d650f15bf)\n";
 
 #[test]
 fn words(rt: HostRuntime) -> Result<(), Fail> {

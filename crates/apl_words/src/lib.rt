@@ -125,7 +125,7 @@ fn desk<'a>(alloc: Global) -> Result<Arg<'a>, AllocError> {
 
 /// The day of the newest changes that CHANGELOG.md tells of, and the kit that the program is proved
 /// with.
-const VERSION: &str = "2026-11-28 (rattle-kit-13b logic dac8208d650f15bf)";
+const VERSION: &str = "2026-11-29 (rattle-kit-13f logic dac8208d650f15bf)";
 
 /// An example of each word.
 const EXAMPLES: &str = "Examples:
