@@ -1,5 +1,5 @@
 """The crates of this repository as the toolchain's rt has them, proved side by side: what bin/build, bin/check-embedding, bin/gate-cost
-and bin/wrong-bodies share. What is proved is kept in crates/NAME/out, so that only what has changed is proved again."""
+and bin/mutants share. What is proved is kept in crates/NAME/out, so that only what has changed is proved again."""
 import functools
 import importlib.machinery
 import importlib.util
