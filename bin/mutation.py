@@ -9,6 +9,7 @@ from __future__ import annotations
 import collections
 import dataclasses
 import enum
+import functools
 import glob
 import hashlib
 import json
@@ -300,16 +301,30 @@ class Trial:
             yield mutant, self.alone(mutant)
 
 
+def sum_of(folders: Iterable[str]) -> str:
+    """Returns a sum of all files below these folders, with their places there."""
+    found = hashlib.sha256()
+    for folder in folders:
+        for at, inside, files in os.walk(folder):
+            inside.sort()
+            for name in sorted(files):
+                with open(f"{at}/{name}", "rb") as it:
+                    found.update(repr((os.path.relpath(f"{at}/{name}", folder), it.read())).encode())
+    return found.hexdigest()
+
+
 class Kept:
-    """What passed on this machine before, by the sum of all that it stands on."""
+    """What passed on this machine before, by the sum of all that it stands on: the mutant, the crate's files, and of each library below it
+    the definitions, the proof files and the functions without their bodies, since a check reads no more of a library."""
 
     def __init__(self, rt: ModuleType) -> None:
         self.rt, self.folder = rt, f"{rt.STORE}/mutants"
-        self.seen: dict[str, str] = {}
+        self.below = functools.cache(lambda folder, rlib: sum_of([f"{folder}/specs", f"{folder}/proofs", f"{rlib}/lang/src"]))
 
     def place(self, crate: Any, path: str) -> str:
+        libraries = [(it.name, self.below(it.folder, it.rlib)) for it in crate.below()]
         with open(path, "rb") as it:
-            stands_on = (FORM, self.rt.stamp_of(crate, self.seen), os.path.basename(path), it.read())
+            stands_on = (FORM, self.rt.own_sum(crate), libraries, os.path.basename(path), it.read())
         return f"{self.folder}/{hashlib.sha256(repr(stands_on).encode()).hexdigest()}"
 
     def has(self, crate: Any, path: str) -> bool:
