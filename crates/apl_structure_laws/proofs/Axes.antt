@@ -1,7 +1,9 @@
 -- Lists in which the item for one axis is changed.
-use Rattle.std.proofs.Common.{suc, zero, ◌≡◌, ℕ, ◌<◌, ◌&&◌, Bool, true, false, nat_lt, List, [], ◌∷◌, length, get_or, refl, ap, sym, ◌∙◌, arith}
-use Rattle.std.proofs.lemmas.Bool.{ltb-true, lt-ltb}
-use Rattle.apl_arrays.specs.Index.{is_within}
+use Rattle.std.proofs.Common.{suc, zero, ◌≡◌, ℕ, ◌<◌, ◌≤◌, true, nat_lt, max, List, [], ◌∷◌, length, get_or, refl, ap, sym, ◌∙◌, arith}
+use Rattle.std.proofs.lemmas.Bool.{eq-eqb, le-leb}
+use Rattle.std.proofs.Math.Nat.{mul-le-mul_left, mul-le-mul_right}
+use Rattle.apl_arrays.specs.Checks.{is_limited, same}
+use Rattle.apl_arrays.specs.Index.{bound_of, is_within}
 use Rattle.apl_arrays.specs.Axes.{without}
 use Rattle.apl_arrays.specs.Views.{on_axis}
 use Rattle.apl_arrays.proofs.Places.{both, within_head}
@@ -63,3 +65,28 @@ within-on_axis (suc k) m f (n ∷ s) (i ∷ is) w h =
 -- the same, where the length stays
 pub within-stays : (k : ℕ) (f : ℕ → ℕ) (s i : List ℕ) → is_within s i ≡ true → (k < length s → f (get_or i k 0) < get_or s k 0) → is_within s (on_axis k f i) ≡ true
 within-stays k f s i w h = ap (λ t. is_within t (on_axis k f i)) (sym (on_axis-stays k (λ n. n) s (λ b. refl))) ∙ within-on_axis k (λ n. n) f s i w h
+
+-- ---- another length on an axis
+
+-- the shape with another length on an axis is one that differs from it there alone
+pub on_axis-to : (k : ℕ) (f : ℕ → ℕ) (s t : List ℕ) → without k s ≡ without k t → length s ≡ length t → k < length s → f (get_or s k 0) ≡ get_or t k 0 → on_axis k f s ≡ t
+on_axis-to k f [] t e l h g = absurd (omega arith)
+on_axis-to k f (n ∷ s) [] e l h g = absurd (omega arith)
+on_axis-to zero f (n ∷ s) (m ∷ t) e l h g = ap (λ x. x ∷ s) g ∙ ap (λ x. m ∷ x) e
+on_axis-to (suc k) f (n ∷ s) (m ∷ t) e l h g =
+    let first : n ≡ m = cc in
+    let rest : without k s ≡ without k t = cc in
+    ap (λ x. x ∷ on_axis k f s) first ∙ ap (λ x. m ∷ x) (on_axis-to k f s t rest (omega arith) (omega arith) g)
+
+pub bound-on_axis : (k n : ℕ) (s : List ℕ) → n ≤ get_or s k 0 → bound_of (on_axis k (λ m. n) s) ≤ bound_of s
+bound-on_axis zero n [] h = omega arith
+bound-on_axis (suc k) n [] h = omega arith
+bound-on_axis zero n (m ∷ s) h = mul-le-mul_right (bound_of s) (omega arith)
+bound-on_axis (suc k) n (m ∷ s) h = mul-le-mul_left (max m 1) (bound-on_axis k n s h)
+
+pub limited-by : (s : List ℕ) → length s ≤ 8 → bound_of s ≤ 1000000 → is_limited s ≡ true
+limited-by s h g = rw (le-leb (length s) 8 h, le-leb (bound_of s) 1000000 g) refl
+
+pub same-refl : (s : List ℕ) → same s s ≡ true
+same-refl [] = refl
+same-refl (n ∷ s) = rw (eq-eqb n n refl) (same-refl s)

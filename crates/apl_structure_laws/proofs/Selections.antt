@@ -1,5 +1,5 @@
 -- Elements that are taken anew, and put back.
-use Rattle.std.proofs.Common.{◌≡◌, ℕ, pos, true, List, map, length, get_or, refl, ap, sym, ◌∙◌, arith}
+use Rattle.std.proofs.Common.{◌≡◌, ℕ, pos, true, List, map, length, get_or, refl, ap, sym, ◌∙◌}
 use Rattle.std.specs.List.{range_with_len}
 use Rattle.std.proofs.lemmas.List.{length-map}
 use Rattle.std.proofs.lemmas.List.FromFn.{fill_by_all}
