@@ -1,7 +1,11 @@
 -- What the words of the command line ask for.
-use Rattle.std.specs.Prelude.{◌≡◌, ◌⊎◌, ◌<◌, ◌^◌, ℕ, Bool, true, false, List, Option, Some, None, option_map, string_bytes, codes}
+use Rattle.std.specs.Prelude.{◌≡◌, ◌≢◌, ◌⊎◌, ◌<◌, ◌^◌, ⊤, ℕ, Bool, true, false, List, Option, Some, None, option_map, string_bytes, codes}
 use Rattle.std.specs.Str.Parse.{IsNumeral, digits_value, without_leading_plus}
 use Rattle.clap.specs.Words.{Row, Text, first_of, one_of}
+use Rattle.clap.specs.declared.error.kind.ErrorKind.{ErrorKind}
+use Rattle.clap.specs.declared.error.kind.ErrorKind.TheVariants.{DisplayHelp, DisplayVersion, OutOfMemory}
+use Rattle.apl_words.specs.declared.WordsError.{WordsError}
+use Rattle.apl_words.specs.declared.WordsError.TheVariants.{Help, Wrong, Memory}
 use Rattle.apl_words.specs.declared.Plan.{Plan}
 use Rattle.apl_words.specs.declared.Plan.TheVariants.{Run, Show, Desk}
 use Rattle.apl_words.specs.declared.Way.{Way}
@@ -23,6 +27,12 @@ IsSteps (Some text) steps = (IsCount text → steps ≡ digits_value 10 (without
 abbrev pub is_resumed : Way → Bool
 is_resumed Plain = false
 is_resumed Resumed = true
+
+-- how an error of the parser is told, by its kind; memory for the text may always be missing
+abbrev pub IsTold : ErrorKind → WordsError → Type 0
+IsTold kind Memory = ⊤
+IsTold kind (Help text) = ((kind ≢ DisplayHelp) × (kind ≢ DisplayVersion)) → ⊥
+IsTold kind (Wrong text) = (kind ≢ OutOfMemory) × (kind ≢ DisplayHelp) × (kind ≢ DisplayVersion)
 
 -- The plan for what was found: a desk where that flag is there; else the code of a function where a workspace and a function are; else a run, with the
 -- workspace, the file to save in and the way that were found.

@@ -2,9 +2,9 @@
 #![tactic(auto)]
 
 ghost use Rattle.std.specs.Prelude.{◌≡◌, IfOk, codes, false, map, option_map, string_bytes};
-ghost use Rattle.clap.specs.Words.{app_of, first_of, found_of, one_of, rows_of, rule_of};
+ghost use Rattle.clap.specs.Words.{app_of, first_of, found_of, kind_of, one_of, rows_of, rule_of};
 ghost use Rattle.apl_words.specs.Arguments as spec;
-ghost use Rattle.apl_words.specs.Planning.{IsFlag, IsPlan, IsSteps, is_resumed};
+ghost use Rattle.apl_words.specs.Planning.{IsFlag, IsPlan, IsSteps, IsTold, is_resumed};
 ghost use Rattle.apl_words.specs.declared.WordsError.TheVariants.{Memory};
 
 use clap::error::ErrorKind;
@@ -231,7 +231,9 @@ fn parsed<'a>(alloc: Global, words: &'a [String]) -> Result<Plan, clap::Error>
 }
 
 /// What the parser has to say.
-fn told(alloc: Global, error: &clap::Error) -> WordsError {
+fn told(alloc: Global, error: &clap::Error) -> WordsError
+    ensures { IsTold (kind_of error.now) result }
+{
     if error.kind() == ErrorKind::OutOfMemory {
         return WordsError::Memory;
     }
