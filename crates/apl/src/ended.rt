@@ -1,5 +1,6 @@
 //! How the program ends where it does not run all its input.
 
+use apl_files::FileError;
 use apl_runs::RunError;
 use apl_words::WordsError;
 use apl_workspace::{LoadError, SaveError};
@@ -28,9 +29,9 @@ pub(crate) enum Ended {
     /// The run ended with the error of this number.
     #[error("apl: run: {0}\n")]
     Run(u8),
-    /// The workspace can't be saved.
-    #[error("apl: save\n")]
-    Save,
+    /// The workspace isn't saved in its file.
+    #[error("{0}\n")]
+    Save(FileError),
 }
 
 impl From<WordsError> for Ended {
@@ -56,8 +57,14 @@ impl From<SaveError> for Ended {
     fn from(error: SaveError) -> Ended {
         match error {
             SaveError::Memory => Ended::Memory,
-            SaveError::Running => Ended::Save,
+            SaveError::Running => Ended::Save(FileError::Refused),
         }
+    }
+}
+
+impl From<FileError> for Ended {
+    fn from(error: FileError) -> Ended {
+        Ended::Save(error)
     }
 }
 
@@ -92,7 +99,8 @@ impl Ended {
             Ended::Words(_) => 1,
             Ended::Load(_) | Ended::LoadFile => 2,
             Ended::Memory => 3,
-            Ended::Run(_) | Ended::Save => 4,
+            Ended::Save(error) if error.is_memory() => 3,
+            Ended::Run(_) | Ended::Save(_) => 4,
         }
     }
 

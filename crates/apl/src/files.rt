@@ -3,10 +3,10 @@ ghost use Rattle.std.specs.Prelude.{◌≡◌, [], IfOk, IsTrue};
 ghost use Rattle.apl_machine_state.specs.State.{is_idle};
 
 use crate::ended::Ended;
+use apl_files::Held;
 use apl_machine::Machine;
 use apl_workspace::{load, save};
-use std::fs::{self, File};
-use std::io::{self, Write};
+use std::{fs, io};
 
 /// The workspace that a file holds.
 pub(crate) fn load_file(rt: &HostRuntime, path: &str) -> Result<Machine, Ended>
@@ -20,29 +20,8 @@ pub(crate) fn load_file(rt: &HostRuntime, path: &str) -> Result<Machine, Ended>
     }
 }
 
-/// Writes a file anew, to the disk.
-fn write_flushed(rt: &HostRuntime, path: &str, bytes: &[u8]) -> io::Result<()> {
-    let mut file = File::create(rt, path)?;
-    file.write_all(bytes)?;
-    file.sync_all()
-}
-
-/// Has the bytes stand in a file, whole or not at all: they are written to a new file beside it, which
-/// then takes its name.
-fn replace(rt: &HostRuntime, path: &str, bytes: &[u8]) -> Result<(), Ended> {
-    let beside = format!(in rt.alloc(); "{path}.new").map_err(|_| Ended::Memory)?;
-    let written = write_flushed(rt, beside.as_str(), bytes);
-    match written.and_then(|()| fs::rename(rt, beside.as_str(), path)) {
-        Ok(()) => Ok(()),
-        Err(_) => {
-            let _ = fs::remove_file(rt, beside.as_str());
-            Err(Ended::Save)
-        }
-    }
-}
-
-/// Saves a workspace in a file. Where that can't be written, what it held before stays.
-pub(crate) fn save_file(rt: &HostRuntime, path: &str, ws: &Machine) -> Result<(), Ended> {
+/// Saves a workspace in a file that this run holds.
+pub(crate) fn save_file(rt: &HostRuntime, held: &Held, ws: &Machine) -> Result<(), Ended> {
     let bytes = save(rt.alloc(), ws)?;
-    replace(rt, path, &bytes)
+    Ok(held.save(rt, &bytes)?)
 }

@@ -10,20 +10,24 @@ mod ended;
 mod files;
 mod sessions;
 mod shown;
-#[cfg(test)]
-mod tests;
 
+use apl_files::Held;
 use apl_machine::Machine;
-use apl_runs::{Device, Sink, Source, run, run_resumed};
+use apl_runs::{Device, run, run_resumed};
 use apl_words::{Plan, Running, Way, planned};
 use ended::Ended;
 use files::{load_file, save_file};
 use sessions::run_sessions;
 use shown::show;
+use std::alloc::Global;
 use std::env;
-use std::io::{self, BufReader};
+use std::io::{self, BufReader, Stdin, Stdout};
 use std::process::ExitCode;
 use std::rt::Env;
+
+type Input = Device<BufReader<Stdin, Global>>;
+
+type Output = Device<Stdout>;
 
 /// The words that the program was called with, its name first. Words that are no UTF-8 are wrong.
 fn words<R: Env + AllocGlobal>(rt: &R) -> Result<Vec<String>, Ended> {
@@ -46,11 +50,11 @@ fn first_workspace(rt: &HostRuntime, running: &Running) -> Result<Machine, Ended
 }
 
 /// Runs the input on that workspace.
-fn run_on<R: Source, W: Sink>(
+fn run_on(
     rt: &HostRuntime,
     running: &Running,
-    input: &mut R,
-    output: &mut W,
+    input: &mut Input,
+    output: &mut Output,
 ) -> Result<Machine, Ended> {
     let ws = first_workspace(rt, running)?;
     let ran = match running.way {
@@ -60,26 +64,42 @@ fn run_on<R: Source, W: Sink>(
     Ok(ran)
 }
 
-/// Runs the input on a workspace, and saves that where it is asked for.
-fn run_workspace<R: Source, W: Sink>(
+/// Runs the input on a workspace, and saves that in this file.
+fn run_saved(
     rt: &HostRuntime,
     running: &Running,
-    input: &mut R,
-    output: &mut W,
+    path: &str,
+    input: &mut Input,
+    output: &mut Output,
 ) -> Result<(), Ended> {
-    let ws = run_on(rt, running, input, output)?;
+    let held = Held::hold(rt, path)?;
+    let saved = match run_on(rt, running, input, output) {
+        Ok(ws) => save_file(rt, &held, &ws),
+        Err(ended) => Err(ended),
+    };
+    held.release(rt);
+    saved
+}
+
+/// Runs the input on a workspace, and saves that where it is asked for.
+fn run_workspace(
+    rt: &HostRuntime,
+    running: &Running,
+    input: &mut Input,
+    output: &mut Output,
+) -> Result<(), Ended> {
     match &running.save {
-        Some(path) => save_file(rt, path.as_str(), &ws),
-        None => Ok(()),
+        Some(path) => run_saved(rt, running, path.as_str(), input, output),
+        None => run_on(rt, running, input, output).map(|_| ()),
     }
 }
 
 /// Does what the words ask for.
-fn run_as<R: Source, W: Sink>(
+fn run_as(
     rt: &HostRuntime,
     words: &[String],
-    input: &mut R,
-    output: &mut W,
+    input: &mut Input,
+    output: &mut Output,
 ) -> Result<(), Ended> {
     match planned(rt.alloc(), words)? {
         Plan::Run(running) => run_workspace(rt, &running, input, output),

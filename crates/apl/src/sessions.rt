@@ -1,9 +1,10 @@
 //! Sessions side by side.
 
 use crate::ended::Ended;
+use crate::{Input, Output};
 use apl_desk::Desk;
 use apl_machine::Machine;
-use apl_runs::{Sink, Source, run_desk};
+use apl_runs::run_desk;
 use apl_session::Session;
 use std::alloc::{AllocError, Global};
 
@@ -20,10 +21,10 @@ fn clear_desk(alloc: Global) -> Result<Desk, AllocError> {
 }
 
 /// Runs the input on a desk of clear sessions.
-pub(crate) fn run_sessions<R: Source, W: Sink>(
+pub(crate) fn run_sessions(
     alloc: Global,
-    input: &mut R,
-    output: &mut W,
+    input: &mut Input,
+    output: &mut Output,
     steps: u64,
 ) -> Result<(), Ended> {
     let desk = clear_desk(alloc)?;

@@ -1,11 +1,12 @@
 //! The code of a function, as it is shown.
 
+use crate::Output;
 use crate::ended::Ended;
 use apl_charset::{CharFault, decode_line};
 use apl_devices::write_all;
 use apl_listed::code_of;
 use apl_machine::Machine;
-use apl_runs::{Failed, RunError, Sink};
+use apl_runs::{Failed, RunError};
 use std::alloc::Global;
 
 /// The listings of a function's lines.
@@ -22,7 +23,7 @@ fn listings(alloc: Global, ws: &Machine, function: &str) -> Result<Vec<Vec<u8>>,
 }
 
 /// Writes bytes.
-fn put<W: Sink>(output: &mut W, bytes: &[u8]) -> Result<(), Ended> {
+fn put(output: &mut Output, bytes: &[u8]) -> Result<(), Ended> {
     match write_all(output, bytes) {
         Ok(()) => Ok(()),
         Err(Failed) => Err(Ended::from(RunError::Write)),
@@ -30,11 +31,11 @@ fn put<W: Sink>(output: &mut W, bytes: &[u8]) -> Result<(), Ended> {
 }
 
 /// Writes the number of each line of a function, and behind it the line's listing.
-pub(crate) fn show<W: Sink>(
+pub(crate) fn show(
     alloc: Global,
     ws: &Machine,
     function: &str,
-    output: &mut W,
+    output: &mut Output,
 ) -> Result<(), Ended> {
     for (index, listing) in listings(alloc, ws, function)?.iter().enumerate() {
         let number = format!(in alloc; "[{}]\n", index + 1).map_err(|_| Ended::Memory)?;

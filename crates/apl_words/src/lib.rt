@@ -1,9 +1,10 @@
 //! The words of the command line of the program `apl`.
 #![tactic(auto)]
 
-ghost use Rattle.std.specs.Prelude.{◌≡◌, IfNone, IfOk, IfSome};
-ghost use Rattle.apl_words.specs.declared.Plan.TheVariants.{Run, Show};
-ghost use Rattle.apl_words.specs.declared.Running.{Running};
+ghost use Rattle.std.specs.Prelude.{◌≡◌, IfOk, codes, false, map, option_map, string_bytes};
+ghost use Rattle.clap.specs.Words.{app_of, first_of, found_of, kind_of, one_of, rows_of, rule_of};
+ghost use Rattle.apl_words.specs.Arguments as spec;
+ghost use Rattle.apl_words.specs.Planning.{IsFlag, IsPlan, IsSteps, IsTold, is_resumed};
 ghost use Rattle.apl_words.specs.declared.WordsError.TheVariants.{Memory};
 
 use clap::error::ErrorKind;
@@ -71,12 +72,16 @@ impl From<AllocError> for WordsError {
 }
 
 /// The file of the workspace.
-fn workspace<'a>(alloc: Global) -> Arg<'a> {
+fn workspace<'a>(alloc: Global) -> Arg<'a>
+    ensures { (rule_of result ≡ spec.workspace_rule) × (result.global ≡ false) }
+{
     Arg::new(alloc, "WS").index(1).help("The file of the workspace to begin with, else a clear one")
 }
 
 /// The option `--save`.
-fn save<'a>(alloc: Global) -> Arg<'a> {
+fn save<'a>(alloc: Global) -> Arg<'a>
+    ensures { (rule_of result ≡ spec.save_rule) × (result.global ≡ false) }
+{
     Arg::new(alloc, "save")
         .long("save")
         .value_name("FILE")
@@ -84,7 +89,9 @@ fn save<'a>(alloc: Global) -> Arg<'a> {
 }
 
 /// The option `--steps`.
-fn steps<'a>(alloc: Global) -> Arg<'a> {
+fn steps<'a>(alloc: Global) -> Arg<'a>
+    ensures { (rule_of result ≡ spec.steps_rule) × (result.global ≡ false) }
+{
     Arg::new(alloc, "steps")
         .long("steps")
         .value_name("N")
@@ -93,7 +100,9 @@ fn steps<'a>(alloc: Global) -> Arg<'a> {
 }
 
 /// The option `--code`.
-fn code<'a>(alloc: Global) -> Result<Arg<'a>, AllocError> {
+fn code<'a>(alloc: Global) -> Result<Arg<'a>, AllocError>
+    ensures { IfOk result (λ arg. (rule_of arg ≡ spec.code_rule) × (arg.global ≡ false)) }
+{
     Arg::new(alloc, "code")
         .long("code")
         .value_name("F")
@@ -104,7 +113,9 @@ fn code<'a>(alloc: Global) -> Result<Arg<'a>, AllocError> {
 }
 
 /// The flag `--resume`.
-fn resume<'a>(alloc: Global) -> Arg<'a> {
+fn resume<'a>(alloc: Global) -> Arg<'a>
+    ensures { (rule_of result ≡ spec.resume_rule) × (result.global ≡ false) }
+{
     Arg::new(alloc, "resume")
         .long("resume")
         .help("Answer each stop by the line →⎕LC")
@@ -112,7 +123,9 @@ fn resume<'a>(alloc: Global) -> Arg<'a> {
 }
 
 /// The flag `--desk`.
-fn desk<'a>(alloc: Global) -> Result<Arg<'a>, AllocError> {
+fn desk<'a>(alloc: Global) -> Result<Arg<'a>, AllocError>
+    ensures { IfOk result (λ arg. (rule_of arg ≡ spec.desk_rule) × (arg.global ≡ false)) }
+{
     Arg::new(alloc, "desk")
         .long("desk")
         .help("Run 64 clear sessions: each line begins with a number from 0 to 63 and a blank")
@@ -137,7 +150,9 @@ const EXAMPLES: &str = "Examples:
   apl --desk <lines                 Run sessions side by side";
 
 /// The command line.
-fn command<'a>(alloc: Global) -> Result<Command<'a>, AllocError> {
+fn command<'a>(alloc: Global) -> Result<Command<'a>, AllocError>
+    ensures { IfOk result (λ command. app_of command ≡ spec.apl) }
+{
     Command::new(alloc, "apl")
         .version(VERSION)
         .after_help(EXAMPLES)
@@ -150,37 +165,46 @@ fn command<'a>(alloc: Global) -> Result<Command<'a>, AllocError> {
 }
 
 /// The value of an argument, if it has one.
-fn given(
-    alloc: Global,
-    matches: &ArgMatches<'_>,
-    name: &str,
-) -> Result<Option<String>, AllocError> {
+fn given(alloc: Global, matches: &ArgMatches<'_>, name: &str) -> Result<Option<String>, AllocError>
+    ensures { IfOk result (λ value. option_map string_bytes value ≡ first_of name.now (rows_of (found_of matches.now))) }
+{
     match matches.get_str(name) {
         Some(value) => Ok(Some(String::from_str(alloc, value)?)),
         None => Ok(None),
     }
 }
 
-fn way_of(matches: &ArgMatches<'_>) -> Way {
-    if matches.get_flag("resume") {
+/// Whether a flag is given.
+fn has_flag(matches: &ArgMatches<'_>, name: &str) -> bool
+    ensures { IsFlag (one_of name.now (rows_of (found_of matches.now))) result }
+{
+    matches.get_flag(name)
+}
+
+/// The most steps of a line.
+fn steps_of(matches: &ArgMatches<'_>) -> u64
+    ensures { IsSteps (one_of (codes "steps") (rows_of (found_of matches.now))) result }
+{
+    matches.get_one::<u64>("steps").unwrap_or(1_000_000)
+}
+
+fn way_of(matches: &ArgMatches<'_>) -> Way
+    ensures { IsFlag (one_of (codes "resume") (rows_of (found_of matches.now))) (is_resumed result) }
+{
+    if has_flag(matches, "resume") {
         Way::Resumed
     } else {
         Way::Plain
     }
 }
 
-/// What the words ask for whose workspace and function these are. A function stands beside a
-/// workspace alone.
-fn plan_of(
-    alloc: Global,
-    matches: &ArgMatches<'_>,
-    workspace: Option<String>,
-    function: Option<String>,
-) -> Result<Plan, AllocError>
-    ensures shown { IfOk result (λ plan. IfSome workspace (λ file. IfSome function (λ name. plan ≡ Show (record { workspace = file; function = name })))) }
-    ensures run { IfOk result (λ plan. IfNone function ((run : Running) × (plan ≡ Run run) × (run.workspace ≡ workspace))) }
+/// What is asked for where no desk is. A function stands beside a workspace alone.
+fn plan_of(alloc: Global, matches: &ArgMatches<'_>) -> Result<Plan, AllocError>
+    requires { IsFlag (one_of (codes "desk") (rows_of (found_of matches.now))) false }
+    ensures { IfOk result (IsPlan (rows_of (found_of matches.now))) }
 {
-    let steps = matches.get_one::<u64>("steps").unwrap_or(1_000_000);
+    let workspace = given(alloc, matches, "WS")?;
+    let function = given(alloc, matches, "code")?;
     match (workspace, function) {
         (Some(workspace), Some(function)) => Ok(Plan::Show(Shown {
             workspace,
@@ -190,24 +214,26 @@ fn plan_of(
             workspace,
             save: given(alloc, matches, "save")?,
             way: way_of(matches),
-            steps,
+            steps: steps_of(matches),
         })),
     }
 }
 
-fn parsed<'a>(alloc: Global, words: &'a [String]) -> Result<Plan, clap::Error> {
+/// What the words ask for that the parser takes.
+fn parsed<'a>(alloc: Global, words: &'a [String]) -> Result<Plan, clap::Error>
+    ensures { IfOk result (IsPlan (spec.found_in (map string_bytes words.entry.now))) }
+{
     let matches = command(alloc)?.try_get_matches_from(words)?;
-    if matches.get_flag("desk") {
-        let steps = matches.get_one::<u64>("steps").unwrap_or(1_000_000);
-        return Ok(Plan::Desk(steps));
+    if has_flag(&matches, "desk") {
+        return Ok(Plan::Desk(steps_of(&matches)));
     }
-    let workspace = given(alloc, &matches, "WS")?;
-    let function = given(alloc, &matches, "code")?;
-    Ok(plan_of(alloc, &matches, workspace, function)?)
+    Ok(plan_of(alloc, &matches)?)
 }
 
 /// What the parser has to say.
-fn told(alloc: Global, error: &clap::Error) -> WordsError {
+fn told(alloc: Global, error: &clap::Error) -> WordsError
+    ensures { IsTold (kind_of error.now) result }
+{
     if error.kind() == ErrorKind::OutOfMemory {
         return WordsError::Memory;
     }
@@ -219,6 +245,8 @@ fn told(alloc: Global, error: &clap::Error) -> WordsError {
 }
 
 /// What these words ask for, of which the first is the program's name.
-pub fn planned(alloc: Global, words: &[String]) -> Result<Plan, WordsError> {
+pub fn planned(alloc: Global, words: &[String]) -> Result<Plan, WordsError>
+    ensures { IfOk result (IsPlan (spec.found_in (map string_bytes words.now))) }
+{
     parsed(alloc, words).map_err(|error| told(alloc, &error))
 }
