@@ -1,15 +1,11 @@
 use Rattle.std.proofs.Common.{◌≡◌, ℕ, pos, zero, suc, List, length, get_or, ap, sym, ◌∙◌, refl}
 use Rattle.std.proofs.lemmas.List.{length-map}
-use Rattle.std.proofs.Math.ListN.{length-set}
 use Rattle.apl_arrays.specs.declared.cell.Cell.TheVariants.{Num, Char}
 use Rattle.apl_arrays.specs.Cells.{Items, Numbers, Characters, AreStorable, cells_of}
 use Rattle.apl_arrays.specs.Dense.{IsDense}
-use Rattle.apl_arrays.specs.Written.{serving, with_items, with_elements}
+use Rattle.apl_arrays.specs.Written.{with_items, with_elements}
+use Rattle.apl_arrays.proofs.InPlace.{length-with_items}
 use Rattle.apl_arrays.proofs.dense.Dense.write.Goals as goal
-
-length-with_items : {A : Type 0} (d : A) (xs : List A) (places : List ℕ) (ys : List A) (k : ℕ) → length (with_items d xs places ys k) ≡ length xs
-length-with_items d xs places ys zero = refl
-length-with_items d xs places ys (suc k) = length-set (with_items d xs places ys k) (get_or places k 0) (get_or ys (serving (length ys) k) d) ∙ length-with_items d xs places ys k
 
 length-with_elements : (to from : Items) (places : List ℕ) → length (cells_of (with_elements to places from)) ≡ length (cells_of to)
 length-with_elements (Numbers xs) (Numbers ys) places =
