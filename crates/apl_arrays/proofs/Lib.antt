@@ -16,3 +16,4 @@ pub mod Nth
 pub mod Single
 pub mod Scalars
 pub mod Fours
+pub mod InPlace

@@ -261,9 +261,10 @@ impl Array {
     /// The elements in row-major order, one after another.
     #[inline]
     pub fn iter(&self) -> Elements<'_>
-        ensures { cells_left result ≡ cells_of self.now.items }
+        ensures value { cells_left result ≡ cells_of self.now.items }
+        ensures kind { listed result ≡ self.now.items }
     {
-        self.lend().items()
+        self.items()
     }
 
     /// The element at an index list, which is one just within the shape.
@@ -271,7 +272,7 @@ impl Array {
         ensures { result ≡ cell_at self.now index.now }
     {
         match place_of(self.shape(), index) {
-            Some(place) => self.items().cell(place),
+            Some(place) => self.lend().items().cell(place),
             None => None,
         }
     }
@@ -306,6 +307,7 @@ impl Array {
     pub fn into_shared(self, alloc: Global) -> Result<SharedArray, AllocFailed<Array>>
         ensures ok { IfOk result (λ array. array ≡ self) }
         ensures err { IfErr result (λ refused. refused.value ≡ self) }
+        ensures scalar { self.shape ≡ [] → IsOk result }
     {
         let Array { kept } = self;
         let dense = match kept {
@@ -316,6 +318,8 @@ impl Array {
             Kept::Dense(dense) => return Ok(SharedArray::kept(Sharing::Dense(dense))),
             Kept::Own(dense) => dense,
         };
+        // What is kept so has axes, and is no scalar.
+        let _axes = dense.shape();
         match Rc::new(alloc, dense) {
             Ok(dense) => Ok(SharedArray::kept(Sharing::Dense(dense))),
             Err(refused) => Err(AllocFailed {

@@ -2,6 +2,7 @@
 ghost use Rattle.std.specs.Prelude.{◌≡◌, ◌<◌, cond, length, true, IfOk, IsTrue};
 
 use crate::cell::Ravel;
+use crate::elements::Elements;
 use crate::shape::MAX_RANK;
 use arrayvec::ArrayVec;
 use std::alloc::AllocError;
@@ -32,7 +33,9 @@ impl Dense {
     ghost use Rattle.apl_arrays.specs.Dense.{IsDense};
     ghost use Rattle.apl_arrays.specs.Kinds.{are_numbers};
     ghost use Rattle.apl_arrays.specs.Ravels.{items_of};
-    ghost use Rattle.apl_arrays.specs.Written.{number_written};
+    ghost use Rattle.std.specs.List.{All};
+    ghost use Rattle.apl_arrays.specs.Left.{listed};
+    ghost use Rattle.apl_arrays.specs.Written.{elements_written, number_written, AreEnough};
 
     pub(crate) fn new(shape: ArrayVec<usize, MAX_RANK>, ravel: Ravel) -> Dense
         requires { IsDense shape.items (items_of ravel) }
@@ -72,6 +75,17 @@ impl Dense {
             }
             _ => false,
         }
+    }
+
+    /// Writes elements at places one after another, so that the last one for a place stands. A single one serves at each place. Elements of
+    /// another type are not written.
+    pub(crate) fn write(&mut self, places: &[usize], items: Elements<'_>)
+        requires within { All (λ q. q < length (cells_of self.old.items)) places.now }
+        requires enough { AreEnough (length (cells_of (listed items))) (length places.now) }
+        ensures { self.new ≡ elements_written self.old places.now (listed items.entry) }
+    {
+        self.ravel.write(places, items);
+        self.ravel.inspect();
     }
 
     /// An equal one.

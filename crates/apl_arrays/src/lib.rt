@@ -21,6 +21,7 @@ mod stop;
 mod strided;
 mod view;
 mod view_elements;
+mod written;
 
 pub use array::Array;
 pub use axis::{Axis, along, copy_axes};

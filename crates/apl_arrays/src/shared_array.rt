@@ -65,7 +65,8 @@ impl SharedArray {
     ghost use Rattle.apl_arrays.specs.Kinds.{are_numbers};
     ghost use Rattle.apl_arrays.specs.Left.{listed};
     ghost use Rattle.apl_arrays.specs.Simple.{number_of_scalar};
-    ghost use Rattle.apl_arrays.specs.Written.{number_written};
+    ghost use Rattle.std.specs.List.{All};
+    ghost use Rattle.apl_arrays.specs.Written.{elements_written, number_written, AreEnough};
 
     /// A number, as a scalar.
     #[inline]
@@ -216,6 +217,25 @@ impl SharedArray {
                 }
             }
             _ => false,
+        }
+    }
+
+    /// Writes elements at places one after another, so that the last one for a place stands, and says whether it did. It did not where a copy
+    /// shares the elements. A single one serves at each place, and elements of another type are not written.
+    pub fn write(&mut self, places: &[usize], items: Elements<'_>) -> bool
+        requires within { All (λ q. q < length (cells_of self.old.items)) places.now }
+        requires enough { AreEnough (length (cells_of (listed items))) (length places.now) }
+        ensures { self.new ≡ cond result (elements_written self.old places.now (listed items.entry)) self.old }
+    {
+        let Sharing::Dense(dense) = &mut self.kept else {
+            return false;
+        };
+        match Rc::get_mut(dense) {
+            Some(dense) => {
+                dense.write(places, items);
+                true
+            }
+            None => false,
         }
     }
 }

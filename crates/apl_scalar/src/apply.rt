@@ -1,12 +1,12 @@
 // Scalar functions of arrays.
-ghost use Rattle.std.specs.Prelude.{◌≡◌, ◌<◌, length, cond, true, false, slice_index_or, pos, IfNone, IfSome, Ok};
+ghost use Rattle.std.specs.Prelude.{◌≡◌, ◌<◌, length, cond, true, false, slice_index_or, pos, IfNone, IfSome, IsSome, Ok};
 ghost use Rattle.std.specs.List.{range_with_len};
-ghost use Rattle.apl_arrays.specs.Answers.{Answers, FaultsFirst};
+ghost use Rattle.apl_arrays.specs.Answers.{Answers, FaultsFirst, HadMemory};
 ghost use Rattle.apl_arrays.specs.declared.cell.Cell.TheVariants.{Num};
 ghost use Rattle.apl_arrays.specs.Cells.{cell_at, Numbers};
 ghost use Rattle.apl_arrays.specs.Index.{indices};
 ghost use Rattle.apl_arrays.specs.Results.{all_ok, ok_map};
-ghost use Rattle.apl_arrays.specs.Simple.{single};
+ghost use Rattle.apl_arrays.specs.Simple.{number_of_scalar, single};
 ghost use Rattle.apl_scalar.specs.Functions.{monadic_of, dyadic_of};
 ghost use Rattle.apl_arrays.specs.Checks.{is_single};
 ghost use Rattle.apl_scalar.specs.Extension.{extended, monadic_at, values_in, numbers_in, monadic, dyadic, HasNoNumber};
@@ -227,12 +227,13 @@ fn monadic_array(alloc: Global, function: Monadic, b: &Array) -> Result<Array, S
 /// Each value is a number, in the shape of the array. A character is a domain fault, and so is a number that has no value. A value that leaves
 /// 64 bits is a limit fault. The first fault in ravel order decides. For a number no memory is asked for.
 pub fn monadic(alloc: Global, function: Monadic, b: &Array) -> Result<Array, Stop>
-    ensures { Answers (λ r. r) (monadic function b.now) result }
+    ensures value { Answers (λ r. r) (monadic function b.now) result }
+    ensures number { IsSome (number_of_scalar b.now) → HadMemory result }
 {
-    if let Some(y) = b.as_number() {
-        return Ok(Array::number(monadic_number(function, y)?));
+    match b.as_number() {
+        Some(y) => Ok(Array::number(monadic_number(function, y)?)),
+        None => monadic_array(alloc, function, b),
     }
-    monadic_array(alloc, function, b)
 }
 
 /// A scalar function of two arrays, element by element.
@@ -259,11 +260,13 @@ fn dyadic_arrays(alloc: Global, function: Dyadic, a: &Array, b: &Array) -> Resul
 pub fn dyadic(alloc: Global, function: Dyadic, a: &Array, b: &Array) -> Result<Array, Stop>
     ensures value { Answers (λ r. r) (dyadic function a.now b.now) result }
     ensures at_once { FaultsFirst (extended a.now.shape b.now.shape) result }
+    ensures numbers { IsSome (number_of_scalar a.now) → IsSome (number_of_scalar b.now) → HadMemory result }
 {
-    if let Some(x) = a.as_number() {
-        if let Some(y) = b.as_number() {
-            return Ok(Array::number(dyadic_number(function, x, y)?));
-        }
-    }
-    dyadic_arrays(alloc, function, a, b)
+    let Some(x) = a.as_number() else {
+        return dyadic_arrays(alloc, function, a, b);
+    };
+    let Some(y) = b.as_number() else {
+        return dyadic_arrays(alloc, function, a, b);
+    };
+    Ok(Array::number(dyadic_number(function, x, y)?))
 }

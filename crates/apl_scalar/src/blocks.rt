@@ -12,7 +12,10 @@ use apl_arrays::Stop;
 use std::alloc::Global;
 
 /// Below this many places a test at each costs less than a block.
-const FEW: usize = 128;
+const FEW: usize = 16;
+
+/// The same where a number that serves at each place has to be laid out for the block.
+const FEW_BY_ONE: usize = 128;
 
 /// Appends the values for the places from one to another, each tested before the next.
 fn push_tested<F: Scalar>(
@@ -142,6 +145,18 @@ fn push_all<F: Scalar>(out: &mut Vec<i64>, a: Operand, b: Operand, count: usize)
     }
 }
 
+/// Below how many places a test at each costs less than a block.
+#[inline(always)]
+fn few(a: Operand, b: Operand) -> usize {
+    match a {
+        Operand::One(_) => FEW_BY_ONE,
+        Operand::Many(_) => match b {
+            Operand::One(_) => FEW_BY_ONE,
+            Operand::Many(_) => FEW,
+        },
+    }
+}
+
 /// The values for the places below a count, or the first fault.
 pub(crate) fn apply_all<F: Scalar>(
     alloc: Global,
@@ -154,7 +169,7 @@ pub(crate) fn apply_all<F: Scalar>(
     ensures { Answers (λ v. v.items) (values_from F.meaning a.entry b.entry 0 count) result }
 {
     let mut out = Vec::with_capacity(alloc, count)?;
-    if count < FEW {
+    if count < few(a, b) {
         push_tested::<F>(&mut out, a, b, 0, count)?;
         return Ok(out);
     }

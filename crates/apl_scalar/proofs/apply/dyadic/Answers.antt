@@ -14,8 +14,8 @@ returns-in_err-dyadic_number-clause-value c =
     (two_numbers c.args.function c.args.a.now c.args.b.now c.in-Some.x c.in-Some-as_number.y _ (sym c.in-Some.ensures) (sym c.in-Some-as_number.ensures)
     (simp to_z-of_z at c.in_err-dyadic_number.ensures))
 
-pub returns-in-Some-as_number-clause-value : goal.returns-in-Some-as_number-clause-value
-returns-in-Some-as_number-clause-value c =
+pub returns-clause-value : goal.returns-clause-value
+returns-clause-value c =
     let x : FitsSigned w64 c.in-Some.x = search rules in
     let y : FitsSigned w64 c.in-Some-as_number.y = search rules in
     let z : FitsSigned w64 c.in_ok-dyadic_number.field-0 = search rules in
