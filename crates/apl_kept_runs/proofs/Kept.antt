@@ -13,6 +13,7 @@ use Rattle.apl_parts.specs.Taken.{parts_of}
 use Rattle.apl_parts.specs.Restored.{state_of}
 use Rattle.apl_savable.specs.Savable.{IsSavable}
 use Rattle.apl_savable.proofs.Keeping.{step-savable}
+use Rattle.apl_savable.proofs.Reached.{reached-savable}
 use Rattle.apl_savable.proofs.Ruled.{parts-ruled}
 use Rattle.apl_savable.proofs.Same.{saved-same}
 use Rattle.apl_session.specs.Events.{Event, Line, Steps, after, typed}
@@ -21,7 +22,7 @@ use Rattle.apl_resume.proofs.Stops.{IsReady, ready-next, turn-idle}
 use Rattle.apl_resume.proofs.Typing.{IsSettled, settled_line, typed_line}
 use Rattle.apl_kept_sessions.specs.Promises.{behind}
 use Rattle.apl_kept_sessions.proofs.Behind.{after-behind, interrupt-behind, turn-behind}
-use Rattle.apl_kept_sessions.proofs.Going.{sessions-go-on}
+use Rattle.apl_kept_sessions.proofs.Going.{savable-goes-on}
 use Rattle.apl_kept_sessions.proofs.Sessions.{sessions-savable}
 use Rattle.apl_kept_runs.specs.Kept.{Run, after_turn, from, gone_on, kept_steps, reloaded, reloaded_at, whole, with_state}
 use Rattle.apl_kept_runs.specs.Promises.{CanBeKept, KeptRunsAreTheSame}
@@ -61,7 +62,7 @@ closed-at : (s : State) → IsReady s → (turn s).stopped ≡ true → s.defini
 closed-at s (inl closed) stops = closed
 closed-at s (inr idle) stops = let never : (turn s).stopped ≡ false = ap (λ (t : Turn). t.stopped) (turn-idle s idle) in cc
 
-without-definition : (s : State) → s.definition ≡ None → record s { definition = None; output = [] } ≡ record s { output = [] }
+pub without-definition : (s : State) → s.definition ≡ None → record s { definition = None; output = [] } ≡ record s { output = [] }
 without-definition s closed = ap (λ (d : Option (List Text)). record { world = s.world; stops = s.stops; contexts = s.contexts; definition = d; output = [] }) (sym closed)
 
 -- AT A STOP the machine can be saved.
@@ -85,7 +86,7 @@ answers-kept : (before : List OutLine) (t : State) → CanBeKept t → behind (b
 answers-kept before t kept =
     let loaded : State = resumed (state_of (parts_of t)) in
     ap (λ (output : List OutLine). record loaded { output = output }) (append_assoc before t.output loaded.output)
-    ∙ ap (behind before) (sym (sessions-go-on t answer kept.savable kept.idle kept.closed))
+    ∙ ap (behind before) (sym (savable-goes-on t answer kept.savable kept.idle kept.closed))
     ∙ sym (after-behind before t answer)
 
 -- b: the stop is one at which the run is saved
@@ -172,7 +173,8 @@ begun-goes x line savable idle = record {
 }
 
 pub kept-runs : KeptRunsAreTheSame
-kept-runs asked x line n savable idle =
+kept-runs asked x line n reached idle =
+    let savable = reached-savable x reached in
     let r : Run = from (typed x line) in
     let g : Goes r = begun-goes x line savable idle in
     record {

@@ -1,12 +1,18 @@
--- At any stop a run may be saved, loaded again and gone on with: what follows is the same.
+-- What runs leave can be kept. At any stop a run may be saved, loaded again and gone on with: what follows is the same.
 use Rattle.std.specs.Prelude.{◌≡◌, ℕ, Bool, true, List, [], None}
 use Rattle.apl_machine_state.specs.State.{State, is_idle, turn}
 use Rattle.apl_parts.specs.Taken.{parts_of}
 use Rattle.apl_parts.specs.Restored.{state_of}
 use Rattle.apl_saved.specs.Rules.{AreRuled}
 use Rattle.apl_savable.specs.Savable.{IsSavable}
+use Rattle.apl_savable.specs.Reached.{IsReached}
+use Rattle.apl_session.specs.Defining.{closed}
 use Rattle.apl_session.specs.Events.{typed}
 use Rattle.apl_resume.specs.Cut.{cut, cut_steps, stops_in}
+use Rattle.apl_runs.specs.Output.{silent}
+use Rattle.apl_runs.specs.Sessions.{answered, plain}
+use Rattle.apl_runs.specs.Transcript.{after_lines}
+use Rattle.apl_runs.specs.Ways.{Way}
 use Rattle.apl_kept_runs.specs.Kept.{kept_cut, kept_run, whole}
 
 -- A state that is saved without loss but for its output: nothing runs, no definition is open, a file can hold it, its parts keep to the rules of a file,
@@ -31,4 +37,26 @@ pub record IsSameRun (asked : ℕ → Bool) (x : State) (line : List ℕ) (n : �
 
 -- the law
 abbrev pub KeptRunsAreTheSame : Type 0
-KeptRunsAreTheSame = (asked : ℕ → Bool) (x : State) (line : List ℕ) (n : ℕ) → IsSavable x → is_idle x ≡ true → IsSameRun asked x line n
+KeptRunsAreTheSame = (asked : ℕ → Bool) (x : State) (line : List ℕ) (n : ℕ) → IsReached x → is_idle x ≡ true → IsSameRun asked x line n
+
+-- ---- what is left
+
+-- a machine comes to this state, and nothing of it is lost where it is saved
+pub record IsLeftWhole (s : State) : Type 0 where
+  pub reached : IsReached s
+  pub kept : CanBeKept s
+
+-- What the cut run of a line leaves, but for a definition that is open.
+abbrev pub CutRunsCanBeKept : Type 0
+CutRunsCanBeKept = (x : State) (line : List ℕ) (n : ℕ) → IsReached x → IsLeftWhole (closed (cut x line n))
+
+-- what lines leave that are done in a way, as a run gives it: without an open definition, all their output written
+abbrev pub left_by : Way State → State → List (List ℕ) → State
+left_by way x lines = closed (silent (after_lines way (closed x) lines))
+
+abbrev pub LeavesWhole : Way State → Type 0
+LeavesWhole way = (x : State) (lines : List (List ℕ)) → IsReached x → is_idle x ≡ true → IsLeftWhole (left_by way x lines)
+
+-- What runs leave, whether they answer the stops or not.
+abbrev pub RunsCanBeKept : Type 0
+RunsCanBeKept = ((n : ℕ) → LeavesWhole (plain n)) × ((n : ℕ) → LeavesWhole (answered n))

@@ -1,3 +1,4 @@
+pub mod Lasting
 pub mod Sessions
 pub mod Behind
 pub mod Going

@@ -4,4 +4,6 @@
 
 mod laws;
 
-pub use laws::{sessions_are_the_same, sessions_go_on, sessions_keep_savable};
+pub use laws::{
+    sessions_are_the_same, sessions_go_on, sessions_keep_reached, sessions_keep_savable,
+};

@@ -1,17 +1,16 @@
 // Laws of calls that follow one another.
-ghost use Rattle.apl_played.specs.Laws.{CutCallsAreOne, LinesKeepSavable};
+ghost use Rattle.apl_played.specs.Laws.{CutCallsAreOne, LinesKeepReached};
 
-use apl_kept_sessions::sessions_keep_savable;
+use apl_kept_sessions::sessions_keep_reached;
 use apl_runs::lines_leave_idle;
-use apl_savable::{clear_is_savable, loaded_is_savable};
+use apl_savable::reached_is_savable;
 
-/// The law that lines on a workspace's bytes leave nothing running, and a state all of which a workspace file can hold.
-pub(crate) fn lines_keep_savable()
-    ensures { LinesKeepSavable }
+/// The law that lines on a workspace's bytes leave nothing running, and a state to which a machine comes.
+pub(crate) fn lines_keep_reached()
+    ensures { LinesKeepReached }
 {
-    clear_is_savable();
-    loaded_is_savable();
-    sessions_keep_savable();
+    reached_is_savable();
+    sessions_keep_reached();
     lines_leave_idle();
 }
 

@@ -7,6 +7,9 @@ pub mod Ruled
 pub mod Same
 pub mod Fits
 pub mod Loaded
+pub mod Idle
+pub mod Once
+pub mod OneState
 pub mod UnderWay
 pub mod Spelling
 pub mod IndexLists

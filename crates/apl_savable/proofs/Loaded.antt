@@ -49,7 +49,7 @@ use Rattle.apl_saved.proofs.StackKinds.{pendent_kinds}
 
 -- ---- lines
 
-pending-kinds : (text : Text) (w : Waiting) (h : IsPendent text w) → HasKinds Pendent (forms_after w.done (bound_of h.tokens w.classes).items) (reverse w.operands)
+pub pending-kinds : (text : Text) (w : Waiting) (h : IsPendent text w) → HasKinds Pendent (forms_after w.done (bound_of h.tokens w.classes).items) (reverse w.operands)
 pending-kinds text w h =
     let line = bound_of h.tokens w.classes in
     pendent_kinds h.code line.items w.done w.operands (line-fits text h.tokens w.classes h.read).fresh h.line.translates h.line.runs h.line.kinds
@@ -66,7 +66,7 @@ waits-in : (text : Text) (o : Option Waiting) → IsPendentIn text o → IsWaiti
 waits-in text None h = tt
 waits-in text (Some w) h = waits text w h
 
-under-way : (text : Text) (w : Waiting) → IsPendent text w → IsUnderWay text (rest_of text w)
+unfoldable pub under-way : (text : Text) (w : Waiting) → IsPendent text w → IsUnderWay text (rest_of text w)
 under-way text w h =
     let line = bound_of h.tokens w.classes in
     let fits = line-fits text h.tokens w.classes h.read in

@@ -74,11 +74,11 @@ abbrev Entry : Type 0
 Entry = Text × Binding
 
 -- the binding where it is a function, and where it is a variable
-abbrev function_part : Option Binding → Option Binding
+abbrev pub function_part : Option Binding → Option Binding
 function_part (Some (Function d)) = Some (Function d)
 function_part o = None
 
-abbrev variable_part : Option Binding → Option Binding
+abbrev pub variable_part : Option Binding → Option Binding
 variable_part (Some (Value a)) = Some (Value a)
 variable_part o = None
 

@@ -25,6 +25,10 @@ SavedIsTheSame = (s : State) → IsSavable s → is_idle s ≡ true → state_of
 abbrev pub LoadedIsSavable : Type 0
 LoadedIsSavable = (p : Pieces) → AreRuled p → IsSavable (state_of p)
 
+-- and has the parts that it was made of, so that a file which is loaded and saved holds what it held
+abbrev pub LoadedHasTheParts : Type 0
+LoadedHasTheParts = (p : Pieces) → AreRuled p → parts_of (state_of p) ≡ p
+
 -- ---- a machine comes to such states alone
 
 abbrev pub ClearIsSavable : Type 0

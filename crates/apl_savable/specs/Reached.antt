@@ -1,5 +1,5 @@
 -- The states that a machine comes to, and that none of them is lost where it is saved.
-use Rattle.std.specs.Prelude.{◌≡◌, List, [], true, None}
+use Rattle.std.specs.Prelude.{◌≡◌, List, [], true, Option, None}
 use Rattle.apl_defn.specs.Definitions.{Text, Definition}
 use Rattle.apl_defn.specs.Defining.{IsDefined}
 use Rattle.apl_machine_state.specs.State.{State, clear, interrupt, is_idle, step, with_function, with_lines}
@@ -11,7 +11,8 @@ use Rattle.apl_parts.specs.Restored.{state_of}
 use Rattle.apl_saved.specs.Rules.{AreRuled}
 use Rattle.apl_savable.specs.Savable.{IsSavable}
 
--- A machine is new or loaded; it steps, is interrupted, begins statements where nothing runs, gets and loses objects and lines of output.
+-- A machine is new or loaded; it steps, is interrupted, begins statements where nothing runs, gets and loses objects and lines of output. A session
+-- opens and closes a definition on it.
 pub data IsReached : State → Type 0 where
   new : IsReached clear
   loaded : (parts : Pieces) → AreRuled parts → IsReached (state_of parts)
@@ -23,6 +24,7 @@ pub data IsReached : State → Type 0 where
   emptied : (s : State) → IsReached s → IsReached (cleared s)
   told : (s : State) (lines : List Text) → IsReached s → IsReached (with_lines lines s)
   output_taken : (s : State) → IsReached s → IsReached (record s { output = [] })
+  defining : (s : State) (lines : Option (List Text)) → IsReached s → IsReached (record s { definition = lines })
 
 -- each can be saved
 abbrev pub ReachedIsSavable : Type 0

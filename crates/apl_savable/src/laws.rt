@@ -1,5 +1,5 @@
 // Laws of saving and loading.
-ghost use Rattle.apl_savable.specs.Promises.{ClearIsSavable, DefinitionsKeepSavable, ErasuresKeepSavable, InterruptsKeepSavable, LoadedIsSavable, PartsAreRuled, SavedIsTheSame, StatementsKeepSavable, StepsKeepSavable};
+ghost use Rattle.apl_savable.specs.Promises.{ClearIsSavable, DefinitionsKeepSavable, ErasuresKeepSavable, InterruptsKeepSavable, LoadedHasTheParts, LoadedIsSavable, PartsAreRuled, SavedIsTheSame, StatementsKeepSavable, StepsKeepSavable};
 ghost use Rattle.apl_savable.specs.Reached.{ReachedIsSavable, ReachedIsTheSame};
 
 /// The law that each idle state to which a machine comes is the same when it is saved and loaded again, and that its parts keep to the
@@ -28,6 +28,11 @@ pub fn saved_is_the_same()
 /// The law that what is loaded can be saved.
 pub fn loaded_is_savable()
     ensures { LoadedIsSavable }
+{}
+
+/// The law that what is loaded has just the parts that the file holds.
+pub fn loaded_has_the_parts()
+    ensures { LoadedHasTheParts }
 {}
 
 /// The law that a clear workspace can be saved.

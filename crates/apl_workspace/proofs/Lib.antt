@@ -1,4 +1,4 @@
 pub mod Fitting
 pub mod Again
-pub mod Idle
+pub mod Files
 pub mod Refused

@@ -1,3 +1,4 @@
 pub mod Saved
+pub mod Promises
 pub mod Numbers
 pub mod Refusals

@@ -1,4 +1,4 @@
-use Rattle.apl_workspace.proofs.Idle.{whole_idle}
+use Rattle.apl_savable.proofs.Idle.{whole_idle}
 use Rattle.apl_workspace.proofs.Refused.{fault_refused}
 use Rattle.apl_workspace.proofs.loading.load.Goals as goal
 
