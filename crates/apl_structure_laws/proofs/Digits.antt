@@ -30,15 +30,15 @@ abbrev pairs : List ℤ → ℤ → List (ℤ × ℤ)
 pairs [] r = []
 pairs (w ∷ ws) r = (w, residue w (left_by ws r)) ∷ pairs ws r
 
-abbrev times : List ℕ → ℕ
+abbrev pub times : List ℕ → ℕ
 times [] = 1
 times (n ∷ ns) = n * times ns
 
-times-pos : (ns : List ℕ) → AllByRecursion (λ n. 0 < n) ns → 1 ≤ times ns
+pub times-pos : (ns : List ℕ) → AllByRecursion (λ n. 0 < n) ns → 1 ≤ times ns
 times-pos [] h = omega arith
 times-pos (n ∷ ns) h = mul_pos n (times ns) h.0 (times-pos ns h.1)
 
-in_range-below : (n : ℕ) → n < 2 ^ 63 → in_range (pos n) ≡ Ok (pos n)
+pub in_range-below : (n : ℕ) → n < 2 ^ 63 → in_range (pos n) ≡ Ok (pos n)
 in_range-below n h = ap (λ (d : Bool). cond d (Ok (pos n)) (Err Limit)) (lt-ltb n (2 ^ 63) h)
 
 value : (ns : List ℕ) (p : ℕ) (r : ℤ) (v : ℕ) → 0 < p → AllByRecursion (λ n. 0 < n) ns → p * times ns < 2 ^ 63 → v ≡ rest p (left_by (map pos ns) r) → valued (pos v) (pairs (map pos ns) r) ≡ Ok (pos (rest (p * times ns) r))
@@ -64,12 +64,12 @@ value (n ∷ ns) p r v h a l e =
     below v q t h g l = let m : q * 1 ≤ q * t = mul-le-mul_left q g in omega arith
 
 -- positive bases are natural numbers
-naturals : List ℤ → List ℕ
+pub naturals : List ℤ → List ℕ
 naturals [] = []
 naturals (pos n ∷ ws) = n ∷ naturals ws
 naturals (negsuc n ∷ ws) = n ∷ naturals ws
 
-naturals-are : (ws : List ℤ) → AllByRecursion (λ w. pos 0 <ℤ w) ws → (map pos (naturals ws) ≡ ws) × AllByRecursion (λ n. 0 < n) (naturals ws) × (product ws ≡ pos (times (naturals ws)))
+pub naturals-are : (ws : List ℤ) → AllByRecursion (λ w. pos 0 <ℤ w) ws → (map pos (naturals ws) ≡ ws) × AllByRecursion (λ n. 0 < n) (naturals ws) × (product ws ≡ pos (times (naturals ws)))
 unfolding naturals
 naturals-are [] h = (refl, tt, refl)
 naturals-are (pos n ∷ ws) h =
@@ -139,7 +139,7 @@ pairs-read ws rs s i full w =
 
 -- ---- all numbers
 
-all_ok-same : {A B E : Type 0} (P : A → Type 0) (f : A → Result B E) (g : A → B) → ((x : A) → P x → f x ≡ Ok (g x)) → (xs : List A) → AllByRecursion P xs → all_ok f xs ≡ Ok (map g xs)
+pub all_ok-same : {A B E : Type 0} (P : A → Type 0) (f : A → Result B E) (g : A → B) → ((x : A) → P x → f x ≡ Ok (g x)) → (xs : List A) → AllByRecursion P xs → all_ok f xs ≡ Ok (map g xs)
 all_ok-same P f g h [] a = refl
 all_ok-same {B = B} {E = E} P f g h (x ∷ xs) a =
     ap (λ (r : Result B E). and_then r (λ y. ok_map (λ ys. y ∷ ys) (all_ok f xs))) (h x a.0) ∙ ap (λ (r : Result (List B) E). ok_map (λ ys. g x ∷ ys) r) (all_ok-same P f g h xs a.1)
@@ -156,12 +156,12 @@ all_in_range (d ∷ ds) es e = by (all_in_range ds) (is_in_range d) e
     by rest true e = behind rest (all_ok in_range ds) refl e
     by rest false e = absurd (cc)
 
-residues-listed : (z : ℤ) (rs : List ℤ) (s : List ℕ) → length rs ≡ size_of s → map (λ i. residue z (get_or rs (position_in s i) (pos 0))) (indices s) ≡ map (residue z) rs
+pub residues-listed : (z : ℤ) (rs : List ℤ) (s : List ℕ) → length rs ≡ size_of s → map (λ i. residue z (get_or rs (position_in s i) (pos 0))) (indices s) ≡ map (residue z) rs
 residues-listed z rs s full =
     listed (λ i. residue z (get_or rs (position_in s i) (pos 0))) (map (residue z) rs) (pos 0) s (length-map rs (residue z) ∙ full)
     (λ i w. sym (get_or-map (residue z) rs (position_in s i) (pos 0) (pos 0) (omega (arith, position_in-lt s i w))))
 
-vector_shape : (s : List ℕ) (m : ℕ) → length s ≡ 1 → m ≡ size_of s → s ≡ m ∷ []
+pub vector_shape : (s : List ℕ) (m : ℕ) → length s ≡ 1 → m ≡ size_of s → s ≡ m ∷ []
 vector_shape [] m e f = absurd (omega arith)
 vector_shape (n ∷ []) m e f = let same : n ≡ m = omega arith in ap (λ (k : ℕ). k ∷ []) same
 vector_shape (n ∷ o ∷ s) m e f = absurd (omega arith)

@@ -5,7 +5,8 @@ pub mod Fronts
 pub mod Joinings
 mod Catenations
 pub mod Rests
-mod Digits
+pub mod Digits
+mod Residues
 pub mod Places
 mod Masks
 pub mod Leading

@@ -1,7 +1,7 @@
 // Laws of functions that move elements.
 ghost use Rattle.apl_structure_laws.specs.Assignments.{LastStands, ReadsBack};
 ghost use Rattle.apl_structure_laws.specs.Catenations.{DropsFirst, Rejoins, TakesFirst};
-ghost use Rattle.apl_structure_laws.specs.Digits.{DecodesBack};
+ghost use Rattle.apl_structure_laws.specs.Digits.{DecodesBack, IsTheirResidue};
 ghost use Rattle.apl_structure_laws.specs.Lines.{AreWorked};
 ghost use Rattle.apl_structure_laws.specs.Masks.{CompressesBack};
 ghost use Rattle.apl_structure_laws.specs.Rotations.{RotatesBack};
@@ -24,10 +24,10 @@ pub fn take_and_drop_rejoin()
     ensures { Rejoins }
 {}
 
-/// The law that the value of B's digits, by the same bases, is what the bases' product leaves of B, for a vector of
-/// positive bases whose product fits 64 bits.
+/// The law that A⊥A⊤B is (×/A)|B, for a vector A of positive bases whose product fits 64 bits.
 pub fn decoding_undoes_encoding()
-    ensures { DecodesBack }
+    ensures value { DecodesBack }
+    ensures residue { IsTheirResidue }
 {}
 
 /// The law that an array expanded by a mask, and then compressed by the same one, is the array, along each axis, where
