@@ -1,17 +1,17 @@
 -- Folds by associative functions, a number more at a time.
-use Rattle.std.proofs.Common.{zero, suc, ◌≡◌, ℕ, ℤ, pos, negsuc, ◌+◌, ◌<◌, Bool, true, false, ◌&&◌, ◌||◌, List, [], ◌∷◌, ◌++◌, length, get_or, Option, None, Some, Result, Ok, Err, refl, ap, sym, ◌∙◌, arith}
+use Rattle.std.proofs.Common.{zero, suc, ◌≡◌, ℕ, ℤ, pos, negsuc, ◌+◌, ◌<◌, Bool, true, false, ◌&&◌, ◌||◌, List, [], ◌∷◌, ◌++◌, length, get_or, Option, None, Some, Result, Ok, Err, refl, ap, sym, ◌∙◌, arith, subst}
 use Rattle.std.specs.Int.{int_max, int_min}
 use Rattle.std.proofs.lemmas.Int.{ints, clamps}
+use Rattle.std.proofs.lemmas.List.{length-append}
 use Rattle.apl_faults.specs.declared.fault.Fault.{Fault}
 use Rattle.apl_faults.specs.declared.fault.Fault.TheVariants.{Domain}
-use Rattle.apl_arrays.specs.declared.axis.Axis.{Axis}
 use Rattle.apl_arrays.specs.Results.{and_then, ok_map}
-use Rattle.apl_arrays.specs.Strides.{step_at}
 use Rattle.apl_scalar.specs.declared.function.Dyadic.TheVariants as two
 use Rattle.apl_scalar.specs.Functions.{dyadic_of, number_of, truth_of, logical}
 use Rattle.apl_folds.specs.Chains.{IsAssociative}
-use Rattle.apl_folds.specs.Lines.{fold_by, line_of}
-use Rattle.apl_folds.proofs.Rows.{length-line, line_more}
+use Rattle.apl_folds.specs.declared.chains.Front.{Front}
+use Rattle.apl_folds.specs.inside.Chains.{IsFront, IsFoldOf}
+use Rattle.apl_folds.specs.Lines.{fold_by}
 
 -- the fold of one number more is one step from the left
 fold_chain : (f : ℤ → ℤ → Result ℤ Fault) → IsAssociative f → (xs : List ℤ) (w : ℤ) → 0 < length xs → fold_by f (xs ++ w ∷ []) ≡ and_then (fold_by f xs) (λ z. f z w)
@@ -24,23 +24,14 @@ fold_chain f a (x ∷ y ∷ ys) w h = ap (λ (r : Result ℤ Fault). and_then r 
     each (Err e) = refl
 
 -- what is told of one number more
-pub front_next : (f : ℤ → ℤ → Result ℤ Fault) (xs : List ℤ) (before x z : ℤ) → IsAssociative f → 0 < length xs → fold_by f xs ≡ Ok before → f before x ≡ Ok z → fold_by f (xs ++ x ∷ []) ≡ Ok z
-front_next f xs before x z a some h e = fold_chain f a xs x some ∙ ap (λ (r : Result ℤ Fault). and_then r (λ y. f y x)) h ∙ e
+pub front_value : (f : ℤ → ℤ → Result ℤ Fault) (s : Front) (xs : List ℤ) (z x v : ℤ) → s.fold ≡ Some z → f z x ≡ Ok v → IsFront f s xs → fold_by f (xs ++ x ∷ []) ≡ Ok v
+front_value f s xs z x v is e before =
+    let P : Option ℤ → Type 0 = λ o. IsFoldOf f o xs in
+    let h : (0 < length xs) × (fold_by f xs ≡ Ok z) = subst P is before.value in
+    fold_chain f before.associative xs x h.0 ∙ ap (λ (r : Result ℤ Fault). and_then r (λ y. f y x)) h.1 ∙ e
 
--- the first number of a line
-pub chain_first : (f : ℤ → ℤ → Result ℤ Fault) (raw : List ℤ) (axis : Axis) (p k : ℕ) (x : ℤ) → k ≡ 0 → x ≡ get_or raw (p + step_at axis k) (pos 0) → Ok x ≡ fold_by f (line_of (pos 0) raw axis p (k + 1))
-chain_first f raw axis p zero x e h = ap (λ (z : ℤ). Ok z) h
-chain_first f raw axis p (suc k) x e h = absurd (omega arith)
-
--- a number more of it
-pub chain_next : (f : ℤ → ℤ → Result ℤ Fault) → IsAssociative f → (raw : List ℤ) (axis : Axis) (p k : ℕ) (before x : ℤ) → 0 < k → x ≡ get_or raw (p + step_at axis k) (pos 0) →
-    fold_by f (line_of (pos 0) raw axis p k) ≡ Ok before → f before x ≡ fold_by f (line_of (pos 0) raw axis p (k + 1))
-chain_next f a raw axis p k before x some h e =
-    let long : 0 < length (line_of (pos 0) raw axis p k) = omega (arith, length-line (pos 0) raw axis p k) in
-    sym (ap (fold_by f) (sym (line_more (pos 0) raw axis p k))
-    ∙ fold_chain f a (line_of (pos 0) raw axis p k) (get_or raw (p + step_at axis k) (pos 0)) long
-    ∙ ap (λ (r : Result ℤ Fault). and_then r (λ z. f z (get_or raw (p + step_at axis k) (pos 0)))) e
-    ∙ ap (λ (y : ℤ). f before y) (sym h))
+pub front_next : (f : ℤ → ℤ → Result ℤ Fault) (s : Front) (xs : List ℤ) (x v : ℤ) → fold_by f (xs ++ x ∷ []) ≡ Ok v → IsFront f s xs → IsFront f (record { fold = Some v }) (xs ++ x ∷ [])
+front_next f s xs x v e before = record { associative = before.associative; value = (omega (arith, length-append xs (x ∷ [])), e) }
 
 greater : (x y z : ℤ) → int_max (int_max x y) z ≡ int_max x (int_max y z)
 greater x y z = omega (arith, ints, clamps)

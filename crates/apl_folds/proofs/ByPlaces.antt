@@ -10,35 +10,25 @@ use Rattle.std.proofs.Math.Nat.{mod-lt, mul-le-mul_right}
 use Rattle.apl_faults.specs.declared.fault.Fault.{Fault}
 use Rattle.apl_arrays.specs.declared.axis.Axis.{Axis}
 use Rattle.apl_arrays.specs.declared.cell.Cell.TheVariants.{Num}
-use Rattle.apl_arrays.specs.declared.stop.Stop.{Stop}
-use Rattle.apl_arrays.specs.declared.stop.Stop.TheVariants as stop
-use Rattle.apl_arrays.specs.Answers.{Answers}
 use Rattle.apl_arrays.specs.Axes.{without, inserted}
 use Rattle.apl_arrays.specs.Cells.{Arr, Items, Numbers, cells_of}
-use Rattle.apl_arrays.specs.Index.{size_of, indices, is_within, position_in}
+use Rattle.apl_arrays.specs.Index.{size_of, bound_of, indices, is_within, position_in}
 use Rattle.apl_arrays.specs.Results.{all_ok}
 use Rattle.apl_arrays.specs.Strides.{lengths, step_at, place_at, whole_axes}
 use Rattle.apl_arrays.proofs.InTurn.{all_ok-same}
 use Rattle.apl_arrays.proofs.Order.{by_places, all_within}
-use Rattle.apl_arrays.proofs.Places.{both, position_in-lt}
+use Rattle.apl_arrays.proofs.Places.{both, position_in-lt, size_le_bound}
 use Rattle.apl_arrays.proofs.Whole.{lengths-whole, place_at-whole, shown_whole}
 use Rattle.apl_scalar.specs.declared.function.Dyadic.{Dyadic}
-use Rattle.apl_scalar.specs.declared.function.Dyadic.TheVariants as two
-use Rattle.apl_scalar.specs.Functions.{dyadic_of, in_range}
-use Rattle.apl_scalar.proofs.Signs.{in_range-fits}
+use Rattle.apl_scalar.specs.Functions.{dyadic_of}
 use Rattle.apl_scalar.proofs.Whole.{all_values}
-use Rattle.apl_folds.specs.Chains.{IsAssociative}
-use Rattle.apl_folds.specs.inside.Fronts.{index_along, front_fold, front_folds, IsStep, Chains, AreFronts, MoreFronts, AnswersIfSome, AreSmall}
-use Rattle.apl_folds.specs.Lines.{line_of, line_fold}
+use Rattle.apl_folds.specs.inside.Fronts.{index_along, before, front_fold, front_folds, AreFronts, AreWhole}
+use Rattle.apl_folds.specs.Lines.{fold_by, line_of, line_fold, IsLine}
 use Rattle.apl_folds.specs.Scans.{fronts_along}
-use Rattle.apl_folds.specs.inside.Sums.{total, magnitudes, alternating, signed, is_odd}
 use Rattle.apl_folds.proofs.Along.{fronts_of_lines}
-use Rattle.apl_folds.proofs.Associative.{chain_next}
 use Rattle.apl_folds.proofs.Faults.{first_fault}
 use Rattle.apl_folds.proofs.Rows.{length-line, line_more}
-use Rattle.apl_folds.proofs.Swings.{fold_alternating, alternating_small, one_more, odd_two, even_two}
 use Rattle.apl_folds.proofs.Taken.{lengths-without, place_at-inserted, within-without, index_within}
-use Rattle.apl_folds.proofs.Totals.{fold_total, total_more, total_small, fits_below}
 
 -- the index of what stands in a row
 index_of : (axis : Axis) (a k r : ℕ) → k < axis.length → r < axis.up → index_along axis ((a * axis.length + k) * axis.up + r) ≡ k
@@ -87,72 +77,12 @@ on_line axis q d = step q (index_along axis q) axis.up axis.down (axis.length - 
         there : (q x k u m : ℕ) → x ≤ q → x ≡ k * u → q ≡ (q - x) + (u * k + 0 * m)
         there q x k u m h e = omega arith
 
--- the fold a row before is that of the line's numbers before this one
-before_front : (f : ℤ → ℤ → Result ℤ Fault) (zs : List ℤ) (axis : Axis) (q : ℕ) → 0 < axis.length → 0 < axis.up → 0 < index_along axis q →
-    front_fold f zs axis (q - axis.up) ≡ line_fold f zs axis (q - index_along axis q * axis.up) (index_along axis q)
-before_front f zs axis q h u later =
-    ap (λ (k : ℕ). line_fold f zs axis (q - axis.up - k * axis.up) (k + 1)) (index_before axis q h u later)
-    ∙ ap (λ (p : ℕ). line_fold f zs axis p (index_along axis q - 1 + 1)) (start q axis.up (index_along axis q) later)
-    ∙ ap (line_fold f zs axis (q - index_along axis q * axis.up)) (back (index_along axis q) later)
-  where
-    start : (q w k : ℕ) → 0 < k → q - w - (k - 1) * w ≡ q - k * w
-    start q w k h = let e : (k - 1) * w + w ≡ k * w = ring (k - 1) w ∙ ap (λ j. j * w) (back k h) in omega arith
-      where
-        ring : (j w : ℕ) → j * w + w ≡ (j + 1) * w
-        ring j w = omega arith
-
-        back : (k : ℕ) → 0 < k → k - 1 + 1 ≡ k
-        back k h = omega arith
-
-    back : (k : ℕ) → 0 < k → k - 1 + 1 ≡ k
-    back k h = omega arith
-
--- an associative function chains
-pub chains : (f : ℤ → ℤ → Result ℤ Fault) → IsAssociative f → (zs : List ℤ) (axis : Axis) → 0 < axis.length → 0 < axis.up → axis.down ≡ 0 → Chains f f f zs axis
-chains f a zs axis h u d = record { odds = λ q odd. step q (omega arith); evens = λ q later even. step q later }
-  where
-    step : (q : ℕ) → 0 < index_along axis q → IsStep f f zs axis q
-    step q later z e =
-        chain_next f a zs axis (q - index_along axis q * axis.up) (index_along axis q) z (get_or zs q (pos 0)) later (ap (λ (p : ℕ). get_or zs p (pos 0)) (on_line axis q d))
-        (sym (before_front f zs axis q h u later) ∙ e)
-
--- the first number of a line
-pub front_first : (f : ℤ → ℤ → Result ℤ Fault) (zs : List ℤ) (axis : Axis) (q : ℕ) → axis.down ≡ 0 → index_along axis q ≡ 0 → front_fold f zs axis q ≡ Ok (get_or zs q (pos 0))
-front_first f zs axis q d e =
-    ap (λ (k : ℕ). line_fold f zs axis (q - k * axis.up) (k + 1)) e
-    ∙ ap (λ (p : ℕ). line_fold f zs axis p 1) (start q axis.up)
-    ∙ ap (λ (p : ℕ). Ok (get_or zs p (pos 0))) (one q axis.up axis.down (axis.length - 1 - 0) d)
-  where
-    start : (q w : ℕ) → q - 0 * w ≡ q
-    start q w = omega arith
-
-    one : (q u d m : ℕ) → d ≡ 0 → q + (u * 0 + d * m) ≡ q
-    one q u d m e = rw e (there q u m)
-      where
-        there : (q u m : ℕ) → q + (u * 0 + 0 * m) ≡ q
-        there q u m = omega arith
-
 -- all of a row have its index
 pub index_in_row : (axis : Axis) (row q : ℕ) → row * axis.up ≤ q → q < row * axis.up + axis.up → index_along axis q ≡ row % axis.length
 index_in_row axis row q l h = ap (λ (m : ℕ). m % axis.length) (ap (λ (p : ℕ). p / axis.up) (there q (row * axis.up) l) ∙ div-mul-add row axis.up (q - row * axis.up) (omega arith))
   where
     there : (q x : ℕ) → x ≤ q → q ≡ x + (q - x)
     there q x l = omega arith
-
--- sums of numbers that are small
-small_line : (zs : List ℤ) (axis : Axis) (p bound a m : ℕ) → ((k : ℕ) → unsigned_abs (get_or zs k (pos 0)) ≤ bound) → magnitudes (map (λ k. get_or zs (p + step_at axis k) (pos 0)) (range_with_len a m)) ≤ m * bound
-small_line zs axis p bound a zero each = omega arith
-small_line zs axis p bound a (suc m) each =
-    more m bound (unsigned_abs (get_or zs (p + step_at axis a) (pos 0))) (magnitudes (map (λ k. get_or zs (p + step_at axis k) (pos 0)) (range_with_len (a + 1) m))) (each (p + step_at axis a)) (small_line zs axis p bound (a + 1) m each)
-  where
-    more : (m b x y : ℕ) → x ≤ b → y ≤ m * b → x + y ≤ suc m * b
-    more m b x y h k = omega arith
-
-small_total : (zs : List ℤ) (axis : Axis) (p count m : ℕ) → AreSmall zs count → m ≤ count → magnitudes (line_of (pos 0) zs axis p m) < 2 ^ 63
-small_total zs axis p count m small h = omega (arith, small.fits, small_line zs axis p small.bound 0 m small.each, mul-le-mul_right small.bound h)
-
-abbrev ok_number : ℤ → Result ℤ Fault
-ok_number z = Ok z
 
 -- the line of a front is that of the front before and the number at its place
 one_longer : (zs : List ℤ) (axis : Axis) (q : ℕ) → axis.down ≡ 0 →
@@ -162,68 +92,129 @@ one_longer zs axis q d =
     let p : ℕ = q - k * axis.up in
     ap (λ (r : ℕ). line_of (pos 0) zs axis p k ++ get_or zs r (pos 0) ∷ []) (on_line axis q d) ∙ line_more (pos 0) zs axis p k
 
--- so addition of small numbers chains
-pub sums_chain : (zs : List ℤ) (axis : Axis) → AreSmall zs axis.length → 0 < axis.length → 0 < axis.up → axis.down ≡ 0 → Chains (dyadic_of two.Plus) (dyadic_of two.Plus) (dyadic_of two.Plus) zs axis
-sums_chain zs axis small h u d = record { odds = λ q odd. step q (omega arith); evens = λ q later even. step q later }
-  where
-    step : (q : ℕ) → 0 < index_along axis q → IsStep (dyadic_of two.Plus) (dyadic_of two.Plus) zs axis q
-    step q later z e =
-        let k : ℕ = index_along axis q in
-        let p : ℕ = q - k * axis.up in
-        let line : List ℤ = line_of (pos 0) zs axis p k in
-        let x : ℤ = get_or zs q (pos 0) in
-        let below : k < axis.length = mod-lt (q / axis.up) h in
-        let some : 0 < length line = omega (arith, length-line (pos 0) zs axis p k) in
-        let longer : 0 < length (line_of (pos 0) zs axis p (k + 1)) = omega (arith, length-line (pos 0) zs axis p (k + 1)) in
-        let known : ok_number z ≡ Ok (total line) = sym e ∙ before_front (dyadic_of two.Plus) zs axis q h u later ∙ fold_total line some (small_total zs axis p axis.length k small (omega arith)) in
-        let sum : z ≡ total line = cc in
-        let all : z +ℤ x ≡ total (line_of (pos 0) zs axis p (k + 1)) = ap (λ (s : ℤ). s +ℤ x) sum ∙ sym (total_more line x) ∙ ap total (one_longer zs axis q d) in
-        let bounded : magnitudes (line_of (pos 0) zs axis p (k + 1)) < 2 ^ 63 = small_total zs axis p axis.length (k + 1) small (omega arith) in
-        let fits : unsigned_abs (z +ℤ x) < 2 ^ 63 = omega (arith, total_small (line_of (pos 0) zs axis p (k + 1)), ap unsigned_abs all) in
-        in_range-fits (z +ℤ x) (fits_below (z +ℤ x) fits) ∙ ap (λ (w : ℤ). ok_number w) all ∙ sym (fold_total (line_of (pos 0) zs axis p (k + 1)) longer bounded)
+-- where a front is told from what was kept of the numbers before
+pub front_told : (f : ℤ → ℤ → Result ℤ Fault) (zs : List ℤ) (axis : Axis) (q : ℕ) (z : ℤ) → axis.down ≡ 0 → fold_by f (before zs axis q ++ get_or zs q (pos 0) ∷ []) ≡ Ok z → front_fold f zs axis q ≡ Ok z
+front_told f zs axis q z d e = ap (fold_by f) (sym (one_longer zs axis q d)) ∙ e
 
--- and subtraction, which takes the number at an odd index off the front before, and adds that at an even one
-pub differences_chain : (zs : List ℤ) (axis : Axis) → AreSmall zs axis.length → 0 < axis.length → 0 < axis.up → axis.down ≡ 0 → Chains (dyadic_of two.Minus) (dyadic_of two.Minus) (dyadic_of two.Plus) zs axis
-differences_chain zs axis small h u d = record {
-  odds = λ q odd. λ z e.
-      let k : ℕ = index_along axis q in
-      let x : ℤ = get_or zs q (pos 0) in
-      let less : z -ℤ x ≡ z +ℤ signed (is_odd (length (line_of (pos 0) zs axis (q - k * axis.up) k))) x =
-      taken z x ∙ ap (λ (b : Bool). z +ℤ signed b x) (sym (odd_two k odd) ∙ ap is_odd (sym (length-line (pos 0) zs axis (q - k * axis.up) k))) in
-      step q (omega arith) z (z -ℤ x) e less;
-  evens = λ q later even. λ z e.
-      let k : ℕ = index_along axis q in
-      let x : ℤ = get_or zs q (pos 0) in
-      let more : z +ℤ x ≡ z +ℤ signed (is_odd (length (line_of (pos 0) zs axis (q - k * axis.up) k))) x =
-      ap (λ (b : Bool). z +ℤ signed b x) (sym (even_two k even) ∙ ap is_odd (sym (length-line (pos 0) zs axis (q - k * axis.up) k))) in
-      step q later z (z +ℤ x) e more;
+-- the numbers before a place are those before the place a step back, and the number there
+pub before_step : (zs : List ℤ) (axis : Axis) (p q : ℕ) → 0 < axis.length → 0 < axis.up → axis.down ≡ 0 → q ≡ p + axis.up → 0 < index_along axis q → before zs axis p ++ get_or zs p (pos 0) ∷ [] ≡ before zs axis q
+before_step zs axis p q h u d e later =
+    ap (λ (r : ℕ). before zs axis r ++ get_or zs r (pos 0) ∷ []) back
+    ∙ one_longer zs axis (q - axis.up) d
+    ∙ ap (λ (k : ℕ). line_of (pos 0) zs axis (q - axis.up - k * axis.up) (k + 1)) (index_before axis q h u later)
+    ∙ ap (λ (r : ℕ). line_of (pos 0) zs axis r (index_along axis q - 1 + 1)) (start q axis.up (index_along axis q) later)
+    ∙ ap (line_of (pos 0) zs axis (q - index_along axis q * axis.up)) (whole (index_along axis q) later)
+  where
+    back : p ≡ q - axis.up
+    back = omega arith
+
+    whole : (k : ℕ) → 0 < k → k - 1 + 1 ≡ k
+    whole k h = omega arith
+
+    start : (q w k : ℕ) → 0 < k → q - w - (k - 1) * w ≡ q - k * w
+    start q w k h = let e : (k - 1) * w + w ≡ k * w = ring (k - 1) w ∙ ap (λ j. j * w) (one k h) in omega arith
+      where
+        ring : (j w : ℕ) → j * w + w ≡ (j + 1) * w
+        ring j w = omega arith
+
+        one : (k : ℕ) → 0 < k → k - 1 + 1 ≡ k
+        one k h = omega arith
+
+-- before the first of a line there is none
+pub before_first : (zs : List ℤ) (axis : Axis) (q : ℕ) → index_along axis q ≡ 0 → [] ≡ before zs axis q
+before_first zs axis q e = ap (λ (k : ℕ). line_of (pos 0) zs axis (q - index_along axis q * axis.up) k) (sym e)
+
+by_one : (axis : Axis) (q : ℕ) → axis.up ≡ 1 → index_along axis q ≡ q % axis.length
+by_one axis q u = ap (λ (w : ℕ). q / w % axis.length) u ∙ ap (λ (m : ℕ). m % axis.length) (one q)
+  where
+    one : (q : ℕ) → q / 1 ≡ q
+    one q = omega arith
+
+-- the first of a line of numbers that lie side by side, and the others
+pub line_begins : (axis : Axis) (line : ℕ) → 0 < axis.length → axis.up ≡ 1 → index_along axis (line * axis.length) ≡ 0
+line_begins axis line h u = by_one axis (line * axis.length) u ∙ ap (λ (m : ℕ). m % axis.length) (more (line * axis.length)) ∙ mod-mul-add line axis.length 0 h
+  where
+    more : (x : ℕ) → x ≡ x + 0
+    more x = omega arith
+
+pub index_beside : (axis : Axis) (from k : ℕ) → axis.up ≡ 1 → index_along axis from ≡ 0 → k < axis.length → index_along axis (from + k) ≡ k
+index_beside axis from k u z h =
+    by_one axis (from + k) u
+    ∙ ap (λ (p : ℕ). (p + k) % axis.length) (sym (whole from axis.length (div-add-mod' from axis.length) (sym (by_one axis from u) ∙ z)))
+    ∙ mod-mul-add (from / axis.length) axis.length k h
+  where
+    whole : (p n : ℕ) → p / n * n + p % n ≡ p → p % n ≡ 0 → p / n * n ≡ p
+    whole p n e z = omega arith
+
+-- the lines and the rows are all of the numbers
+pub all_lines : (zs : List ℤ) (axis : Axis) → AreWhole zs axis → axis.up ≡ 1 → length zs / axis.length * axis.length ≡ length zs
+all_lines zs axis whole u = let e : length zs ≡ whole.blocks * axis.length + 0 = whole.size ∙ ap (λ (w : ℕ). whole.blocks * (axis.length * w)) u ∙ ring whole.blocks axis.length in ap (λ (n : ℕ). n / axis.length * axis.length) e ∙ ap (λ (m : ℕ). m * axis.length) (div-mul-add whole.blocks axis.length 0 whole.long) ∙ sym (e ∙ none (whole.blocks * axis.length))
+  where
+    ring : (b n : ℕ) → b * (n * 1) ≡ b * n + 0
+    ring b n = omega arith
+
+    none : (x : ℕ) → x + 0 ≡ x
+    none x = omega arith
+
+pub all_rows : (zs : List ℤ) (axis : Axis) → AreWhole zs axis → length zs / axis.up * axis.up ≡ length zs
+all_rows zs axis whole = let e : length zs ≡ (whole.blocks * axis.length) * axis.up + 0 = whole.size ∙ ring whole.blocks axis.length axis.up in ap (λ (n : ℕ). n / axis.up * axis.up) e ∙ ap (λ (m : ℕ). m * axis.up) (div-mul-add (whole.blocks * axis.length) axis.up 0 whole.apart) ∙ sym (e ∙ none (whole.blocks * axis.length * axis.up))
+  where
+    ring : (b n w : ℕ) → b * (n * w) ≡ b * n * w + 0
+    ring b n w = omega arith
+
+    none : (x : ℕ) → x + 0 ≡ x
+    none x = omega arith
+
+-- the line of a place lies within the numbers
+pub line_of_place : (zs : List ℤ) (axis : Axis) (q : ℕ) → AreWhole zs axis → q < length zs → IsLine (length zs) axis (q - index_along axis q * axis.up) (index_along axis q + 1)
+line_of_place zs axis q whole h = record {
+  some = omega arith;
+  within = omega (arith, mod-lt (q / axis.up) whole.long);
+  near = near whole.blocks axis.length axis.up axis.down q (index_along axis q * axis.up) (length zs) whole.forward whole.size whole.few h;
+  placed = λ k l.
+      let p : ℕ = q - index_along axis q * axis.up in
+      let a : ℕ = q / axis.up / axis.length in
+      let r : ℕ = q % axis.up in
+      let rest : r < axis.up = mod-lt q whole.apart in
+      let e : (a * axis.length + index_along axis q) * axis.up + r ≡ q = ap (λ (m : ℕ). m * axis.up + r) (div-add-mod' (q / axis.up) axis.length) ∙ div-add-mod' q axis.up in
+      let begin : p ≡ a * axis.length * axis.up + r = begins q a axis.length (index_along axis q) axis.up r e in
+      placed whole.blocks axis.length axis.up axis.down a k r (axis.length - 1 - k) p (length zs) whole.forward whole.size begin l rest (blocks_more whole.blocks axis.length axis.up a (index_along axis q) r (omega (arith, e, whole.size)));
 }
   where
-    taken : (z x : ℤ) → z -ℤ x ≡ z +ℤ (pos 0 -ℤ x)
-    taken z x = omega (arith, ints)
+    near : (b n w d q x m : ℕ) → d ≡ 0 → m ≡ b * (n * w) → m < 2 ^ 61 → q < m → q - x + (w + d) * n < 2 ^ 63
+    near zero n w d q x m z e f h = absurd (omega arith)
+    near (suc b) n w d q x m z e f h = let s : (w + d) * n ≡ n * w = rw z (ring w n) in let t : n * w ≤ m = rw e (more b (n * w)) in omega arith
+      where
+        ring : (w n : ℕ) → (w + 0) * n ≡ n * w
+        ring w n = omega arith
 
-    step : (q : ℕ) → 0 < index_along axis q → (z w : ℤ) → front_fold (dyadic_of two.Minus) zs axis (q - axis.up) ≡ Ok z →
-        w ≡ z +ℤ signed (is_odd (length (line_of (pos 0) zs axis (q - index_along axis q * axis.up) (index_along axis q)))) (get_or zs q (pos 0)) →
-        in_range w ≡ front_fold (dyadic_of two.Minus) zs axis q
-    step q later z w e g =
-        let k : ℕ = index_along axis q in
-        let p : ℕ = q - k * axis.up in
-        let line : List ℤ = line_of (pos 0) zs axis p k in
-        let x : ℤ = get_or zs q (pos 0) in
-        let below : k < axis.length = mod-lt (q / axis.up) h in
-        let some : 0 < length line = omega (arith, length-line (pos 0) zs axis p k) in
-        let longer : 0 < length (line_of (pos 0) zs axis p (k + 1)) = omega (arith, length-line (pos 0) zs axis p (k + 1)) in
-        let known : ok_number z ≡ Ok (alternating line) = sym e ∙ before_front (dyadic_of two.Minus) zs axis q h u later ∙ fold_alternating line some (small_total zs axis p axis.length k small (omega arith)) in
-        let sum : z ≡ alternating line = cc in
-        let all : w ≡ alternating (line_of (pos 0) zs axis p (k + 1)) = g ∙ ap (λ (s : ℤ). s +ℤ signed (is_odd (length line)) x) sum ∙ sym (one_more line x) ∙ ap alternating (one_longer zs axis q d) in
-        let bounded : magnitudes (line_of (pos 0) zs axis p (k + 1)) < 2 ^ 63 = small_total zs axis p axis.length (k + 1) small (omega arith) in
-        let fits : unsigned_abs w < 2 ^ 63 = omega (arith, alternating_small (line_of (pos 0) zs axis p (k + 1)), ap unsigned_abs all) in
-        in_range-fits w (fits_below w fits) ∙ ap (λ (v : ℤ). ok_number v) all ∙ sym (fold_alternating (line_of (pos 0) zs axis p (k + 1)) longer bounded)
+        more : (b x : ℕ) → x ≤ suc b * x
+        more b x = omega arith
 
-pub all_small : (zs : List ℤ) (bound : ℕ) → ((k : ℕ) → k < length zs → unsigned_abs (get_or zs k (pos 0)) ≤ bound) → (k : ℕ) → unsigned_abs (get_or zs k (pos 0)) ≤ bound
-all_small [] bound h k = omega arith
-all_small (z ∷ zs) bound h zero = h 0 (omega arith)
-all_small (z ∷ zs) bound h (suc k) = all_small zs bound (λ j l. h (suc j) (omega arith)) k
+    begins : (q a n i w r : ℕ) → (a * n + i) * w + r ≡ q → q - i * w ≡ a * n * w + r
+    begins q a n i w r e = let f : a * n * w + r + i * w ≡ q = ring a n i w r ∙ e in omega arith
+      where
+        ring : (a n i w r : ℕ) → a * n * w + r + i * w ≡ (a * n + i) * w + r
+        ring a n i w r = omega arith
+
+    blocks_more : (b n w a i r : ℕ) → (a * n + i) * w + r < b * (n * w) → a < b
+    blocks_more b n w a i r h = split (nat_lt a b) refl
+      where
+        low : (a n i w r : ℕ) → a * (n * w) ≤ (a * n + i) * w + r
+        low a n i w r = let e : (a * n + i) * w + r ≡ a * (n * w) + i * w + r = omega arith in omega arith
+
+        split : (t : Bool) → nat_lt a b ≡ t → a < b
+        split true t = ltb-true a b t
+        split false t = let l : b ≤ a = ltb-false a b t in absurd (omega (arith, low a n i w r, mul-le-mul_right (n * w) l))
+
+    placed : (b n w d a k r o p m : ℕ) → d ≡ 0 → m ≡ b * (n * w) → p ≡ a * n * w + r → k < n → r < w → a < b → p + (w * k + d * o) < m
+    placed b n w d a k r o p m z e f l h g =
+        let x : suc k * w ≤ n * w = mul-le-mul_right w l in
+        let y : suc a * (n * w) ≤ b * (n * w) = mul-le-mul_right (n * w) g in
+        rw (z, e, f) (all a n w k r o (b * (n * w)) x y h)
+      where
+        all : (a n w k r o m : ℕ) → suc k * w ≤ n * w → suc a * (n * w) ≤ m → r < w → a * n * w + r + (w * k + 0 * o) < m
+        all a n w k r o m x y h = let e : a * n * w ≡ a * (n * w) = omega arith in let f : suc k * w ≡ w * k + w = omega arith in let g : suc a * (n * w) ≡ a * (n * w) + n * w = omega arith in omega arith
 
 -- how many elements lie between two that are next along an axis
 abbrev pub apart : ℕ → List ℕ → ℕ
@@ -358,114 +349,23 @@ fronts_by_places f zs a k axis h e full is =
         ap (λ (p : ℕ). line_fold (dyadic_of f) zs axis p (get_or i k 0 + 1)) (sym (line_start a.shape i k axis h w is))
         ∙ ap (λ (x : ℕ). line_fold (dyadic_of f) zs axis (position_in a.shape i - x * axis.up) (x + 1)) (sym (index_at a.shape i k axis h w is))
 
--- what holds of the items of two lists by their places holds of both together
-joined_each : (P : ℕ → ℤ → Type 0) (xs ys : List ℤ) (n : ℕ) → length xs ≡ n → ((q : ℕ) → q < n → P q (get_or xs q (pos 0))) → ((j : ℕ) → j < length ys → P (n + j) (get_or ys j (pos 0))) →
-    (q : ℕ) → q < n + length ys → P q (get_or (xs ++ ys) q (pos 0))
-joined_each P xs ys n e low high q h = split (nat_lt q n) refl
-  where
-    there : (n q : ℕ) → n ≤ q → n + (q - n) ≡ q
-    there n q l = omega arith
-
-    split : (b : Bool) → nat_lt q n ≡ b → P q (get_or (xs ++ ys) q (pos 0))
-    split true t =
-        let l : q < n = ltb-true q n t in
-        let Q : ℤ → Type 0 = λ z. P q z in
-        subst Q (sym (get_or_append_left xs ys (pos 0) q (omega arith))) (low q l)
-    split false t =
-        let l : n ≤ q = ltb-false q n t in
-        let Q : ℤ → Type 0 = λ z. P q z in
-        let R : ℕ → Type 0 = λ k. P k (get_or ys (q - n) (pos 0)) in
-        subst Q (sym (get_or-append_right xs ys n q (pos 0) e l)) (subst R (there n q l) (high (q - n) (omega arith)))
-
-abbrev IsFront : (ℤ → ℤ → Result ℤ Fault) → List ℤ → Axis → ℕ → ℤ → Type 0
-IsFront f zs axis q z = front_fold f zs axis q ≡ Ok z
-
--- fronts and then others
-more_fronts : (f : ℤ → ℤ → Result ℤ Fault) (zs : List ℤ) (axis : Axis) (count more : ℕ) (out ys new : List ℤ) → AreFronts f zs axis count out → new ≡ out ++ ys → count + length ys ≡ more →
-    ((j : ℕ) → j < length ys → front_fold f zs axis (count + j) ≡ Ok (get_or ys j (pos 0))) → AreFronts f zs axis more new
-more_fronts f zs axis count more out ys new h e s each = record {
-  size = ap length e ∙ length-append out ys ∙ ap (λ (n : ℕ). n + length ys) h.size ∙ s;
-  each = λ q l.
-      let P : List ℤ → Type 0 = λ w. IsFront f zs axis q (get_or w q (pos 0)) in
-      subst P (sym e) (joined_each (IsFront f zs axis) out ys count h.size h.each each q (omega arith));
-}
-
--- one front more
-pub front_more : (f : ℤ → ℤ → Result ℤ Fault) (zs : List ℤ) (axis : Axis) (at : ℕ) (out new : List ℤ) (value : ℤ) → AreFronts f zs axis at out → new ≡ out ++ value ∷ [] → front_fold f zs axis at ≡ Ok value →
-    AreFronts f zs axis (at + 1) new
-front_more f zs axis at out new value h e v = more_fronts f zs axis at (at + 1) out (value ∷ []) new h e refl each
-  where
-    each : (j : ℕ) → j < 1 → front_fold f zs axis (at + j) ≡ Ok (get_or (value ∷ []) j (pos 0))
-    each zero l = ap (front_fold f zs axis) (same at) ∙ v
-      where
-        same : (n : ℕ) → n + 0 ≡ n
-        same n = omega arith
-    each (suc j) l = absurd (omega arith)
-
--- the first row along the axis is that of the numbers
-pub first_row : (f : ℤ → ℤ → Result ℤ Fault) (zs : List ℤ) (axis : Axis) (row : ℕ) (out new : List ℤ) → axis.down ≡ 0 → row % axis.length ≡ 0 → (row + 1) * axis.up ≤ length zs →
-    AreFronts f zs axis (row * axis.up) out → new ≡ out ++ slice_range zs (row * axis.up) (row * axis.up + axis.up) → AreFronts f zs axis ((row + 1) * axis.up) new
-first_row f zs axis row out new d z w h e =
-    more_fronts f zs axis (row * axis.up) ((row + 1) * axis.up) out (slice_range zs (row * axis.up) (row * axis.up + axis.up)) new h e (ap (λ (n : ℕ). row * axis.up + n) size ∙ one row axis.up)
-    (λ j l.
-    let b : j < axis.up = omega (arith, size) in
-    front_first f zs axis (row * axis.up + j) d (index_in_row axis row (row * axis.up + j) (omega arith) (omega arith) ∙ z)
-    ∙ ap (λ (x : ℤ). ok_number x) (sym (get_or-take (row * axis.up + axis.up - row * axis.up) (drop (row * axis.up) zs) j (pos 0) (omega arith) ∙ get_or-drop (row * axis.up) zs j (pos 0))))
-  where
-    one : (r w : ℕ) → r * w + w ≡ (r + 1) * w
-    one r w = omega arith
-
-    size : length (slice_range zs (row * axis.up) (row * axis.up + axis.up)) ≡ axis.up
-    size = length-take-le (row * axis.up + axis.up - row * axis.up) (drop (row * axis.up) zs) (omega (arith, length-drop (row * axis.up) zs, one row axis.up)) ∙ same (row * axis.up) axis.up
-      where
-        same : (p c : ℕ) → p + c - p ≡ c
-        same p c = omega arith
-
--- a fault is the scan's where what stands before is known
+-- a fault is the scan's where the fronts before it are known
 pub front_fault : (f : ℤ → ℤ → Result ℤ Fault) (zs : List ℤ) (axis : Axis) (at : ℕ) (out : List ℤ) (e : Fault) → AreFronts f zs axis at out → at < length zs → front_fold f zs axis at ≡ Err e → front_folds f zs axis ≡ Err e
-front_fault f zs axis at out e h l g = first_fault (front_fold f zs axis) out e at (length zs) l h.each g
+front_fault f zs axis at out e h l g = first_fault (front_fold f zs axis) out e at (length zs) l h g
 
 -- all of them
-pub fronts_whole : (f : ℤ → ℤ → Result ℤ Fault) (zs : List ℤ) (axis : Axis) (count : ℕ) (out : List ℤ) → count ≡ length zs → AreFronts f zs axis count out → front_folds f zs axis ≡ Ok out
-fronts_whole f zs axis count out e h =
-    let P : ℕ → Type 0 = λ n. AreFronts f zs axis n out in
-    let all : AreFronts f zs axis (length zs) out = subst P e h in
-    all_values (front_fold f zs axis) out (length zs) all.size all.each
+pub fronts_whole : (f : ℤ → ℤ → Result ℤ Fault) (zs : List ℤ) (axis : Axis) (out : List ℤ) → length out ≡ length zs → AreFronts f zs axis (length zs) out → front_folds f zs axis ≡ Ok out
+fronts_whole f zs axis out e h = all_values (front_fold f zs axis) out (length zs) e h
 
--- a stop is the same for an answer that there might be none of
-pub some_stop : {A B : Type 0} (view : B → A) (model : Result A Fault) (r : Stop) → Answers view model (Err r) → AnswersIfSome view model (Err r)
-some_stop view model (stop.Fault e) h = h
-some_stop view model stop.Memory h = tt
-
--- a fault that ends the rows ends the scan
-pub fronts_stop : {D : Type 0} (view : D → List ℤ) (f : ℤ → ℤ → Result ℤ Fault) (zs : List ℤ) (axis : Axis) (count : ℕ) (fronts : List ℤ) (r : Stop) → MoreFronts f zs axis count fronts (Err r) → Answers {B = D} view (front_folds f zs axis) (Err r)
-fronts_stop view f zs axis count fronts (stop.Fault e) h = h
-fronts_stop view f zs axis count fronts stop.Memory h = tt
-
--- as many rows as there are
-pub rows_whole : (s : List ℕ) (k n : ℕ) → k < length s → n ≡ size_of s → 0 < n → (0 < get_or s k 0) × (0 < apart k s) × (n ≡ (n / apart k s) * apart k s)
-rows_whole s k n h e some =
+-- an array that has elements has whole lines along each axis
+pub lines_whole : (s : List ℕ) (k : ℕ) (zs : List ℤ) (axis : Axis) → k < length s → 0 < size_of s → length zs ≡ size_of s → bound_of s ≤ 1000000 → axis.length ≡ get_or s k 0 → axis.up ≡ apart k s → axis.down ≡ 0 → AreWhole zs axis
+lines_whole s k zs axis h some count small long up down =
     let r = by_rows s k h in
-    let size : n ≡ r.blocks * (get_or s k 0 * apart k s) = e ∙ r.size in
-    parts n r.blocks (get_or s k 0) (apart k s) size some
+    let size : length zs ≡ r.blocks * (axis.length * axis.up) = rw (long, up) (count ∙ r.size) in
+    let p = parts (length zs) r.blocks axis.length axis.up size (omega arith) in
+    record { long = p.0; apart = p.1; forward = down; few = omega (arith, size_le_bound s); blocks = r.blocks; size = size }
   where
-    parts : (n b m w : ℕ) → n ≡ b * (m * w) → 0 < n → (0 < m) × (0 < w) × (n ≡ (n / w) * w)
+    parts : (n b m w : ℕ) → n ≡ b * (m * w) → 0 < n → (0 < m) × (0 < w)
     parts n b zero w e h = absurd (omega arith)
     parts n b (suc m) zero e h = absurd (omega arith)
-    parts n b (suc m) (suc w) e h = (
-      omega arith,
-      omega arith,
-      let f : n ≡ (b * suc m) * suc w + 0 = ring n b (suc m) (suc w) e in
-          let g : n / suc w ≡ b * suc m = ap (λ (x : ℕ). x / suc w) f ∙ div-mul-add (b * suc m) (suc w) 0 (omega arith) in
-          rw g (f ∙ none (b * suc m * suc w)),
-    )
-      where
-        ring : (n b m w : ℕ) → n ≡ b * (m * w) → n ≡ (b * m) * w + 0
-        ring n b m w e = omega arith
-
-        none : (x : ℕ) → x + 0 ≡ x
-        none x = omega arith
-
--- what is answered of a model is answered of an equal one
-pub if_some_along : {A B : Type 0} (view : B → A) (m n : Result A Fault) (r : Result (Option B) Stop) → m ≡ n → AnswersIfSome view n r → AnswersIfSome view m r
-if_some_along {A = A} view m n r e h = let P : Result A Fault → Type 0 = λ x. AnswersIfSome view x r in subst P (sym e) h
+    parts n b (suc m) (suc w) e h = (omega arith, omega arith)

@@ -50,30 +50,6 @@ one_apart axis k u d = step axis.up axis.down k (axis.length - 1 - k) u d
         there : (k m : ℕ) → 1 * k + 0 * m ≡ k
         there k m = omega arith
 
--- a walk over one axis that moves along the lines
-abbrev pub at_fronts : (ℕ → ℕ → Result ℤ Fault) → ℕ → Axis → Result (List ℤ) Fault
-at_fronts gives p axis = all_ok (λ k. gives p (k + 1)) (range_with_len 0 axis.length)
-
-one_along : (gives : ℕ → ℕ → Result ℤ Fault) (p n : ℕ) (axis : Axis) → at_fronts gives p axis ≡ made gives p n (Some 0) (axis ∷ [])
-one_along gives p n axis = sym (each (range_with_len 0 axis.length))
-  where
-    each : (ks : List ℕ) → all_ok (λ is. gives (start_at p (Some 0) (axis ∷ []) is) (count_at n (Some 0) is)) (flat_map (λ i. map (λ is. i ∷ is) (indices [])) ks) ≡ all_ok (λ k. gives p (k + 1)) ks
-    each [] = refl
-    each (k ∷ ks) = ap (λ (r : Result (List ℤ) Fault). and_then (gives p (k + 1)) (λ y. ok_map (λ ys. y ∷ ys) r)) (each ks)
-
-pub fronts_made : (gives : ℕ → ℕ → Result ℤ Fault) (p n : ℕ) (depth : Option ℕ) (xs : List Axis) (axis : Axis) (rest : List Axis) → xs ≡ axis ∷ rest → rest ≡ [] → depth ≡ Some 0 →
-    at_fronts gives p axis ≡ made gives p n depth xs
-fronts_made gives p n depth xs axis rest e f d =
-    one_along gives p n axis
-    ∙ sym (ap (λ (o : Option ℕ). made gives p n o xs) d ∙ ap (made gives p n (Some 0)) (e ∙ ap (λ (l : List Axis). axis ∷ l) f))
-
-pub fronts_asked : (has : ℕ → ℕ → Type 0) (p n : ℕ) (depth : Option ℕ) (xs : List Axis) (axis : Axis) (rest : List Axis) → xs ≡ axis ∷ rest → rest ≡ [] → depth ≡ Some 0 →
-    ((is : List ℕ) → is_within (lengths xs) is ≡ true → has (start_at p depth xs is) (count_at n depth is)) → (k : ℕ) → k < axis.length → has p (k + 1)
-fronts_asked has p n depth xs axis rest e f d h k l =
-    let P : List Axis → Type 0 = λ ys. (is : List ℕ) → is_within (lengths ys) is ≡ true → has (start_at p (Some 0) ys is) (count_at n (Some 0) is) in
-    let Q : Option ℕ → Type 0 = λ o. (is : List ℕ) → is_within (lengths xs) is ≡ true → has (start_at p o xs is) (count_at n o is) in
-    subst P (e ∙ ap (λ (l : List Axis). axis ∷ l) f) (subst Q d h) (k ∷ []) (within_cons axis.length k [] [] l refl)
-
 -- a walk over one axis along which the lines begin side by side
 one_beside : (gives : ℕ → ℕ → Result ℤ Fault) (p n : ℕ) (axis : Axis) → axis.up ≡ 1 → axis.down ≡ 0 → made gives p n None (axis ∷ []) ≡ all_ok (λ q. gives q n) (range_with_len p axis.length)
 one_beside gives p n axis u d = each 0 axis.length ∙ ap (λ (q : ℕ). all_ok (λ q. gives q n) (range_with_len q axis.length)) (first p)

@@ -8,7 +8,7 @@ pub mod Shapes
 pub mod Along
 pub mod Comparisons
 pub mod Totals
-pub mod Swings
+pub mod Reach
 pub mod LastTwo
 pub mod Associative
 pub mod InQuarters

@@ -11,9 +11,8 @@ use Rattle.apl_arrays.specs.declared.axis.Axis.{Axis}
 use Rattle.apl_scalar.specs.declared.function.Dyadic.TheVariants as two
 use Rattle.apl_scalar.specs.Functions.{dyadic_of}
 use Rattle.apl_scalar.proofs.Signs.{in_range-fits}
-use Rattle.apl_folds.specs.declared.running.Running.{Running}
 use Rattle.apl_folds.specs.Lines.{fold_by, line_of}
-use Rattle.apl_folds.specs.inside.Sums.{total, magnitudes, IsRunning}
+use Rattle.apl_folds.specs.inside.Sums.{total, magnitudes}
 use Rattle.apl_folds.proofs.Rows.{line_more, length-line}
 
 abs-add : (x y : ℤ) → unsigned_abs (x +ℤ y) ≤ unsigned_abs x + unsigned_abs y
@@ -74,80 +73,6 @@ total_more (y ∷ ys) x = ap (λ t. y +ℤ t) (total_more ys x) ∙ grouped y (t
 pub magnitudes_more : (xs : List ℤ) (x : ℤ) → magnitudes (xs ++ x ∷ []) ≡ magnitudes xs + unsigned_abs x
 magnitudes_more [] x = omega arith
 magnitudes_more (y ∷ ys) x = omega (arith, magnitudes_more ys x)
-
--- a sum that is that of numbers with small magnitudes is what the machine has
-pub exact_sum : (xs : List ℤ) (sum : ℤ) (magnitude : ℕ) → (sum ≡ total xs) × (magnitudes xs ≤ magnitude) → magnitude < 2 ^ 63 → to_z w64 (of_z w64 sum) ≡ sum
-exact_sum xs sum magnitude b h =
-    let small : unsigned_abs (total xs) < 2 ^ 63 = omega (arith, total_small xs, b.1) in
-    to_z-of_z w64 sum (fits_along sum (total xs) b.0 small)
-
-pub running_more : (xs : List ℤ) (x sum next : ℤ) (magnitude wide : ℕ) → (magnitude < 2 ^ 63 → (sum ≡ total xs) × (magnitudes xs ≤ magnitude)) →
-    (FitsSigned w64 (to_z w64 (of_z w64 sum) +ℤ x) → next ≡ to_z w64 (of_z w64 sum) +ℤ x) → (wide < 2 ^ 63 → wide ≡ magnitude + unsigned_abs x) → wide < 2 ^ 63 →
-    (next ≡ total (xs ++ x ∷ [])) × (magnitudes (xs ++ x ∷ []) ≤ wide)
-running_more xs x sum next magnitude wide before added grown h =
-    let g : wide ≡ magnitude + unsigned_abs x = grown h in
-    let low : magnitude < 2 ^ 63 = omega arith in
-    let b : (sum ≡ total xs) × (magnitudes xs ≤ magnitude) = before low in
-    let m : magnitudes (xs ++ x ∷ []) ≤ wide = omega (arith, b.1, magnitudes_more xs x) in
-    let t : to_z w64 (of_z w64 sum) +ℤ x ≡ total (xs ++ x ∷ []) = ap (λ (s : ℤ). s +ℤ x) (exact_sum xs sum magnitude b low ∙ b.0) ∙ sym (total_more xs x) in
-    let small : unsigned_abs (total (xs ++ x ∷ [])) < 2 ^ 63 = omega (arith, total_small (xs ++ x ∷ [])) in
-    (added (fits_along (to_z w64 (of_z w64 sum) +ℤ x) (total (xs ++ x ∷ [])) t small) ∙ t, m)
-
-pub front_total : (xs : List ℤ) (sum : ℤ) (magnitude : ℕ) → 0 < length xs → (magnitude < 2 ^ 63 → (sum ≡ total xs) × (magnitudes xs ≤ magnitude)) → magnitude < 2 ^ 63 →
-    Ok (to_z w64 (of_z w64 sum)) ≡ fold_by (dyadic_of two.Plus) xs
-front_total xs sum magnitude some before h =
-    let b : (sum ≡ total xs) × (magnitudes xs ≤ magnitude) = before h in
-    ap (λ (z : ℤ). Ok z) (exact_sum xs sum magnitude b h ∙ b.0) ∙ sym (fold_total xs some (omega (arith, b.1)))
-
-pub running_line : (new : Running) (raw : List ℤ) (axis : Axis) (p k : ℕ) (x : ℤ) → x ≡ get_or raw (p + step_at axis k) (pos 0) →
-    IsRunning new (line_of (pos 0) raw axis p k ++ x ∷ []) → IsRunning new (line_of (pos 0) raw axis p (k + 1))
-running_line new raw axis p k x e h =
-    let P : List ℤ → Type 0 = λ l. IsRunning new l in
-    subst P (ap (λ (z : ℤ). line_of (pos 0) raw axis p k ++ z ∷ []) e ∙ line_more (pos 0) raw axis p k) h
-
--- the magnitudes of a line with a number more
-pub magnitudes_line : (raw : List ℤ) (axis : Axis) (p k : ℕ) → magnitudes (line_of (pos 0) raw axis p (k + 1)) ≡ magnitudes (line_of (pos 0) raw axis p k) + unsigned_abs (get_or raw (p + step_at axis k) (pos 0))
-magnitudes_line raw axis p k = ap magnitudes (sym (line_more (pos 0) raw axis p k)) ∙ magnitudes_more (line_of (pos 0) raw axis p k) (get_or raw (p + step_at axis k) (pos 0))
-
--- a line more has no smaller magnitudes
-magnitudes_up : (raw : List ℤ) (axis : Axis) (p k m : ℕ) → magnitudes (line_of (pos 0) raw axis p k) ≤ magnitudes (line_of (pos 0) raw axis p (k + m))
-magnitudes_up raw axis p k zero = let P : ℕ → Type 0 = λ n. magnitudes (line_of (pos 0) raw axis p k) ≤ magnitudes (line_of (pos 0) raw axis p n) in subst P (none k) (omega arith)
-  where
-    none : (k : ℕ) → k ≡ k + 0
-    none k = omega arith
-magnitudes_up raw axis p k (suc m) = omega (arith, magnitudes_up raw axis p k m, magnitudes_line raw axis p (k + m), ap (λ (n : ℕ). magnitudes (line_of (pos 0) raw axis p n)) (next k m))
-  where
-    next : (k m : ℕ) → k + m + 1 ≡ k + suc m
-    next k m = omega arith
-
--- the sum of a line with a number more, where all magnitudes leave room
-pub front_next : (raw : List ℤ) (axis : Axis) (p k n : ℕ) (sum x next : ℤ) → k < n → magnitudes (line_of (pos 0) raw axis p n) < 2 ^ 63 → sum ≡ total (line_of (pos 0) raw axis p k) → x ≡ get_or raw (p + step_at axis k) (pos 0) →
-    (FitsSigned w64 (sum +ℤ x) → next ≡ sum +ℤ x) → (next ≡ total (line_of (pos 0) raw axis p (k + 1))) × (fold_by (dyadic_of two.Plus) (line_of (pos 0) raw axis p (k + 1)) ≡ Ok next)
-front_next raw axis p k n sum x next h small known number added =
-    let m : magnitudes (line_of (pos 0) raw axis p (k + 1)) < 2 ^ 63 =
-    omega (arith, small, magnitudes_up raw axis p (k + 1) (n - (k + 1)), ap (λ (i : ℕ). magnitudes (line_of (pos 0) raw axis p i)) (there k n h)) in
-    let t : sum +ℤ x ≡ total (line_of (pos 0) raw axis p (k + 1)) =
-    ap (λ (s : ℤ). s +ℤ x) known ∙ ap (λ (y : ℤ). total (line_of (pos 0) raw axis p k) +ℤ y) number ∙ sym (total_more (line_of (pos 0) raw axis p k) (get_or raw (p + step_at axis k) (pos 0))) ∙ ap total (line_more (pos 0) raw axis p k) in
-    let fits : unsigned_abs (total (line_of (pos 0) raw axis p (k + 1))) < 2 ^ 63 = omega (arith, m, total_small (line_of (pos 0) raw axis p (k + 1))) in
-    let e : next ≡ total (line_of (pos 0) raw axis p (k + 1)) = added (fits_along (sum +ℤ x) (total (line_of (pos 0) raw axis p (k + 1))) t fits) ∙ t in
-    (e, fold_total (line_of (pos 0) raw axis p (k + 1)) (omega (arith, length-line (pos 0) raw axis p (k + 1))) m ∙ ap (λ (z : ℤ). Ok z) (sym e))
-  where
-    there : (k n : ℕ) → k < n → k + 1 + (n - (k + 1)) ≡ n
-    there k n h = omega arith
-
--- the magnitudes of a line with one little number more
-pub little_more : (raw : List ℤ) (axis : Axis) (p from j bound spread wide : ℕ) (x : ℤ) → x ≡ get_or raw (p + step_at axis (from + j)) (pos 0) →
-    (bound < 2 ^ 37 → magnitudes (line_of (pos 0) raw axis p (from + j)) ≤ magnitudes (line_of (pos 0) raw axis p from) + j * 2 ^ 36) →
-    (spread < 2 ^ 37 → unsigned_abs x ≤ 2 ^ 36) → bound ≤ wide → spread ≤ wide → wide < 2 ^ 37 →
-    magnitudes (line_of (pos 0) raw axis p (from + (j + 1))) ≤ magnitudes (line_of (pos 0) raw axis p from) + (j + 1) * 2 ^ 36
-little_more raw axis p from j bound spread wide x number before small hb hs h =
-    let s : unsigned_abs x ≤ 2 ^ 36 = small (omega arith) in
-    let b : magnitudes (line_of (pos 0) raw axis p (from + j)) ≤ magnitudes (line_of (pos 0) raw axis p from) + j * 2 ^ 36 = before (omega arith) in
-    let e : unsigned_abs x ≡ unsigned_abs (get_or raw (p + step_at axis (from + j)) (pos 0)) = ap unsigned_abs number in
-    omega (arith, s, b, e, magnitudes_line raw axis p (from + j), ap (λ (n : ℕ). magnitudes (line_of (pos 0) raw axis p n)) (next from j))
-  where
-    next : (a b : ℕ) → a + b + 1 ≡ a + (b + 1)
-    next a b = omega arith
 
 -- one more number of a block
 small_more : (xs : List ℤ) (x sum next : ℤ) (i bound spread wide : ℕ) → (bound < 2 ^ 49 → (sum ≡ total xs) × (magnitudes xs ≤ i * 2 ^ 48)) →

@@ -1,5 +1,6 @@
+pub mod Chains
 pub mod Ends
 pub mod Fronts
-pub mod Kept
 pub mod Quarters
+pub mod Reach
 pub mod Sums

@@ -1,16 +1,15 @@
 // Folds by associative functions, each from the one before it.
-ghost use Rattle.std.specs.Prelude.{IsTrue, IsOk};
+ghost use Rattle.std.specs.Prelude.{IsOk, IsSome};
 ghost use Rattle.apl_folds.specs.Chains.{IsAssociative};
-ghost use Rattle.apl_folds.specs.inside.Kept.{IsFront, fold_on};
+ghost use Rattle.apl_folds.specs.inside.Chains.{IsFront, value_with};
 
 use crate::kept::Kept;
 use apl_scalar::Scalar;
 
-/// The fold of one or more numbers by an associative function, if it is told.
+/// The fold of some numbers by an associative function, if there are any.
 #[derive(Clone, Copy)]
 pub(crate) struct Front {
-    fold: i64,
-    told: bool,
+    fold: Option<i64>,
 }
 
 impl<F: Scalar> Kept<F> for Front {
@@ -18,41 +17,26 @@ impl<F: Scalar> Kept<F> for Front {
 
     ghost knows = { IsFront F.meaning };
 
-    ghost tells = { λ s. IsTrue s.told };
-
-    ghost begins = { λ number others. IsOk (fold_on F.meaning number others) };
-
-    ghost keeps = { λ s others. IsTrue s.told × IsOk (fold_on F.meaning s.fold others) };
+    ghost tells = { λ s x. IsOk (value_with F.meaning s x) };
 
     #[inline(always)]
-    fn first(number: i64) -> Front {
-        Front {
-            fold: number,
-            told: true,
+    fn none() -> Front {
+        Front { fold: None }
+    }
+
+    #[inline(always)]
+    fn told(self, number: i64) -> Option<i64> {
+        let Some(before) = self.fold else {
+            return Some(number);
+        };
+        match F::apply(before, number) {
+            Ok(fold) => Some(fold),
+            Err(_) => None,
         }
     }
 
     #[inline(always)]
-    fn next(self, number: i64) -> Front {
-        match F::apply(self.fold, number) {
-            Ok(fold) => Front {
-                fold,
-                told: self.told,
-            },
-            Err(_) => Front {
-                fold: self.fold,
-                told: false,
-            },
-        }
-    }
-
-    #[inline(always)]
-    fn is_told(self) -> bool {
-        self.told
-    }
-
-    #[inline(always)]
-    fn fold(self) -> i64 {
-        self.fold
+    fn next(self, _number: i64, fold: i64) -> Front {
+        Front { fold: Some(fold) }
     }
 }

@@ -1,17 +1,15 @@
 // Folds by functions of which the values are 0 and 1, each from what the numbers before make of either.
-ghost use Rattle.std.specs.Prelude.{◌≡◌, ◌∷◌, ◌++◌, [], ℤ, List, IfSome, IsSome, Ok};
-ghost use Rattle.apl_folds.specs.Lines.{fold_by};
-ghost use Rattle.apl_folds.specs.inside.Ends.{IsEnds, chosen, ends_of, StayKnown};
+ghost use Rattle.std.specs.Prelude.{◌≡◌, ℤ, IsSome};
+ghost use Rattle.apl_folds.specs.inside.Ends.{told_at, truths};
 
 use crate::kept::Kept;
 use apl_scalar::Scalar;
 
-/// The last of some numbers, their fold, and what it were with 0 or with 1 for the last, as far as they are known. So where the function of
+/// The last of some numbers, if there is one, and their fold with 0 and with 1 in its place, as far as those are known. So where the function of
 /// the last number and of one more is 0 or 1, the fold with the one more is known too.
 #[derive(Clone, Copy)]
 pub(crate) struct Ends {
-    last: i64,
-    fold: Option<i64>,
+    last: Option<i64>,
     zero: Option<i64>,
     one: Option<i64>,
 }
@@ -19,10 +17,12 @@ pub(crate) struct Ends {
 /// The fold with one number more.
 #[inline(always)]
 fn with<F: Scalar>(ends: Ends, number: i64) -> Option<i64>
-    ensures fold { IfSome result (λ fold. (numbers : List ℤ) → IsEnds F.meaning ends numbers → fold_by F.meaning (numbers ++ number ∷ []) ≡ Ok fold) }
-    ensures chosen { result ≡ chosen ends (F.meaning ends.last number) }
+    ensures { result ≡ told_at F.meaning ends number }
 {
-    match F::apply(ends.last, number) {
+    let Some(last) = ends.last else {
+        return Some(number);
+    };
+    match F::apply(last, number) {
         Ok(0) => ends.zero,
         Ok(1) => ends.one,
         _ => None,
@@ -32,45 +32,30 @@ fn with<F: Scalar>(ends: Ends, number: i64) -> Option<i64>
 impl<F: Scalar> Kept<F> for Ends {
     ghost given = { Unit {0} };
 
-    ghost knows = { IsEnds F.meaning };
+    ghost knows = { λ s xs. (y : ℤ) → told_at F.meaning s y ≡ truths F.meaning xs y };
 
-    ghost tells = { λ s. IsSome s.fold };
-
-    ghost begins = { λ number others. StayKnown F.meaning (ends_of number) others };
-
-    ghost keeps = { StayKnown F.meaning };
+    ghost tells = { λ s x. IsSome (told_at F.meaning s x) };
 
     #[inline(always)]
-    fn first(number: i64) -> Ends {
+    fn none() -> Ends {
         Ends {
-            last: number,
-            fold: Some(number),
-            zero: Some(0),
-            one: Some(1),
+            last: None,
+            zero: None,
+            one: None,
         }
     }
 
     #[inline(always)]
-    fn next(self, number: i64) -> Ends {
+    fn told(self, number: i64) -> Option<i64> {
+        with::<F>(self, number)
+    }
+
+    #[inline(always)]
+    fn next(self, number: i64, _fold: i64) -> Ends {
         Ends {
-            last: number,
-            fold: if self.fold.is_some() {
-                with::<F>(self, number)
-            } else {
-                None
-            },
+            last: Some(number),
             zero: with::<F>(self, 0),
             one: with::<F>(self, 1),
         }
-    }
-
-    #[inline(always)]
-    fn is_told(self) -> bool {
-        self.fold.is_some()
-    }
-
-    #[inline(always)]
-    fn fold(self) -> i64 {
-        self.fold.unwrap_or(0)
     }
 }

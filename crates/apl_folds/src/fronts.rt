@@ -1,153 +1,266 @@
-// Scans along any axis of numbers in row-major order, each front from the one before it.
-ghost use Rattle.std.specs.Prelude.{◌≡◌, ◌<◌, ◌≤◌, ◌+◌, ◌*◌, ℕ, ℤ, pos, unsigned_abs, IsTrue, List, length, slice_index_or, Result};
-ghost use Rattle.apl_faults.specs.declared.fault.Fault.{Fault};
+// Scans along any axis of numbers in row-major order, each front from what is kept of the numbers before it.
+ghost use Rattle.std.specs.Prelude.{◌≡◌, ◌<◌, ◌≤◌, ◌+◌, ◌*◌, ◌%◌, ◌∷◌, ◌++◌, [], ℕ, pos, length, slice_index_or, IfOk, MatchResult};
 ghost use Rattle.apl_arrays.specs.Answers.{Answers};
 ghost use Rattle.apl_scalar.specs.Functions.{dyadic_of};
-ghost use Rattle.apl_folds.specs.Chains.{IsAssociative};
-ghost use Rattle.apl_folds.specs.inside.Fronts.{front_folds, IsStep, Chains, AreFronts, MoreFronts, AnswersIfSome, AreSmall};
+ghost use Rattle.apl_folds.specs.inside.Fronts.{before, front_fold, front_folds, index_along, AreFronts, AreWhole};
 
-use crate::running::EXACT;
+use crate::chains::Front;
+use crate::ends::Ends;
+use crate::kept::Kept;
+use crate::line::fold_strided;
+use crate::scale::Scale;
+use crate::swing::Swing;
 use apl_arrays::{Axis, Stop};
-use apl_scalar::{And, Difference, Dyadic, Logical, Maximum, Minimum, Or, Scalar, Sum, widest};
-use std::alloc::Global;
+use apl_faults::Fault;
+use apl_scalar::{ByFunction, Difference, Dyadic, Maximum, Minimum, Product, Scalar, Sum, grow};
+use std::alloc::{AllocError, Global};
 
-/// Appends the fronts of a row of numbers that are not the first along the axis: each is a step from the front a row before.
-#[inline(never)] // its loop keeps to registers, which it does not within the large loop over rows
-fn push_next<F: Scalar, S: Scalar>(
+/// Writes the fronts of a line of numbers that lie side by side, while they are told, and answers how many.
+fn tell_line<F: Scalar, K: Kept<F>>(
     numbers: &[i64],
     axis: Axis,
     from: usize,
-    out: &mut Vec<i64>,
-) -> Result<(), Stop>
-    requires before { axis.up ≤ from }
-    requires within { from + axis.up ≤ length numbers.now }
-    requires steps { (q : ℕ) → from ≤ q → q < from + axis.up → IsStep F.meaning S.meaning numbers.now axis q }
-    requires so_far { AreFronts F.meaning numbers.now axis from out.old.items }
-    ensures { MoreFronts F.meaning numbers.now axis (from + axis.up) out.new.items result }
+    out: &mut [i64],
+) -> usize
+    requires given { K.given }
+    requires whole { AreWhole numbers.now axis }
+    requires beside { axis.up ≡ 1 }
+    requires line { index_along axis from ≡ 0 }
+    requires within { from + axis.length ≤ length numbers.now }
+    requires size { length out.old ≡ length numbers.now }
+    requires so_far { AreFronts F.meaning numbers.now axis from out.old }
+    ensures few { result ≤ axis.length }
+    ensures size { length out.new ≡ length out.old }
+    ensures fronts { AreFronts F.meaning numbers.now axis (from + result) out.new }
 {
-    let up = axis.up;
-    for at in from..from + up {
-        match S::apply(out[at - up], numbers[at]) {
-            Ok(value) => out.push(value)?,
-            Err(fault) => return Err(Stop::Fault(fault)),
+    let mut kept = K::none();
+    for k in 0..axis.length {
+        let number = numbers[from + k];
+        let Some(fold) = kept.told(number) else {
+            return k;
+        };
+        out[from + k] = fold;
+        kept = kept.next(number, fold);
+    }
+    axis.length
+}
+
+/// The same line by line.
+fn tell_lines<F: Scalar, K: Kept<F>>(numbers: &[i64], axis: Axis, out: &mut [i64]) -> usize
+    requires given { K.given }
+    requires whole { AreWhole numbers.now axis }
+    requires beside { axis.up ≡ 1 }
+    requires size { length out.old ≡ length numbers.now }
+    ensures few { result ≤ length numbers.now }
+    ensures size { length out.new ≡ length out.old }
+    ensures fronts { AreFronts F.meaning numbers.now axis result out.new }
+{
+    for line in 0..numbers.len() / axis.length {
+        let from = line * axis.length;
+        let told = tell_line::<F, K>(numbers, axis, from, out);
+        if told < axis.length {
+            return from + told;
+        }
+    }
+    numbers.len()
+}
+
+/// What is kept before the number at an index along the axis.
+#[inline(always)]
+fn kept_at<F: Scalar, K: Kept<F>>(index: usize, kept: K) -> K
+    requires { K.given }
+    ensures first { index ≡ 0 → K.knows result [] }
+    ensures later { 0 < index → result ≡ kept }
+{
+    if index == 0 { K::none() } else { kept }
+}
+
+/// Writes the fronts of a row of numbers, which all have the same index along the axis, each from what is kept of those before it there,
+/// while they are told, and answers how many.
+fn tell_row<F: Scalar, K: Kept<F>>(
+    numbers: &[i64],
+    axis: Axis,
+    row: usize,
+    all: &mut [K],
+    out: &mut [i64],
+) -> usize
+    requires given { K.given }
+    requires whole { AreWhole numbers.now axis }
+    requires columns { length all.old ≡ axis.up }
+    requires within { (row + 1) * axis.up ≤ length numbers.now }
+    requires size { length out.old ≡ length numbers.now }
+    requires kept { 0 < row % axis.length → (j : ℕ) (d : K) → j < length all.old → K.knows (slice_index_or all.old j d) (before numbers.now axis (row * axis.up + j)) }
+    requires so_far { AreFronts F.meaning numbers.now axis (row * axis.up) out.old }
+    ensures few { result ≤ axis.up }
+    ensures columns { length all.new ≡ length all.old }
+    ensures size { length out.new ≡ length out.old }
+    ensures kept { result ≡ axis.up → (j : ℕ) (d : K) → j < length all.new → K.knows (slice_index_or all.new j d) (before numbers.now axis (row * axis.up + j) ++ slice_index_or numbers.now (row * axis.up + j) (pos 0) ∷ []) }
+    ensures fronts { AreFronts F.meaning numbers.now axis (row * axis.up + result) out.new }
+{
+    let index = row % axis.length;
+    let from = row * axis.up;
+    for j in 0..all.len() {
+        let number = numbers[from + j];
+        let kept = kept_at::<F, K>(index, all[j]);
+        let Some(fold) = kept.told(number) else {
+            return j;
+        };
+        out[from + j] = fold;
+        all[j] = kept.next(number, fold);
+    }
+    all.len()
+}
+
+/// The same row by row.
+fn tell_rows<F: Scalar, K: Kept<F>>(
+    numbers: &[i64],
+    axis: Axis,
+    all: &mut [K],
+    out: &mut [i64],
+) -> usize
+    requires given { K.given }
+    requires whole { AreWhole numbers.now axis }
+    requires columns { length all.old ≡ axis.up }
+    requires size { length out.old ≡ length numbers.now }
+    ensures few { result ≤ length numbers.now }
+    ensures size { length out.new ≡ length out.old }
+    ensures fronts { AreFronts F.meaning numbers.now axis result out.new }
+{
+    for row in 0..numbers.len() / axis.up {
+        let told = tell_row::<F, K>(numbers, axis, row, all, out);
+        if told < axis.up {
+            return row * axis.up + told;
+        }
+    }
+    numbers.len()
+}
+
+/// Room for what is kept of so many columns.
+fn columns<F: Scalar, K: Kept<F>>(alloc: Global, count: usize) -> Result<Vec<K>, AllocError>
+    requires { K.given }
+    ensures { IfOk result (λ all. length all.items ≡ count) }
+{
+    let mut all = Vec::with_capacity(alloc, count)?;
+    while all.len() < count {
+        all.push(K::none())?;
+    }
+    Ok(all)
+}
+
+/// Writes the first fronts, while they are told, and answers how many.
+fn tell<F: Scalar, K: Kept<F>>(
+    alloc: Global,
+    numbers: &[i64],
+    axis: Axis,
+    out: &mut [i64],
+) -> Result<usize, AllocError>
+    requires given { K.given }
+    requires whole { AreWhole numbers.now axis }
+    requires size { length out.old ≡ length numbers.now }
+    ensures few { IfOk result (λ told. told ≤ length numbers.now) }
+    ensures size { length out.new ≡ length out.old }
+    ensures fronts { IfOk result (λ told. AreFronts F.meaning numbers.now axis told out.new) }
+{
+    if axis.up == 1 {
+        return Ok(tell_lines::<F, K>(numbers, axis, out));
+    }
+    let mut all = columns::<F, K>(alloc, axis.up)?;
+    Ok(tell_rows::<F, K>(numbers, axis, all.as_mut_slice(), out))
+}
+
+/// The fold of the numbers along the axis up to the one at a place.
+fn front<F: Scalar>(numbers: &[i64], axis: Axis, at: usize) -> Result<i64, Fault>
+    requires whole { AreWhole numbers.now axis }
+    requires within { at < length numbers.now }
+    ensures { result ≡ front_fold F.meaning numbers.now axis at }
+{
+    let index = at / axis.up % axis.length;
+    fold_strided::<F>(numbers, &axis, at - index * axis.up, index + 1)
+}
+
+/// Folds each front behind so many anew, up to the first fault.
+fn fold_rest<F: Scalar>(
+    numbers: &[i64],
+    axis: Axis,
+    told: usize,
+    out: &mut [i64],
+) -> Result<(), Fault>
+    requires whole { AreWhole numbers.now axis }
+    requires size { length out.old ≡ length numbers.now }
+    requires few { told ≤ length numbers.now }
+    requires so_far { AreFronts F.meaning numbers.now axis told out.old }
+    ensures size { length out.new ≡ length out.old }
+    ensures fronts { MatchResult result (λ u. AreFronts F.meaning numbers.now axis (length numbers.now) out.new) (λ e. front_folds F.meaning numbers.now axis ≡ Err e) }
+{
+    for at in told..numbers.len() {
+        match front::<F>(numbers, axis, at) {
+            Ok(value) => out[at] = value,
+            Err(fault) => return Err(fault),
         }
     }
     Ok(())
 }
 
-/// Appends the fronts of a row of numbers, which all have the same index along the axis.
-fn push_row<F: Scalar, Odd: Scalar, Even: Scalar>(
-    numbers: &[i64],
-    axis: Axis,
-    row: usize,
-    out: &mut Vec<i64>,
-) -> Result<(), Stop>
-    requires long { 0 < axis.length }
-    requires forward { axis.down ≡ 0 }
-    requires within { (row + 1) * axis.up ≤ length numbers.now }
-    requires chains { Chains F.meaning Odd.meaning Even.meaning numbers.now axis }
-    requires so_far { AreFronts F.meaning numbers.now axis (row * axis.up) out.old.items }
-    ensures { MoreFronts F.meaning numbers.now axis ((row + 1) * axis.up) out.new.items result }
-{
-    let from = row * axis.up;
-    if row % axis.length == 0 {
-        out.extend_from_slice(&numbers[from..from + axis.up])?;
-        return Ok(());
-    }
-    if row % axis.length % 2 == 1 {
-        return push_next::<F, Odd>(numbers, axis, from, out);
-    }
-    push_next::<F, Even>(numbers, axis, from, out)
-}
-
-/// The fronts of so many rows, or the first fault.
-fn chain_rows<F: Scalar, Odd: Scalar, Even: Scalar>(
+/// All fronts, or the first fault.
+fn fronts_by<F: Scalar, K: Kept<F>>(
     alloc: Global,
     numbers: &[i64],
     axis: Axis,
-    rows: usize,
 ) -> Result<Vec<i64>, Stop>
-    requires long { 0 < axis.length }
-    requires forward { axis.down ≡ 0 }
-    requires size { length numbers.now ≡ rows * axis.up }
-    requires chains { Chains F.meaning Odd.meaning Even.meaning numbers.now axis }
+    requires given { K.given }
+    requires whole { AreWhole numbers.now axis }
     ensures { Answers (λ v. v.items) (front_folds F.meaning numbers.now axis) result }
 {
-    let mut out = Vec::with_capacity(alloc, numbers.len())?;
-    for row in 0..rows {
-        push_row::<F, Odd, Even>(numbers, axis, row, &mut out)?;
+    let mut out = Vec::new(alloc);
+    let _none = grow(&mut out, numbers.len())?;
+    let told = tell::<F, K>(alloc, numbers, axis, out.as_mut_slice())?;
+    match fold_rest::<F>(numbers, axis, told, out.as_mut_slice()) {
+        Ok(()) => Ok(out),
+        Err(fault) => Err(Stop::Fault(fault)),
     }
-    Ok(out)
 }
 
-/// The same by an associative function.
-fn chain_all<F: Scalar>(
+/// Numbers in row-major order, to be scanned along an axis.
+#[derive(Clone, Copy)]
+struct Scan<'a> {
     alloc: Global,
-    numbers: &[i64],
+    numbers: &'a [i64],
     axis: Axis,
-    rows: usize,
-) -> Result<Vec<i64>, Stop>
-    requires long { 0 < axis.length }
-    requires apart { 0 < axis.up }
-    requires forward { axis.down ≡ 0 }
-    requires size { length numbers.now ≡ rows * axis.up }
-    requires associative { IsAssociative F.meaning }
-    ensures { Answers (λ v. v.items) (front_folds F.meaning numbers.now axis) result }
-{
-    chain_rows::<F, F, F>(alloc, numbers, axis, rows)
 }
 
-/// Whether so many of these numbers are known to have a sum that fits, in whatever order they are added.
-fn are_small(numbers: &[i64], count: usize) -> bool
-    ensures { IsTrue result → AreSmall numbers.now count }
-{
-    (count as u64).saturating_mul(widest(numbers)) < EXACT
-}
+impl<'a> ByFunction for Scan<'a> {
+    type Output = Result<Vec<i64>, Stop>;
 
-/// An answer that there might be none of.
-fn some(answer: Result<Vec<i64>, Stop>) -> Result<Option<Vec<i64>>, Stop>
-    ensures { (model : Result (List ℤ) Fault) → Answers (λ v. v.items) model answer → AnswersIfSome (λ v. v.items) model result }
-{
-    match answer {
-        Ok(values) => Ok(Some(values)),
-        Err(stop) => Err(stop),
+    ghost can = { λ s f. AreWhole s.numbers.now s.axis };
+
+    ghost gives = { λ s f result. Answers (λ v. v.items) (front_folds f s.numbers.now s.axis) result };
+
+    fn with<F: Scalar>(self) -> Result<Vec<i64>, Stop> {
+        fronts_by::<F, Ends>(self.alloc, self.numbers, self.axis)
     }
 }
 
-/// The scan along an axis by a function of which each front is a step from the one before, or the first fault. Of another function, and of
-/// numbers too large to be added in either order, it makes none.
-pub(crate) fn chained(
+/// The scan along an axis of numbers in row-major order, or the first fault. It takes time in proportion to the numbers, but for functions of
+/// which a front is neither told from what is kept nor a fault: each such front is folded anew.
+pub(crate) fn fronts(
     alloc: Global,
     function: Dyadic,
     numbers: &[i64],
     axis: Axis,
-    rows: usize,
-) -> Result<Option<Vec<i64>>, Stop>
-    requires long { 0 < axis.length }
-    requires apart { 0 < axis.up }
-    requires forward { axis.down ≡ 0 }
-    requires size { length numbers.now ≡ rows * axis.up }
-    ensures { AnswersIfSome (λ v. v.items) (front_folds (dyadic_of function) numbers.now axis) result }
+) -> Result<Vec<i64>, Stop>
+    requires { AreWhole numbers.now axis }
+    ensures { Answers (λ v. v.items) (front_folds (dyadic_of function) numbers.now axis) result }
 {
     match function {
-        Dyadic::Plus => {
-            if are_small(numbers, axis.length) {
-                some(chain_rows::<Sum, Sum, Sum>(alloc, numbers, axis, rows))
-            } else {
-                Ok(None)
-            }
-        }
-        Dyadic::Minus => {
-            if are_small(numbers, axis.length) {
-                some(chain_rows::<Difference, Difference, Sum>(alloc, numbers, axis, rows))
-            } else {
-                Ok(None)
-            }
-        }
-        Dyadic::Maximum => some(chain_all::<Maximum>(alloc, numbers, axis, rows)),
-        Dyadic::Minimum => some(chain_all::<Minimum>(alloc, numbers, axis, rows)),
-        Dyadic::And => some(chain_all::<Logical<And>>(alloc, numbers, axis, rows)),
-        Dyadic::Or => some(chain_all::<Logical<Or>>(alloc, numbers, axis, rows)),
-        _ => Ok(None),
+        Dyadic::Plus => fronts_by::<Sum, Swing>(alloc, numbers, axis),
+        Dyadic::Minus => fronts_by::<Difference, Swing>(alloc, numbers, axis),
+        Dyadic::Times => fronts_by::<Product, Scale>(alloc, numbers, axis),
+        Dyadic::Maximum => fronts_by::<Maximum, Front>(alloc, numbers, axis),
+        Dyadic::Minimum => fronts_by::<Minimum, Front>(alloc, numbers, axis),
+        _ => function.apply(Scan {
+            alloc,
+            numbers,
+            axis,
+        }),
     }
 }

@@ -1,7 +1,6 @@
 //! Folds of numbers, and reduction and scan along an axis.
 #![tactic(auto)]
 
-mod alternating;
 mod chains;
 mod characters;
 mod columns;
@@ -14,9 +13,10 @@ mod lines;
 mod order;
 mod quarters;
 mod reduction;
-mod running;
+mod scale;
 mod scanning;
 mod sums;
+mod swing;
 mod walk;
 
 pub use fold::fold_numbers;

@@ -5,20 +5,18 @@ ghost use Rattle.apl_arrays.specs.Strides.{reach_of};
 ghost use Rattle.apl_scalar.specs.declared.function.Dyadic.TheVariants as two;
 ghost use Rattle.apl_scalar.specs.Functions.{dyadic_of};
 ghost use Rattle.apl_folds.specs.Folds.{identity};
-ghost use Rattle.apl_folds.specs.Lines.{made_of, line_folds, line_comparisons, AreLines, OfEach};
+ghost use Rattle.apl_folds.specs.Lines.{made_of, line_fold, line_folds, line_comparisons, AreLines, IsLine, OfEach};
 
-use crate::alternating::Alternating;
-use crate::chains::Front;
 use crate::characters::Comparison;
-use crate::ends::Ends;
+use crate::columns::push_columns;
 use crate::fold::identity_of;
-use crate::kept::{Kept, Telling};
-use crate::running::Total;
+use crate::line::fold_line;
+use crate::sums::sum_line;
 use crate::walk::{Leaf, Start, walk};
 use apl_arrays::{Axis, Stop};
 use apl_charset::Ch;
 use apl_faults::Fault;
-use apl_scalar::{And, ByFunction, Difference, Dyadic, Logical, Maximum, Minimum, Or, Scalar};
+use apl_scalar::{ByFunction, Dyadic, Scalar, Sum};
 use std::alloc::Global;
 use std::marker::PhantomData;
 
@@ -43,23 +41,32 @@ fn walked<L: Leaf>(alloc: Global, leaf: &L, lines: &Lines<'_>) -> Result<Vec<i64
     Ok(out)
 }
 
-/// The folds of the numbers of each line by a scalar function, or the first fault.
-fn fold_each<F: Scalar, K: Kept<F>>(
-    alloc: Global,
-    numbers: &[i64],
-    lines: &Lines<'_>,
-) -> Result<Vec<i64>, Stop>
-    requires lines { AreLines (length numbers.now) lines.now }
-    requires given { K.given }
-    ensures { Answers (λ v. v.items) (line_folds F.meaning numbers.now lines.now) result }
-{
-    let leaf: Telling<'_, F, K> = Telling {
-        numbers,
-        axis: lines.inner,
-        by: PhantomData,
-        kept: PhantomData,
-    };
-    walked(alloc, &leaf, lines)
+/// The numbers along an axis, to be folded by a scalar function.
+#[derive(Drop)]
+struct Numbers<'a, F: Scalar> {
+    numbers: &'a [i64],
+    axis: Axis,
+    by: PhantomData<F>,
+}
+
+impl<'a, F: Scalar> Leaf for Numbers<'a, F> {
+    ghost has = { λ s p count. IsLine (length s.numbers.now) s.axis p count };
+
+    ghost gives = { λ s p count. line_fold F.meaning s.numbers.now s.axis p count };
+
+    fn value(&self, at: usize, count: usize) -> Result<i64, Fault> {
+        fold_line::<F>(self.numbers, &self.axis, at, count)
+    }
+
+    fn push_columns(
+        &self,
+        from: usize,
+        till: usize,
+        count: usize,
+        out: &mut Vec<i64>,
+    ) -> Result<(), Stop> {
+        push_columns::<F>(self.numbers, &self.axis, from, till, count, out)
+    }
 }
 
 /// The numbers of each line, to be folded by a scalar function.
@@ -78,7 +85,39 @@ impl<'a> ByFunction for Folds<'a> {
     ghost gives = { λ s f result. Answers (λ v. v.items) (line_folds f s.numbers.now s.lines.now) result };
 
     fn with<F: Scalar>(self) -> Result<Vec<i64>, Stop> {
-        fold_each::<F, Ends>(self.alloc, self.numbers, self.lines)
+        let leaf: Numbers<'_, F> = Numbers {
+            numbers: self.numbers,
+            axis: self.lines.inner,
+            by: PhantomData,
+        };
+        walked(self.alloc, &leaf, self.lines)
+    }
+}
+
+/// The numbers along an axis, to be summed.
+#[derive(Drop)]
+struct Total<'a> {
+    numbers: &'a [i64],
+    axis: Axis,
+}
+
+impl<'a> Leaf for Total<'a> {
+    ghost has = { λ s p count. IsLine (length s.numbers.now) s.axis p count };
+
+    ghost gives = { λ s p count. line_fold (dyadic_of two.Plus) s.numbers.now s.axis p count };
+
+    fn value(&self, at: usize, count: usize) -> Result<i64, Fault> {
+        sum_line(self.numbers, &self.axis, at, count)
+    }
+
+    fn push_columns(
+        &self,
+        from: usize,
+        till: usize,
+        count: usize,
+        out: &mut Vec<i64>,
+    ) -> Result<(), Stop> {
+        push_columns::<Sum>(self.numbers, &self.axis, from, till, count, out)
     }
 }
 
@@ -106,11 +145,6 @@ pub(crate) fn folds_of_numbers(
 {
     match function {
         Dyadic::Plus => sum_each(alloc, numbers, lines),
-        Dyadic::Minus => fold_each::<Difference, Alternating>(alloc, numbers, lines),
-        Dyadic::Maximum => fold_each::<Maximum, Front>(alloc, numbers, lines),
-        Dyadic::Minimum => fold_each::<Minimum, Front>(alloc, numbers, lines),
-        Dyadic::And => fold_each::<Logical<And>, Front>(alloc, numbers, lines),
-        Dyadic::Or => fold_each::<Logical<Or>, Front>(alloc, numbers, lines),
         _ => function.apply(Folds {
             alloc,
             numbers,

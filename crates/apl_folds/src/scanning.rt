@@ -1,66 +1,32 @@
 // Scan along an axis.
-ghost use Rattle.std.specs.Prelude.{◌≡◌, ◌<◌, length, cond, Err, Some};
+ghost use Rattle.std.specs.Prelude.{◌≡◌, ◌<◌, length, cond, true, Err, Some};
 ghost use Rattle.apl_faults.specs.declared.fault.Fault.TheVariants.{Domain};
 ghost use Rattle.apl_arrays.specs.Answers.{Answers, FaultsFirst};
-ghost use Rattle.apl_arrays.specs.Cells.{Numbers};
 ghost use Rattle.apl_arrays.specs.Checks.{demand};
 ghost use Rattle.apl_arrays.specs.Kinds.{are_numbers};
-ghost use Rattle.apl_arrays.specs.Left.{listed};
 ghost use Rattle.apl_arrays.specs.Origins.{origin_number};
 ghost use Rattle.apl_arrays.specs.Index.{size_of};
-ghost use Rattle.apl_arrays.specs.Strides.{IsView, Shows};
 ghost use Rattle.apl_folds.specs.Scans.{fronts_along, fronts_shaped, scannable, scan_checked, scanned_along, scanning};
-ghost use Rattle.apl_folds.specs.inside.Fronts.{AnswersIfSome};
-ghost use Rattle.apl_folds.specs.Lines.{shown_by};
 
-use crate::fronts::chained;
-use crate::lines::{Lines, folds_of_numbers};
+use crate::fronts::fronts;
 use crate::order::in_order;
 use crate::reduction::formed;
-use crate::walk::Start;
-use apl_arrays::{Along, Array, Axis, Cells, Elements, Origin, Ravel, Stop, Strided, View, size};
+use apl_arrays::{Along, Array, Axis, Cells, Elements, Origin, Ravel, Stop, View, size};
 use apl_faults::Fault;
 use apl_scalar::Dyadic;
 use std::alloc::Global;
 
-/// The folds of the first numbers along an axis, for each index list, line by line, with room for so many.
-fn fronts_by_line(
-    alloc: Global,
-    function: Dyadic,
-    axis: usize,
-    strided: &Strided<'_>,
-    numbers: &[i64],
-    room: usize,
-) -> Result<Vec<i64>, Stop>
-    requires numbers { listed strided.now.items ≡ Numbers numbers.now }
-    requires steps { IsView (listed strided.now.items) strided.now.offset strided.now.axes.now }
-    requires axis { axis < length strided.now.axes.now }
-    ensures { Answers (λ v. v.items) (fronts_along function axis (shown_by strided.now)) result }
-{
-    let start = Start {
-        at: strided.offset,
-        count: 0,
-        depth: Some(axis),
-    };
-    let lines = Lines {
-        start,
-        axes: strided.axes,
-        inner: strided.axes[axis],
-        room,
-    };
-    folds_of_numbers(alloc, function, numbers, &lines)
-}
-
-/// The same row by row, by functions of which that can be.
-fn fronts_by_row(
+/// The folds of the first numbers along an axis, for each index list.
+fn fronts_in_order(
     alloc: Global,
     function: Dyadic,
     axis: usize,
     view: &View<'_>,
-) -> Result<Option<Vec<i64>>, Stop>
+) -> Result<Vec<i64>, Stop>
     requires axis { axis < length view.now.shape }
     requires some { 0 < size_of view.now.shape }
-    ensures { AnswersIfSome (λ v. v.items) (fronts_along function axis view.now) result }
+    requires numbers { are_numbers view.now.items ≡ true }
+    ensures { Answers (λ v. v.items) (fronts_along function axis view.now) result }
 {
     let shape = view.shape();
     let (to_axis, after) = shape.as_slice().split_at(axis + 1);
@@ -71,37 +37,9 @@ fn fronts_by_row(
     };
     let elements = in_order(alloc, view)?;
     match elements.items() {
-        Elements::Nums(numbers) => {
-            let rows = numbers.len() / inner.up;
-            chained(alloc, function, numbers, inner, rows)
-        }
-        Elements::Chars(_) => Ok(None),
+        Elements::Nums(numbers) => fronts(alloc, function, numbers, inner),
+        Elements::Chars(_) => unreachable!(),
     }
-}
-
-/// The folds of the first numbers along an axis, for each index list: row by row where that can be, and along the last axis line by line.
-fn fronts(
-    alloc: Global,
-    function: Dyadic,
-    axis: usize,
-    view: &View<'_>,
-    strided: &Strided<'_>,
-    numbers: &[i64],
-) -> Result<Vec<i64>, Stop>
-    requires numbers { listed strided.now.items ≡ Numbers numbers.now }
-    requires shows { Shows view.now strided.now }
-    requires axis { axis < length view.now.shape }
-    requires some { 0 < size_of view.now.shape }
-    ensures { Answers (λ v. v.items) (fronts_along function axis view.now) result }
-{
-    let shape = view.shape();
-    if axis + 1 < shape.len() {
-        if let Some(folds) = fronts_by_row(alloc, function, axis, view)? {
-            return Ok(folds);
-        }
-    }
-    let room = size(shape.as_slice());
-    fronts_by_line(alloc, function, axis, strided, numbers, room)
 }
 
 /// The scan along an axis of a view that has elements, more than one along the axis.
@@ -118,8 +56,8 @@ fn scan_elements(
 {
     let strided = view.strided();
     match strided.items {
-        Elements::Nums(numbers) => {
-            let folds = fronts(alloc, function, axis, view, &strided, numbers)?;
+        Elements::Nums(_) => {
+            let folds = fronts_in_order(alloc, function, axis, view)?;
             formed(view.shape(), Ravel::Nums(folds))
         }
         Elements::Chars(_) => Err(Stop::Fault(Fault::Domain)),

@@ -24,34 +24,6 @@ pub(crate) trait Leaf {
         requires { has self.now at count }
         ensures { result ≡ gives self.now at count };
 
-    /// Appends what it makes of the first items of a line, of one more and so on, up to all, without those of so many.
-    fn push_from(
-        &self,
-        at: usize,
-        from: usize,
-        length: usize,
-        out: &mut Vec<i64>,
-    ) -> Result<(), Stop>
-        requires { (k : ℕ) → k < length → has self.now at (k + 1) }
-        ensures { Appends out.old.items out.new.items (all_ok (λ k. gives self.now at (k + 1)) (range_with_len from (length - from))) result }
-    {
-        for k in from..length {
-            match self.value(at, k + 1) {
-                Ok(value) => out.push(value)?,
-                Err(fault) => return Err(Stop::Fault(fault)),
-            }
-        }
-        Ok(())
-    }
-
-    /// Appends what it makes of the first item of a line, of the first two and so on, up to all.
-    fn push_fronts(&self, at: usize, length: usize, out: &mut Vec<i64>) -> Result<(), Stop>
-        requires { (k : ℕ) → k < length → has self.now at (k + 1) }
-        ensures { Appends out.old.items out.new.items (all_ok (λ k. gives self.now at (k + 1)) (range_with_len 0 length)) result }
-    {
-        self.push_from(at, 0, length, out)
-    }
-
     /// Appends what it makes of so many items of each of the lines that begin from one place to another, side by side.
     fn push_columns(
         &self,
@@ -111,16 +83,6 @@ fn stepped(start: Start, axis: &Axis, index: usize) -> Start
     }
 }
 
-/// Whether the next axis is the last one, and moves along the lines.
-fn is_along(start: Start, rest: &[Axis]) -> bool
-    ensures { IsTrue result → (rest.now ≡ []) × (start.depth ≡ Some 0) }
-{
-    match start.depth {
-        Some(0) => rest.is_empty(),
-        _ => false,
-    }
-}
-
 /// Below this many lines side by side each is taken alone.
 const FEW: usize = 8;
 
@@ -155,10 +117,6 @@ pub(crate) fn walk<L: Leaf>(
             Err(fault) => Err(Stop::Fault(fault)),
         },
         [axis, rest @ ..] => {
-            if is_along(start, rest) {
-                leaf.push_fronts(start.at, axis.length, out)?;
-                return Ok(());
-            }
             if is_beside(start, axis, rest) {
                 leaf.push_columns(start.at, start.at + axis.length, start.count, out)?;
                 return Ok(());

@@ -26,7 +26,7 @@ loop-j-preserved g c =
           let both = c.either-flags.ensures.neither raised in
           let fresh : pos 0 ≤ℤ c.fold_four-value.result.1 = simp to_z-of_z at both.1 in
           let here : Was (get_or c.loop-j.folds c.loop-j.j (pos 0)) = simp to_z-of_z at (c.fold_four-value.ensures fresh) in
-          filled_more (λ k v. Gives k (get_or c.args.folds.now k (pos 0)) v) c.loop-j.folds c.loop-j.j c.fold_four-value.result.0 (omega arith)
+          filled_more (pos 0) (λ k v. Gives k (get_or c.args.folds.now k (pos 0)) v) c.loop-j.folds c.loop-j.j c.fold_four-value.result.0 (omega arith)
           (subst Was (c.loop-j.invariant.others c.loop-j.j (omega arith)) here)
           (c.loop-j.invariant.so_far both.0);
       others =

@@ -14,7 +14,7 @@ use Rattle.apl_arrays.proofs.Gathers.{first_axis, other_axes, parts}
 use Rattle.apl_arrays.proofs.InTurn.{after}
 use Rattle.apl_arrays.proofs.Steps.{near_axis}
 use Rattle.apl_folds.specs.Lines.{start_at, count_at, made}
-use Rattle.apl_folds.proofs.Leaves.{made_row, asked, leaf_pushed, leaf_fault, at_fronts, fronts_asked, fronts_made, columns_asked, columns_made}
+use Rattle.apl_folds.proofs.Leaves.{made_row, asked, leaf_pushed, leaf_fault, columns_asked, columns_made}
 use Rattle.apl_folds.proofs.Walks.{rows_step, rows_stop}
 use Rattle.apl_folds.proofs.walk.+walk.Goals as goal
 
@@ -58,31 +58,6 @@ pub returns-in-Err : goal.returns-in-Err
 returns-in-Err g t c =
     let e : c.args.axes.now ≡ [] = nil_from_length c.args.axes.now (omega arith) in
     leaf_fault (λ p n. g.L.Leaf.gives c.args.leaf.now p n) c.args.start.at c.args.start.count c.args.start.depth c.args.axes.now c.in-Err.fault e c.requires.depth (sym c.value.ensures ∙ c.in-Err.is)
-
-pub push_fronts-requires : goal.push_fronts-requires
-push_fronts-requires g t c =
-    let a = c.if-is_along.ensures refl in
-    fronts_asked (λ p n. g.L.Leaf.has c.args.leaf.now p n) c.args.start.at c.args.start.count c.args.start.depth c.args.axes.now (first_axis c.args.axes.now) (other_axes c.args.axes.now) (parts c.args.axes.now c.in-len1-up.len_at_least) a.0 a.1 c.requires.lines
-
-pub returns-then-is_along : goal.returns-then-is_along
-returns-then-is_along g t c =
-    let a = c.if-is_along.ensures refl in
-    ap (ok_map (λ ys. c.args.out.now.items ++ ys))
-    (sym (fronts_made (λ p n. g.L.Leaf.gives c.args.leaf.now p n) c.args.start.at c.args.start.count c.args.start.depth c.args.axes.now (first_axis c.args.axes.now) (other_axes c.args.axes.now) (parts c.args.axes.now c.in-len1-up.len_at_least) a.0 a.1))
-    ∙ c.in_ok-push_fronts-in-len1-up.ensures
-
-pub returns-in_err-push_fronts-in-len1-up : goal.returns-in_err-push_fronts-in-len1-up
-returns-in_err-push_fronts-in-len1-up g t c =
-    let a = c.if-is_along.ensures refl in
-    let axis : Axis = first_axis c.args.axes.now in
-    let rest : List Axis = other_axes c.args.axes.now in
-    let gives : ℕ → ℕ → Result ℤ Fault = λ p n. g.L.Leaf.gives c.args.leaf.now p n in
-    let p = err_from_is_err_and c.from_residual-in_err-push_fronts-in-len1-up.result c.from_residual-in_err-push_fronts-in-len1-up.ensures.1 in
-    rw (p.1, p.2)
-    (appends_err c.args.out.now.items c.push_fronts.new.out.items c.args.out.now.items c.push_fronts.new.out.items
-    (at_fronts gives c.args.start.at axis) (made gives c.args.start.at c.args.start.count c.args.start.depth c.args.axes.now) c.in_err-push_fronts-in-len1-up.field-0.0
-    (λ e h. sym (fronts_made gives c.args.start.at c.args.start.count c.args.start.depth c.args.axes.now axis rest (parts c.args.axes.now c.in-len1-up.len_at_least) a.0 a.1) ∙ h)
-    c.in_err-push_fronts-in-len1-up.ensures)
 
 pub push_columns-requires-clause-lines : goal.push_columns-requires-clause-lines
 push_columns-requires-clause-lines g t c =

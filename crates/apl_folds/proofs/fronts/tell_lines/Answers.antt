@@ -1,0 +1,13 @@
+use Rattle.std.proofs.Common.{arith, ◌≡◌, ◌<◌, ◌*◌, ◌/◌, length, ap, ◌∙◌}
+use Rattle.apl_folds.proofs.ByPlaces.{line_begins, all_lines}
+use Rattle.apl_folds.proofs.fronts.tell_lines.Goals as goal
+
+pub tell_line-told-requires-clause-line : goal.tell_line-told-requires-clause-line
+tell_line-told-requires-clause-line g c = line_begins c.args.axis c.loop-line.line c.requires.whole.long c.requires.beside
+
+pub returns-clause-fronts : goal.returns-clause-fronts
+returns-clause-fronts g c =
+    λ q h.
+    let all : c.loop-line.line ≡ length c.args.numbers.now / c.args.axis.length = omega arith in
+    let whole : c.loop-line.line * c.args.axis.length ≡ length c.args.numbers.now = ap (λ m. m * c.args.axis.length) all ∙ all_lines c.args.numbers.now c.args.axis c.requires.whole c.requires.beside in
+    c.loop-line.invariant.fronts q (omega arith)
