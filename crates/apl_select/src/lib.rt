@@ -8,7 +8,6 @@ mod fitting;
 mod indexing;
 mod lay;
 mod lines;
-mod overwrite;
 mod reach;
 mod single;
 mod slots;
