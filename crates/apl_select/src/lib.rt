@@ -6,6 +6,7 @@ mod bits;
 mod compression;
 mod fitting;
 mod indexing;
+mod keeping;
 mod lay;
 mod lines;
 mod reach;
