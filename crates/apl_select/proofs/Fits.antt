@@ -10,7 +10,7 @@ use Rattle.apl_arrays.specs.Checks.{demand, same, count_of}
 use Rattle.apl_arrays.specs.Kinds.{are_numbers}
 use Rattle.apl_arrays.specs.Results.{and_then}
 use Rattle.apl_select.specs.Assignment.{proper, fits_over, same_type}
-use Rattle.apl_select.specs.inside.Written.{AreEnough}
+use Rattle.apl_arrays.specs.Written.{AreEnough}
 use Rattle.apl_select.proofs.Overlay.{same_is}
 
 -- axes of length 1 leave the size as it is

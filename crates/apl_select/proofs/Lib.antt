@@ -12,3 +12,4 @@ pub mod Fits
 pub mod Assigned
 pub mod SinglePlace
 pub mod Vectors
+pub mod NextPlace

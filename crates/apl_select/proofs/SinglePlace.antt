@@ -1,10 +1,10 @@
 -- What slots of one number each pick.
 use Rattle.std.proofs.Common.{zero, suc, ◌≡◌, ℕ, ℤ, pos, ◌+◌, ◌*◌, ◌<◌, ◌≤◌, ◌&&◌, Bool, true, false, nat_lt, cond, List, [], ◌∷◌, map, set, length, get_or, drop, refl, ap, sym, ◌∙◌, arith, rules, subst, Option, None, Some, Result, Ok, Err}
-use Rattle.std.specs.Prelude.{slice_get, slice_set, FitsSigned, IfSome, IsTrue, MatchBool}
+use Rattle.std.specs.Prelude.{slice_get, slice_set, FitsSigned, IsOk, IsSome, IsTrue, MatchBool, MatchOption}
 use Rattle.std.specs.Int.{w64}
 use Rattle.std.specs.Option.{option_and_then}
 use Rattle.std.specs.Result.{result_ok}
-use Rattle.std.proofs.lemmas.Bool.{eq-eqb, lt-ltb}
+use Rattle.std.proofs.lemmas.Bool.{eq-eqb, lt-ltb, ne_eqb}
 use Rattle.std.proofs.lemmas.List.{length-map}
 use Rattle.std.proofs.lemmas.List.Elements.{All-nil, All-cons, All-get_or}
 use Rattle.std.proofs.Math.ListN.{length-set}
@@ -25,9 +25,9 @@ use Rattle.apl_arrays.specs.Written.{number_written, with_number}
 use Rattle.apl_arrays.proofs.Scalars.{number_alone}
 use Rattle.apl_arrays.proofs.Places.{both, position_in-lt, rest_of, within_head}
 use Rattle.apl_select.specs.Assignment.{assigned, assigned_at, typed, written}
-use Rattle.apl_select.specs.Indexing.{Places, all_picked, indexed, joined_shape, led_to, picked_by, place_numbered}
+use Rattle.apl_select.specs.Indexing.{AreNumbers, Places, all_picked, indexed, joined_shape, led_to, picked_by, place_numbered}
 use Rattle.apl_select.specs.inside.Reached.{led, AreOnAxes}
-use Rattle.apl_select.specs.inside.Single.{counted_by, placed, one_each, PicksPlace}
+use Rattle.apl_select.specs.inside.Single.{counted_by, placed, one_each, PicksNone, PicksPlace}
 use Rattle.apl_select.specs.inside.Written.{overwritten, put_all, put_items}
 use Rattle.apl_select.proofs.Lists.{rest_from}
 use Rattle.apl_select.proofs.Picking.{numbered_below}
@@ -61,6 +61,54 @@ placed_step origin rows shape slots k d p h g e =
     (ap (λ (l : List ℕ). placed origin rows l (drop k slots)) (rest_of shape k h)
     ∙ ap (λ (l : List (Option Arr)). placed origin rows (get_or shape k 0 ∷ drop (k + 1) shape) l) (rest_from slots k d g)
     ∙ ap (option_and_then (λ j. placed origin (rows * get_or shape k 0 + j) (drop (k + 1) shape) (drop (k + 1) slots))) e)
+
+-- an axis on which no place is counted
+pub placed_none : (origin rows : ℕ) (shape : List ℕ) (slots : List (Option Arr)) (k : ℕ) (d : Option Arr) → k < length shape → k < length slots →
+    counted_by (get_or shape k 0) origin (get_or slots k d) ≡ None → placed origin rows (drop k shape) (drop k slots) ≡ None
+placed_none origin rows shape slots k d h g e =
+    ap (λ (l : List ℕ). placed origin rows l (drop k slots)) (rest_of shape k h)
+    ∙ ap (λ (l : List (Option Arr)). placed origin rows (get_or shape k 0 ∷ drop (k + 1) shape) l) (rest_from slots k d g)
+    ∙ ap (option_and_then (λ j. placed origin (rows * get_or shape k 0 + j) (drop (k + 1) shape) (drop (k + 1) slots))) e
+
+-- a number that counts no place is at fault
+counts_none : (n origin : ℕ) (a : Arr) → IsSome (number_of_scalar a) → counted_by n origin (Some a) ≡ None → (e : Fault) × (picked_by n origin (Some a) ≡ Err e)
+counts_none n origin a some e = by (number_of_scalar a) (λ z h. number_alone a z h) some e
+  where
+    at : (z : ℤ) (r : Result ℕ Fault) → place_numbered n origin z ≡ r → result_ok r ≡ None → a ≡ single (Num z) → (e : Fault) × (picked_by n origin (Some a) ≡ Err e)
+    at z (Ok j) h e s = absurd (cc)
+    at z (Err x) h e s = (
+      x,
+      ap (λ (b : Arr). picked_by n origin (Some b)) s
+          ∙ ap (λ (r : Result ℕ Fault). ok_map (λ ps. record { shape = []; places = ps }) (and_then r (λ y. ok_map (λ ys. y ∷ ys) (Ok [])))) h,
+    )
+
+    by : (o : Option ℤ) → ((z : ℤ) → o ≡ Some z → a ≡ single (Num z)) → IsSome o → option_and_then (λ z. result_ok (place_numbered n origin z)) o ≡ None →
+        (e : Fault) × (picked_by n origin (Some a) ≡ Err e)
+    by None s some e = absurd (cc)
+    by (Some z) s some e = at z (place_numbered n origin z) refl e (s z refl)
+
+-- numbers that lead to no place are at fault
+none_picks : (origin rows : ℕ) (shape : List ℕ) (slots : List (Option Arr)) → length slots ≡ length shape → AreNumbers slots → placed origin rows shape slots ≡ None →
+    (e : Fault) × (all_picked shape origin slots ≡ Err e)
+none_picks origin rows [] slots l f e = absurd (cc)
+none_picks origin rows (n ∷ ns) [] l f e = absurd (omega arith)
+none_picks origin rows (n ∷ ns) (None ∷ slots) l f e = absurd f
+none_picks origin rows (n ∷ ns) (Some a ∷ slots) l f e = at (counted_by n origin (Some a)) refl (λ k h. none_picks origin (rows * n + k) ns slots (omega arith) f.1 h) e
+  where
+    at : (o : Option ℕ) → counted_by n origin (Some a) ≡ o → ((k : ℕ) → placed origin (rows * n + k) ns slots ≡ None → (e : Fault) × (all_picked ns origin slots ≡ Err e)) →
+        option_and_then (λ k. placed origin (rows * n + k) ns slots) o ≡ None → (e : Fault) × (all_picked (n ∷ ns) origin (Some a ∷ slots) ≡ Err e)
+    at None h g e =
+        let p = counts_none n origin a f.0 h in (
+          p.0,
+          ap (λ (r : Result Places Fault). and_then r (λ p. ok_map (λ ps. p ∷ ps) (all_picked ns origin slots))) p.1,
+        )
+    at (Some k) h g e =
+        let one = counts_picks n origin (Some a) k h in
+        let rest = g k e in (
+          rest.0,
+          ap (λ (r : Result Places Fault). and_then r (λ p. ok_map (λ ps. p ∷ ps) (all_picked ns origin slots))) one.0
+              ∙ ap (λ (r : Result (List Places) Fault). ok_map (λ ps. record { shape = []; places = k ∷ [] } ∷ ps) r) rest.1,
+        )
 
 -- what slots of one number each pick, and where it lies
 pub record PicksOneEach (origin rows : ℕ) (shape : List ℕ) (slots : List (Option Arr)) (place : ℕ) : Type 0 where
@@ -107,10 +155,27 @@ picks_place a origin slots shape place l s e =
     none : (s p : ℕ) → 0 * s + p ≡ p
     none s p = omega arith
 
+picks_none : (a : Arr) (origin : ℕ) (slots : List (Option Arr)) (shape : List ℕ) → length slots ≡ length a.shape → shape ≡ a.shape → placed origin 0 shape slots ≡ None → PicksNone a origin slots
+picks_none a origin slots shape l s e f =
+    let p = none_picks origin 0 a.shape slots l f (ap (λ (z : List ℕ). placed origin 0 z slots) (sym s) ∙ e) in
+    (p.0, ap (λ (b : Bool). and_then (demand b Rank) (λ u. all_picked a.shape origin slots)) (eq-eqb (length slots) (length a.shape) l) ∙ p.1)
+
 pub picks_if_placed : (a : Arr) (origin : ℕ) (slots : List (Option Arr)) (shape : List ℕ) (r : Option ℕ) → length slots ≡ length a.shape → shape ≡ a.shape →
-    IfSome r (λ place. placed origin 0 shape slots ≡ Some place) → IfSome r (PicksPlace a origin slots)
-picks_if_placed a origin slots shape None l s h = tt
+    placed origin 0 shape slots ≡ r → MatchOption r (PicksNone a origin slots) (PicksPlace a origin slots)
+picks_if_placed a origin slots shape None l s h = picks_none a origin slots shape l s h
 picks_if_placed a origin slots shape (Some place) l s h = picks_place a origin slots shape place l s h
+
+-- another count of slots than of axes
+pub others_pick_none : (a : Arr) (origin : ℕ) (slots : List (Option Arr)) → (length slots ≡ length a.shape → ⊥) → PicksNone a origin slots
+others_pick_none a origin slots l f = (Rank, ap (λ (b : Bool). and_then (demand b Rank) (λ u. all_picked a.shape origin slots)) (ne_eqb (length slots) (length a.shape) l))
+
+-- numbers at fault index nothing
+pub none_indexed : (b : Arr) (origin : ℕ) (slots : List (Option Arr)) → PicksNone b origin slots → AreNumbers slots → IsOk (indexed b slots origin) → ⊥
+none_indexed b origin slots p f ok =
+    let at = p f in
+    let P : Result Arr Fault → Type 0 = λ r. IsOk r in
+    let none : IsOk {T = Arr} {E = Fault} (Err at.0) = subst P (ap (λ (m : Result (List Places) Fault). and_then m (λ ps. ok_map (λ shape. selected b shape (led_to ps)) (limited (joined_shape ps)))) at.1) ok in
+    cc
 
 -- index lists of which each slot has one
 joined_one : (index : List ℕ) → joined_shape (one_each index) ≡ []
@@ -197,11 +262,18 @@ pub no_fault : {A B C : Type 0} (m : Result A Fault) (f : A → Result B Fault) 
 no_fault (Ok a) f x r e = tt
 no_fault (Err fault) f x r e = absurd (cc)
 
+-- there is an item at each place below the length
+is_there : {A : Type 0} (xs : List A) (k : ℕ) → k < length xs → None ≡ slice_get xs k → ⊥
+is_there [] k l e = omega arith
+is_there (x ∷ xs) zero l e = cc
+is_there (x ∷ xs) (suc k) l e = is_there xs k (omega arith) e
+
 -- the element that was read, if it was
-pub indexed_if : (b : Arr) (origin : ℕ) (slots : List (Option Arr)) (place : ℕ) (items : Items) (r : Option Cell) → PicksPlace b origin slots place → items ≡ b.items → r ≡ slice_get (cells_of items) place →
-    IfSome r (λ cell. indexed b slots origin ≡ Ok (single cell))
-indexed_if b origin slots place items None p s e = tt
-indexed_if b origin slots place items (Some cell) p s e = indexed_one b origin slots place cell p (ap (λ (t : Items). slice_get (cells_of t) place) (sym s) ∙ sym e)
+pub indexed_if : (b : Arr) (origin : ℕ) (slots : List (Option Arr)) (place : ℕ) (items : Items) (r : Option Cell) → length (cells_of b.items) ≡ size_of b.shape → PicksPlace b origin slots place → items ≡ b.items →
+    r ≡ slice_get (cells_of items) place → MatchOption r (AreNumbers slots → IsOk (indexed b slots origin) → ⊥) (λ cell. indexed b slots origin ≡ Ok (single cell))
+indexed_if b origin slots place items None full p s e = λ f ok.
+    is_there (cells_of b.items) place (omega (arith, full, p.there, position_in-lt b.shape p.index p.within)) (e ∙ ap (λ (t : Items). slice_get (cells_of t) place) s)
+indexed_if b origin slots place items (Some cell) full p s e = indexed_one b origin slots place cell p (ap (λ (t : Items). slice_get (cells_of t) place) (sym s) ∙ sym e)
 
 -- a list of one number
 pub one_number : (zs : List ℤ) → 1 ≤ length zs → length zs < 2 → zs ≡ get_or zs 0 (pos 0) ∷ []

@@ -1,20 +1,24 @@
 -- Writes to places one after another, as loops have them, and what they make of an array.
-use Rattle.std.proofs.Common.{◌≡◌, ℕ, ℤ, pos, ◌+◌, ◌<◌, Bool, true, false, cond, List, map, set, length, get_or, refl, ap, sym, ◌∙◌, arith, add-one, subst, Option, None, Some, get_or-set_same, get_or-set_other}
+use Rattle.std.proofs.Common.{◌≡◌, ℕ, ℤ, pos, zero, suc, ◌+◌, ◌<◌, ◌≤◌, Bool, true, false, cond, List, map, set, length, get_or, refl, ap, sym, ◌∙◌, arith, add-one, subst, Option, None, Some, get_or-set_same, get_or-set_other}
 use Rattle.std.specs.Prelude.{nat_eq}
 use Rattle.std.specs.Option.{option_map}
 use Rattle.std.specs.List.{range_with_len, All}
 use Rattle.std.proofs.lemmas.Bool.{eqb-true, eqb-false}
+use Rattle.std.proofs.lemmas.Grind.{common_steps}
 use Rattle.std.proofs.lemmas.List.{get_or_read, length-map}
+use Rattle.std.proofs.lemmas.List.Elements.{All-get_or}
 use Rattle.std.proofs.lemmas.List.FromFn.{fill_by_all, length-range_with_len}
 use Rattle.apl_arrays.specs.declared.cell.Cell.TheVariants.{Num, Char}
 use Rattle.apl_arrays.specs.Index.{size_of, indices, position_in}
 use Rattle.apl_arrays.specs.Cells.{Arr, Items, Numbers, Characters, cells_of}
+use Rattle.apl_arrays.specs.Written.{serving, with_items, with_elements, AreEnough}
 use Rattle.apl_arrays.proofs.Order.{length-indices}
+use Rattle.apl_arrays.proofs.InPlace.{length-with_items}
 use Rattle.apl_select.specs.Lined.{place_served, item_or}
 use Rattle.apl_select.specs.Indexing.{Places, joined_shape, led_to}
 use Rattle.apl_select.specs.Assignment.{either_of, last_where, last_to, overlaid, overlaid_items, written}
 use Rattle.apl_select.specs.inside.Reached.{led, AreOnAxes}
-use Rattle.apl_select.specs.inside.Written.{put_at, put_all, put_items, overwritten, AreEnough}
+use Rattle.apl_select.specs.inside.Written.{put_at, put_all, put_items, overwritten}
 use Rattle.apl_select.proofs.Lists.{range_more}
 use Rattle.apl_select.proofs.Reaching.{led_below}
 use Rattle.apl_select.proofs.Overlay.{last_where_more, overlaid_put}
@@ -83,6 +87,42 @@ put_items_led (Numbers xs) (Numbers ys) shape ps places f full e = ap (λ (zs : 
 put_items_led (Numbers xs) (Characters ys) shape ps places f full e = refl
 put_items_led (Characters xs) (Numbers ys) shape ps places f full e = refl
 put_items_led (Characters xs) (Characters ys) shape ps places f full e = ap (λ (cs : List ℕ). Characters cs) (put_led 0 xs ys shape ps places f (sym (length-map xs Char) ∙ full) e)
+
+-- writes one after another as what stands at each place
+with_so_far : {A : Type 0} (d : A) (xs ys : List A) (places : List ℕ) → All (λ q. q < length xs) places → AreEnough (length ys) (length places) → (k : ℕ) → k ≤ length places → (q : ℕ) →
+    get_or (with_items d xs places ys k) q d ≡ put_at xs ys places k q d
+with_so_far d xs ys places w f zero l q = refl
+with_so_far d xs ys places w f (suc k) l q =
+    put_step xs ys (with_items d xs places ys k) places k (serving (length ys) k) (get_or ys (serving (length ys) k) d) q d
+    (omega (arith, length-with_items d xs places ys k, All-get_or (λ q. q < length xs) places k 0 (omega arith) w)) refl (f k (omega arith))
+    (same ys (serving (length ys) k) d (f k (omega arith)))
+    (with_so_far d xs ys places w f k (omega arith) q)
+    ∙ ap (λ (n : ℕ). put_at xs ys places n q d) (add-one k)
+  where
+    same : {A : Type 0} (xs : List A) (i : ℕ) (d : A) → i < length xs → get_or xs i d ≡ get_or xs i (get_or xs i d)
+    same xs i d h = grind (arith, common_steps)
+
+put_is_with : {A : Type 0} (d : A) (xs ys : List A) (places : List ℕ) → All (λ q. q < length xs) places → AreEnough (length ys) (length places) → with_items d xs places ys (length places) ≡ put_all d xs ys places
+put_is_with d xs ys places w f =
+    put_whole d xs ys (with_items d xs places ys (length places)) places (length places) (length-with_items d xs places ys (length places)) refl
+    (with_so_far d xs ys places w f (length places) (omega arith))
+
+pub with_is_put : (to from : Items) (places : List ℕ) → All (λ q. q < length (cells_of to)) places → AreEnough (length (cells_of from)) (length places) → with_elements to places from ≡ put_items to from places
+with_is_put (Numbers xs) (Numbers ys) places w f =
+    let P : ℕ → Type 0 = λ n. All (λ q. q < n) places in
+    let Q : ℕ → Type 0 = λ n. AreEnough n (length places) in
+    ap (λ (zs : List ℤ). Numbers zs) (put_is_with (pos 0) xs ys places (subst P (length-map xs Num) w) (subst Q (length-map ys Num) f))
+with_is_put (Numbers xs) (Characters ys) places w f = refl
+with_is_put (Characters xs) (Numbers ys) places w f = refl
+with_is_put (Characters xs) (Characters ys) places w f =
+    let P : ℕ → Type 0 = λ n. All (λ q. q < n) places in
+    let Q : ℕ → Type 0 = λ n. AreEnough n (length places) in
+    ap (λ (cs : List ℕ). Characters cs) (put_is_with 0 xs ys places (subst P (length-map xs Char) w) (subst Q (length-map ys Char) f))
+
+pub put_along : (to from ravel sent new : Items) (places : List ℕ) → All (λ q. q < length (cells_of to)) places → AreEnough (length (cells_of from)) (length places) → ravel ≡ to → sent ≡ from →
+    new ≡ with_elements ravel places sent → new ≡ put_items to from places
+put_along to from ravel sent new places w f r s e =
+    e ∙ ap (λ (t : Items). with_elements t places sent) r ∙ ap (λ (t : Items). with_elements to places t) s ∙ with_is_put to from places w f
 
 -- as many elements as before
 pub length-put_items : (to from : Items) (places : List ℕ) → length (cells_of (put_items to from places)) ≡ length (cells_of to)

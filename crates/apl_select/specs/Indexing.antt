@@ -1,12 +1,13 @@
 -- Elements by index lists: for each axis a slot, which holds numbers of places on it or is empty.
 use Rattle.std.specs.Prelude.{ℕ, ℤ, pos, negsuc, ◌-◌, ◌==◌, ◌&&◌, nat_lt, nat_le, cond}
-use Rattle.std.specs.Prelude.{List, [], ◌∷◌, drop, length, slice_index_or, Option, None, Some, Result, Ok, Err}
+use Rattle.std.specs.Prelude.{List, [], ◌∷◌, drop, length, slice_index_or, Option, None, Some, IsSome, Result, Ok, Err}
 use Rattle.std.specs.List.{flat_map, range_with_len}
 use Rattle.apl_faults.specs.declared.fault.Fault.{Fault}
 use Rattle.apl_faults.specs.declared.fault.Fault.TheVariants.{Index, Rank}
 use Rattle.apl_arrays.specs.Index.{indices, position_in}
 use Rattle.apl_arrays.specs.Cells.{Arr, Items}
 use Rattle.apl_arrays.specs.Results.{and_then, ok_map, all_ok}
+use Rattle.apl_arrays.specs.Simple.{number_of_scalar}
 use Rattle.apl_arrays.specs.Views.{picked, selected}
 use Rattle.apl_arrays.specs.Checks.{demand, limited, numbers_of}
 
@@ -14,6 +15,12 @@ use Rattle.apl_arrays.specs.Checks.{demand, limited, numbers_of}
 abbrev pub place_numbered : ℕ → ℕ → ℤ → Result ℕ Fault
 place_numbered n origin (pos z) = cond (nat_le origin z && nat_lt (z - origin) n) (Ok (z - origin)) (Err Index)
 place_numbered n origin (negsuc z) = Err Index
+
+-- each slot holds one number
+abbrev pub AreNumbers : List (Option Arr) → Type 0
+AreNumbers [] = Unit {0}
+AreNumbers (None ∷ slots) = ⊥
+AreNumbers (Some a ∷ slots) = IsSome (number_of_scalar a) × AreNumbers slots
 
 -- places on an axis, in ravel order of a shape
 pub record Places : Type 0 where

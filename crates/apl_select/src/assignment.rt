@@ -5,13 +5,13 @@ ghost use Rattle.apl_arrays.specs.Answers.{Answers, FaultsFirst};
 ghost use Rattle.apl_arrays.specs.Checks.{count_of};
 ghost use Rattle.apl_arrays.specs.Index.{bound_of};
 ghost use Rattle.apl_arrays.specs.Origins.{origin_number};
+ghost use Rattle.apl_arrays.specs.Written.{AreEnough};
 ghost use Rattle.apl_select.specs.Assignment.{assigned, assigned_at};
 ghost use Rattle.apl_select.specs.Indexing.{joined_shape, slots_fit};
 ghost use Rattle.apl_select.specs.inside.Reached.{AreOnAxes};
-ghost use Rattle.apl_select.specs.inside.Written.{overwritten, AreEnough};
+ghost use Rattle.apl_select.specs.inside.Written.{overwritten};
 
 use crate::fitting::{fits_over, of_one_type};
-use crate::overwrite::overwrite_items;
 use crate::reach::places_led;
 use crate::single::place_picked;
 use crate::slots::{Picked, joined_shape, picks_of};
@@ -71,7 +71,8 @@ fn overwritten(
     requires enough { AreEnough (count_of b.now) (length places.now) }
     ensures { IfOk result (λ array. array ≡ overwritten v.now b.now places.now) }
 {
-    let ravel = overwrite_items(alloc, v.items(), b.items(), places)?;
+    let mut ravel = v.items().to_ravel(alloc)?;
+    ravel.write(places, b.items());
     Ok(Array::in_shape(v.shape(), ravel))
 }
 
@@ -117,7 +118,7 @@ pub fn index_assign(
     Ok(overwritten(alloc, &v.lend(), b, places.as_slice())?)
 }
 
-/// The same in place of the array, which stays as it was after each error.
+/// The same in place of the array, which stays as it was after each error. Its elements are copied only where a copy of it shares them.
 ///
 /// One number for slots of one number each takes no memory, unless a copy of the array shares its elements.
 pub fn index_assign_into(
@@ -136,6 +137,9 @@ pub fn index_assign_into(
         return Ok(());
     }
     let places = places_assigned(alloc, &array.lend(), slots, value, first)?;
+    if array.write(places.as_slice(), value.items()) {
+        return Ok(());
+    }
     let changed = overwritten(alloc, &array.lend(), value, places.as_slice())?;
     *array = changed.into_shared(alloc)?;
     Ok(())

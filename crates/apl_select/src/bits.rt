@@ -21,7 +21,7 @@ fn is_one(number: i64) -> bool
 
 /// Whether the number at a place is 1.
 #[inline(always)]
-fn is_one_at(numbers: &[i64], place: usize) -> bool
+pub(crate) fn is_one_at(numbers: &[i64], place: usize) -> bool
     requires { place < length numbers.now }
     ensures { result ≡ is_one (slice_index_or numbers.now place (pos 0)) }
 {
@@ -56,7 +56,7 @@ pub(crate) fn bits_in(items: Elements<'_>) -> Result<&[i64], Fault>
 }
 
 /// How many numbers are 1.
-fn count_ones(numbers: &[i64]) -> usize
+pub(crate) fn count_ones(numbers: &[i64]) -> usize
     ensures { result ≡ count_by is_one numbers.now }
 {
     numbers.iter().filter(|number| is_one(**number)).count()

@@ -1,5 +1,5 @@
 // Compression and expansion.
-ghost use Rattle.std.specs.Prelude.{◌≡◌, ◌<◌, ◌≤◌, nat_le, length};
+ghost use Rattle.std.specs.Prelude.{◌≡◌, ◌<◌, ◌≤◌, ◌∷◌, [], nat_le, length, IsTrue};
 ghost use Rattle.apl_arrays.specs.Answers.{Answers, FaultsFirst};
 ghost use Rattle.apl_arrays.specs.Cells.{cells_of};
 ghost use Rattle.apl_arrays.specs.Checks.{vector_rank};
@@ -10,6 +10,7 @@ ghost use Rattle.apl_select.specs.Compress.{compressed, compressed_along, compre
 ghost use Rattle.apl_select.specs.Compress.{expanded, expanded_along, expansion_checks, places_spread};
 
 use crate::bits::{bits_in, common_count, fits_ones, kept, ones, spread};
+use crate::keeping::kept_of_vector;
 use crate::lines::{axis_in, laid, lined_shape};
 use apl_arrays::{Along, Array, Elements, MAX_ELEMENTS, Origin, Stop};
 use apl_faults::Fault;
@@ -26,7 +27,18 @@ fn within_a_vector(array: &Array) -> Result<(), Fault>
     }
 }
 
-/// The compression of elements in a shape, along an axis.
+/// Whether there is a bit for each element of a vector, so many in all.
+fn is_bit_each(bits: &[i64], shape: &[usize], count: usize) -> bool
+    ensures shape { IsTrue result → shape.now ≡ length bits.now ∷ [] }
+    ensures count { IsTrue result → count ≡ length bits.now }
+{
+    match shape {
+        [len] if *len == bits.len() => count == *len,
+        _ => false,
+    }
+}
+
+/// The compression of elements in a shape, along an axis. That of a vector takes one pass.
 fn compress_along(
     alloc: Global,
     a: &Array,
@@ -42,6 +54,9 @@ fn compress_along(
 {
     let count = common_count(a.items().len(), shape[axis])?;
     let bits = bits_in(a.items())?;
+    if is_bit_each(bits, shape, count) {
+        return Ok(kept_of_vector(alloc, bits, items)?);
+    }
     let places = kept(alloc, bits, shape[axis], count)?;
     laid(alloc, items, shape, axis, places.as_slice())
 }

@@ -1,13 +1,13 @@
 // Indexing.
-ghost use Rattle.std.specs.Prelude.{◌≡◌, ◌≤◌, length, IfOk, IfSome, Ok};
-ghost use Rattle.apl_arrays.specs.Answers.{Answers, FaultsFirst};
+ghost use Rattle.std.specs.Prelude.{◌≡◌, ◌≤◌, length, IfOk, IsOk, MatchOption, Ok};
+ghost use Rattle.apl_arrays.specs.Answers.{Answers, FaultsFirst, HadMemory};
 ghost use Rattle.apl_arrays.specs.Cells.{cells_of};
 ghost use Rattle.apl_arrays.specs.Index.{bound_of, size_of};
 ghost use Rattle.apl_arrays.specs.Left.{listed};
 ghost use Rattle.apl_arrays.specs.Origins.{origin_number};
 ghost use Rattle.apl_arrays.specs.Ravels.{items_of};
 ghost use Rattle.apl_arrays.specs.Simple.{single};
-ghost use Rattle.apl_select.specs.Indexing.{indexed, items_led_to, joined_shape, slots_fit};
+ghost use Rattle.apl_select.specs.Indexing.{indexed, items_led_to, AreNumbers, joined_shape, slots_fit};
 ghost use Rattle.apl_select.specs.inside.Reached.{AreOnAxes};
 
 use crate::reach::read;
@@ -43,7 +43,7 @@ fn read_items(
 /// The element at the one place that slots pick, where each is a number that counts a place.
 #[inline]
 fn element_picked(b: &Array, slots: &[Option<Array>], origin: usize) -> Option<Cell>
-    ensures { IfSome result (λ cell. indexed b.now slots.now origin ≡ Ok (single cell)) }
+    ensures { MatchOption result (AreNumbers slots.now → IsOk (indexed b.now slots.now origin) → ⊥) (λ cell. indexed b.now slots.now origin ≡ Ok (single cell)) }
 {
     let place = place_picked(&b.lend(), slots, origin)?;
     b.items().cell(place)
@@ -99,7 +99,7 @@ fn elements_picked(
 /// domain fault, but where there are none, and a number that counts no place of its axis is an index fault. A result beyond the limits of
 /// an array is a limit fault.
 ///
-/// Slots of one number each take no memory.
+/// Slots of one number each, which count places, take no memory.
 pub fn index(
     alloc: Global,
     b: &Array,
@@ -108,6 +108,7 @@ pub fn index(
 ) -> Result<Array, Stop>
     ensures value { Answers (λ r. r) (indexed b.now slots.now (origin_number origin)) result }
     ensures at_once { FaultsFirst (slots_fit b.now slots.now) result }
+    ensures numbers { AreNumbers slots.now → IsOk (indexed b.now slots.now (origin_number origin)) → HadMemory result }
 {
     let first = origin.number();
     match element_picked(b, slots, first) {

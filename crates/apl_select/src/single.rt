@@ -1,8 +1,8 @@
 // The one place that numbers name, one for each axis.
-ghost use Rattle.std.specs.Prelude.{◌≡◌, ◌<◌, ◌≤◌, length, IfSome};
+ghost use Rattle.std.specs.Prelude.{◌≡◌, ◌<◌, ◌≤◌, length, IfSome, MatchOption};
 ghost use Rattle.apl_arrays.specs.Cells.{IsArray};
 ghost use Rattle.apl_arrays.specs.Index.{bound_of};
-ghost use Rattle.apl_select.specs.inside.Single.{counted_by, placed, PicksPlace};
+ghost use Rattle.apl_select.specs.inside.Single.{counted_by, placed, PicksNone, PicksPlace};
 
 use crate::slots::numbered;
 use apl_arrays::{Array, Lent, MAX_ELEMENTS};
@@ -24,7 +24,7 @@ fn place_counted(slot: &Option<Array>, len: usize, origin: usize) -> Option<usiz
 fn place_named(shape: &[usize], slots: &[Option<Array>], origin: usize) -> Option<usize>
     requires as_many { length slots.now ≡ length shape.now }
     requires small { bound_of shape.now ≤ MAX_ELEMENTS }
-    ensures { IfSome result (λ place. placed origin 0 shape.now slots.now ≡ Some place) }
+    ensures { placed origin 0 shape.now slots.now ≡ result }
 {
     let mut place = 0usize;
     for axis in 0..shape.len() {
@@ -41,7 +41,7 @@ pub(crate) fn place_picked(
     slots: &[Option<Array>],
     origin: usize,
 ) -> Option<usize>
-    ensures place { IfSome result (PicksPlace array.now origin slots.now) }
+    ensures place { MatchOption result (PicksNone array.now origin slots.now) (PicksPlace array.now origin slots.now) }
     ensures array { IsArray array.now.shape array.now.items }
 {
     let shape = array.shape();

@@ -1,12 +1,13 @@
 -- The one place that numbers name, one for each axis.
 -- It is the only place of those that `Indexing` picks.
-use Rattle.std.specs.Prelude.{◌≡◌, ℕ, ◌+◌, ◌*◌, true, List, [], ◌∷◌, map, Option, None, Some, Ok}
+use Rattle.std.specs.Prelude.{◌≡◌, ℕ, ◌+◌, ◌*◌, true, List, [], ◌∷◌, map, Option, None, Some, Ok, Err}
 use Rattle.std.specs.Option.{option_and_then}
 use Rattle.std.specs.Result.{result_ok}
 use Rattle.apl_arrays.specs.Cells.{Arr}
 use Rattle.apl_arrays.specs.Index.{is_within, position_in}
 use Rattle.apl_arrays.specs.Simple.{number_of_scalar}
-use Rattle.apl_select.specs.Indexing.{Places, place_numbered, slots_of}
+use Rattle.apl_faults.specs.declared.fault.Fault.{Fault}
+use Rattle.apl_select.specs.Indexing.{AreNumbers, Places, place_numbered, slots_of}
 
 -- the place on an axis of length n that a slot of one number counts
 abbrev pub counted_by : ℕ → ℕ → Option Arr → Option ℕ
@@ -29,3 +30,7 @@ pub record PicksPlace (a : Arr) (origin : ℕ) (slots : List (Option Arr)) (plac
   pub picks : slots_of a origin slots ≡ Ok (one_each index)
   pub within : is_within a.shape index ≡ true
   pub there : place ≡ position_in a.shape index
+
+-- numbers of which one counts no place, or of which there are too few or too many
+abbrev pub PicksNone : Arr → ℕ → List (Option Arr) → Type 0
+PicksNone a origin slots = AreNumbers slots → (e : Fault) × (slots_of a origin slots ≡ Err e)

@@ -1,6 +1,6 @@
 -- Elements written over others, place by place.
 -- They are the cells of `Assignment`, of which the last that is written stands.
-use Rattle.std.specs.Prelude.{ℕ, pos, ◌<◌, nat_eq, List, map, length, slice_index_or}
+use Rattle.std.specs.Prelude.{ℕ, pos, nat_eq, List, map, length, slice_index_or}
 use Rattle.std.specs.Option.{option_map}
 use Rattle.std.specs.List.{range_with_len}
 use Rattle.apl_arrays.specs.Cells.{Arr, Items, Numbers, Characters}
@@ -26,7 +26,3 @@ put_items (Characters xs) (Characters ys) places = Characters (put_all 0 xs ys p
 -- v with b's elements written to places one after another
 abbrev pub overwritten : Arr → Arr → List ℕ → Arr
 overwritten v b places = record { shape = v.shape; items = put_items v.items b.items places }
-
--- so many items, of which a single one serves at each, are enough for m places
-abbrev pub AreEnough : ℕ → ℕ → Type 0
-AreEnough n m = (k : ℕ) → k < m → place_served n k < n
