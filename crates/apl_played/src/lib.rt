@@ -12,6 +12,3 @@ pub use answering::{Answer, play_into};
 pub use error::PlayError;
 pub use law::cut_calls_are_one;
 pub use playing::{Played, play};
-
-#[cfg(test)]
-mod tests;
