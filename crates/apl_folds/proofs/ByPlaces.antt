@@ -1,10 +1,8 @@
 -- Scans by places.
-use Rattle.std.proofs.Common.{zero, suc, ◌≡◌, ℕ, ℤ, pos, ◌+ℤ◌, ◌-ℤ◌, ◌+◌, ◌-◌, ◌*◌, ◌/◌, ◌%◌, ◌<◌, ◌≤◌, ◌^◌, true, nat_lt, Bool, false, List, [], ◌∷◌, ◌++◌, map, length, get_or, drop, Option, Result, Ok, Err, refl, ap, sym, ◌∙◌, arith, subst, add-one}
-use Rattle.std.specs.Prelude.{unsigned_abs}
-use Rattle.std.specs.List.{range_with_len, slice_range}
+use Rattle.std.proofs.Common.{zero, suc, ◌≡◌, ℕ, ℤ, pos, ◌+◌, ◌-◌, ◌*◌, ◌/◌, ◌%◌, ◌<◌, ◌≤◌, ◌^◌, true, nat_lt, Bool, false, List, [], ◌∷◌, ◌++◌, length, get_or, drop, Result, Ok, Err, refl, ap, sym, ◌∙◌, arith, add-one}
+use Rattle.std.specs.List.{range_with_len}
 use Rattle.std.proofs.lemmas.Bool.{ltb-true, ltb-false}
-use Rattle.std.proofs.lemmas.Int.{ints}
-use Rattle.std.proofs.lemmas.List.{length-map, length-append, length-drop, length-take-le, get_or-take, get_or-drop, get_or_append_left, get_or-append_right}
+use Rattle.std.proofs.lemmas.List.{length-map}
 use Rattle.std.proofs.lemmas.Nat.{div-mul-add, mod-mul-add, div-add-mod'}
 use Rattle.std.proofs.Math.Nat.{mod-lt, mul-le-mul_right}
 use Rattle.apl_faults.specs.declared.fault.Fault.{Fault}
@@ -27,7 +25,7 @@ use Rattle.apl_folds.specs.Lines.{fold_by, line_of, line_fold, IsLine}
 use Rattle.apl_folds.specs.Scans.{fronts_along}
 use Rattle.apl_folds.proofs.Along.{fronts_of_lines}
 use Rattle.apl_folds.proofs.Faults.{first_fault}
-use Rattle.apl_folds.proofs.Rows.{length-line, line_more}
+use Rattle.apl_folds.proofs.Rows.{line_more}
 use Rattle.apl_folds.proofs.Taken.{lengths-without, place_at-inserted, within-without, index_within}
 
 -- the index of what stands in a row

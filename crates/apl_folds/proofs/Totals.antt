@@ -1,19 +1,16 @@
 -- Sums whose magnitudes fit: the fold is the sum, in whatever order it is taken.
-use Rattle.std.proofs.Common.{zero, suc, ◌≡◌, ℕ, ℤ, pos, ◌+ℤ◌, ◌+◌, ◌-◌, ◌*◌, ◌<◌, ◌≤◌, ◌^◌, List, [], ◌∷◌, ◌++◌, length, get_or, take, drop, Result, Ok, FitsSigned, ap, sym, ◌∙◌, subst, arith, to_z, of_z, take-append-drop, drop-drop}
+use Rattle.std.proofs.Common.{◌≡◌, ℕ, ℤ, pos, ◌+ℤ◌, ◌+◌, ◌-◌, ◌*◌, ◌<◌, ◌≤◌, ◌^◌, List, [], ◌∷◌, ◌++◌, length, get_or, take, drop, Result, Ok, FitsSigned, ap, sym, ◌∙◌, subst, arith, take-append-drop, drop-drop}
 use Rattle.std.specs.Prelude.{unsigned_abs}
 use Rattle.std.specs.Int.{w64}
-use Rattle.std.proofs.lemmas.Int.{ints, to_z-of_z}
+use Rattle.std.proofs.lemmas.Int.{ints}
 use Rattle.std.proofs.lemmas.List.{take_more}
 use Rattle.apl_faults.specs.declared.fault.Fault.{Fault}
 use Rattle.apl_arrays.specs.Results.{and_then}
-use Rattle.apl_arrays.specs.Strides.{step_at}
-use Rattle.apl_arrays.specs.declared.axis.Axis.{Axis}
 use Rattle.apl_scalar.specs.declared.function.Dyadic.TheVariants as two
 use Rattle.apl_scalar.specs.Functions.{dyadic_of}
 use Rattle.apl_scalar.proofs.Signs.{in_range-fits}
-use Rattle.apl_folds.specs.Lines.{fold_by, line_of}
+use Rattle.apl_folds.specs.Lines.{fold_by}
 use Rattle.apl_folds.specs.inside.Sums.{total, magnitudes}
-use Rattle.apl_folds.proofs.Rows.{line_more, length-line}
 
 abs-add : (x y : ℤ) → unsigned_abs (x +ℤ y) ≤ unsigned_abs x + unsigned_abs y
 abs-add x y = omega (arith, ints)

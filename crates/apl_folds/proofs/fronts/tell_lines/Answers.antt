@@ -1,4 +1,4 @@
-use Rattle.std.proofs.Common.{arith, ◌≡◌, ◌<◌, ◌*◌, ◌/◌, length, ap, ◌∙◌}
+use Rattle.std.proofs.Common.{arith, ◌≡◌, ◌*◌, ◌/◌, length, ap, ◌∙◌}
 use Rattle.apl_folds.proofs.ByPlaces.{line_begins, all_lines}
 use Rattle.apl_folds.proofs.fronts.tell_lines.Goals as goal
 

@@ -1,4 +1,4 @@
-use Rattle.std.proofs.Common.{rules, arith, zero, suc, ◌≡◌, ◌<◌, ◌+◌, ◌*◌, ◌%◌, ◌∷◌, [], ◌++◌, ℕ, ℤ, List, pos, length, get_or, Ok, refl, ap, sym, subst, ◌∙◌, w64, to_z, of_z}
+use Rattle.std.proofs.Common.{rules, arith, zero, suc, ◌≡◌, ◌<◌, ◌+◌, ◌*◌, ◌%◌, ◌∷◌, [], ◌++◌, ℕ, ℤ, List, pos, get_or, Ok, refl, ap, sym, subst, ◌∙◌, w64, to_z, of_z}
 use Rattle.std.proofs.lemmas.Int.{to_z-of_z}
 use Rattle.std.proofs.lemmas.List.{length-set}
 use mir.Val.{SFits}

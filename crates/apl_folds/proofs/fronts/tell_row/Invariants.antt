@@ -1,4 +1,4 @@
-use Rattle.std.proofs.Common.{◌≡◌, ◌<◌, ◌≤◌, ◌+◌, ◌*◌, ◌%◌, ◌∷◌, [], ◌++◌, ℕ, pos, length, get_or}
+use Rattle.std.proofs.Common.{◌≡◌, ◌<◌, ◌≤◌, ◌+◌, ◌∷◌, [], ◌++◌, ℕ, pos, length, get_or}
 use Rattle.apl_folds.specs.inside.Fronts.{before, AreFronts}
 use Rattle.apl_folds.proofs.fronts.tell_row.Given as goal
 

@@ -1,4 +1,3 @@
-use Rattle.std.proofs.Common.{w64}
 use Rattle.std.proofs.lemmas.Int.{to_z-of_z}
 use Rattle.apl_folds.proofs.Associative.{front_next}
 use Rattle.apl_folds.proofs.chains.FrontKept.next.Goals as goal

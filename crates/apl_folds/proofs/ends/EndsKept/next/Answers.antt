@@ -1,4 +1,3 @@
-use Rattle.std.proofs.Common.{w64}
 use Rattle.std.proofs.lemmas.Int.{to_z-of_z}
 use Rattle.apl_folds.proofs.LastTwo.{ends_next}
 use Rattle.apl_folds.proofs.ends.EndsKept.next.Goals as goal

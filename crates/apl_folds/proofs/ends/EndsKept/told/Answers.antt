@@ -1,4 +1,3 @@
-use Rattle.std.proofs.Common.{Some, sym, ◌∙◌, w64}
 use Rattle.std.proofs.lemmas.Int.{to_z-of_z}
 use Rattle.apl_folds.proofs.LastTwo.{told_fold}
 use Rattle.apl_folds.proofs.ends.EndsKept.told.Goals as goal

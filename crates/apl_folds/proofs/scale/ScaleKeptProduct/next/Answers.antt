@@ -1,4 +1,4 @@
-use Rattle.std.proofs.Common.{◌≡◌, ◌*ℤ◌, ℤ, Result, Ok, sym, ◌∙◌, w64}
+use Rattle.std.proofs.Common.{◌≡◌, ◌*ℤ◌, ℤ, Result, Ok, sym, ◌∙◌}
 use Rattle.std.proofs.lemmas.Int.{to_z-of_z}
 use Rattle.apl_faults.specs.declared.fault.Fault.{Fault}
 use Rattle.apl_folds.proofs.Reach.{scale_next}

@@ -1,4 +1,4 @@
-use Rattle.std.proofs.Common.{rules, ◌≡◌, ◌+ℤ◌, ◌-ℤ◌, not, ℤ, Result, Ok, refl, ap, sym, ◌∙◌, w64, to_z, of_z}
+use Rattle.std.proofs.Common.{rules, ◌≡◌, ◌+ℤ◌, ◌-ℤ◌, not, ℤ, Result, Ok, refl, sym, ◌∙◌, w64, to_z, of_z}
 use Rattle.std.specs.Int.{saturate_signed}
 use Rattle.std.proofs.lemmas.Int.{to_z-of_z}
 use mir.Val.{SFits}

@@ -1,4 +1,4 @@
-use Rattle.std.proofs.Common.{rules, arith, ◌≡◌, ◌+ℤ◌, ◌-ℤ◌, not, Ok, refl, ap, sym, ◌∙◌, w64, to_z, of_z}
+use Rattle.std.proofs.Common.{rules, arith, ◌≡◌, ◌+ℤ◌, Ok, ap, sym, ◌∙◌, w64}
 use Rattle.std.proofs.lemmas.Int.{ints, to_z-of_z}
 use mir.Val.{SFits}
 use Rattle.apl_folds.specs.inside.Reach.{signed, IsWithin}
