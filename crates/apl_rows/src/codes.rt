@@ -3,7 +3,6 @@
 //! | Line | What is written |
 //! |---|---|
 //! | `listing CLASSES TEXT` | the listing of the line's code |
-//! | `copies CLASSES TEXT` | the same of a copy of the code, of one that is assembled again, and of one of a copy of the line |
 //! | `kinds K LISTING` | what stands on the operand stack after K instructions, its top first |
 //! | `assemble LISTING` | how many instructions it lists, or the error's number and the line |
 //! | `again LISTING` | the listing of the code that is listed |
@@ -17,7 +16,7 @@ use apl_listing::{Kind, assemble, kinds, listing};
 use apl_symbols::Class;
 use apl_tokens::{TokenError, tokens};
 use apl_translate::{Bound, Cache, bind, translate};
-use std::alloc::{AllocError, Global};
+use std::alloc::Global;
 
 /// The bound line of a text, where its names have these classes.
 fn bound(alloc: Global, text: &[Ch], classes: &[Class]) -> Result<Bound, TokenError> {
@@ -38,22 +37,17 @@ pub fn bound_line(page: &mut Page, text: &str) -> Option<Bound> {
 pub fn write_code(page: &mut Page, code: &Code) {
     match listing(page.alloc, code) {
         Ok(text) => page.bytes(&text),
-        Err(error) => page.refuse(error),
-    }
-}
-
-/// Writes the listing of a code that a call answers.
-fn write_made(page: &mut Page, code: Result<Code, AllocError>) {
-    match code {
-        Ok(code) => write_code(page, &code),
-        Err(error) => page.refuse(error),
+        Err(error) => page.refuse(&error),
     }
 }
 
 /// Writes the listing of the code of classes and a text.
 fn write_listing_of(page: &mut Page, text: &str) {
     if let Some(bound) = bound_line(page, text) {
-        write_made(page, translate(page.alloc, &bound));
+        match translate(page.alloc, &bound) {
+            Ok(code) => write_code(page, &code),
+            Err(error) => page.refuse(&error),
+        }
     }
 }
 
@@ -61,7 +55,7 @@ fn write_listing_of(page: &mut Page, text: &str) {
 fn write_assembled_again(page: &mut Page, text: &[u8]) {
     match assemble(page.alloc, text) {
         Ok(code) => write_code(page, &code),
-        Err(error) => page.refuse(error),
+        Err(error) => page.refuse(&error),
     }
 }
 
@@ -69,39 +63,6 @@ fn write_assembled_again(page: &mut Page, text: &[u8]) {
 fn write_again(page: &mut Page, text: &str) {
     let text = page.bytes_of(text);
     write_assembled_again(page, &text);
-}
-
-/// Writes the listing of a code's copy, and that of what its listing lists.
-fn write_code_again(page: &mut Page, code: &Code) {
-    write_made(page, code.copy(page.alloc));
-    match listing(page.alloc, code) {
-        Ok(text) => write_assembled_again(page, &text),
-        Err(error) => page.refuse(error),
-    }
-}
-
-/// Writes the listing of the code of a copy of a line.
-fn write_bound_copy(page: &mut Page, bound: &Bound) {
-    match bound.copy(page.alloc) {
-        Ok(copy) => write_made(page, translate(page.alloc, &copy)),
-        Err(error) => page.refuse(error),
-    }
-}
-
-/// Writes the listings of copies of a line, and of its code.
-fn write_copies_of(page: &mut Page, bound: &Bound) {
-    write_bound_copy(page, bound);
-    match translate(page.alloc, bound) {
-        Ok(code) => write_code_again(page, &code),
-        Err(error) => page.refuse(error),
-    }
-}
-
-/// Writes the listings of copies of the line of classes and a text, and of its code.
-fn write_copies(page: &mut Page, text: &str) {
-    if let Some(bound) = bound_line(page, text) {
-        write_copies_of(page, &bound);
-    }
 }
 
 /// The code that a text lists.
@@ -141,7 +102,7 @@ fn write_kind_list(page: &mut Page, kinds: &[Kind]) {
 fn write_kinds_after(page: &mut Page, code: &Code, done: usize) {
     match kinds(page.alloc, code, done) {
         Ok(kinds) => write_kind_list(page, &kinds),
-        Err(error) => page.refuse(error),
+        Err(error) => page.refuse(&error),
     }
 }
 
@@ -159,7 +120,7 @@ fn keep(page: &mut Page, cache: &mut Cache, text: &str) {
         return;
     };
     if let Err(error) = cache.translate(&bound) {
-        page.refuse(error);
+        page.refuse(&error);
     }
 }
 
@@ -168,7 +129,7 @@ fn keep_numbers(page: &mut Page, cache: &mut Cache, most: u64) {
     for number in 0..most {
         match format!(in page.alloc; "- {number}") {
             Ok(text) => keep(page, cache, text.as_str()),
-            Err(error) => page.refuse(error),
+            Err(error) => page.refuse(&error),
         }
     }
 }
@@ -209,7 +170,6 @@ fn write_cache(page: &mut Page, text: &str) {
 pub fn play(page: &mut Page, word: &str, text: &str) -> bool {
     match word {
         "listing" => write_listing_of(page, text),
-        "copies" => write_copies(page, text),
         "kinds" => write_kinds(page, text),
         "assemble" => write_assembled(page, text),
         "again" => write_again(page, text),

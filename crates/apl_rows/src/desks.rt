@@ -2,21 +2,20 @@
 //!
 //! | Line | What is written |
 //! |---|---|
-//! | `desk N STEPS READER WRITER TEXT` | what a run over N sessions writes, the error's number, and how many of nine bytes are left |
+//! | `desk N STEPS READER WRITER TEXT` | what a run over N sessions writes, its error, and how many of nine bytes are left |
 //! | `beside N K EVENT◊..` | after events of the sessions K of N: of each session whether it runs, and its output; how many there are |
+//! | `short EVENTS STEPS` | what a desk and a session say where memory runs out then |
 ghost use Rattle.std.specs.Prelude.{◌≡◌, ◌<◌, true, All};
 
-use crate::lacks::Lack;
 use crate::page::Page;
-use crate::running::{tape_of, write_end};
+use crate::running::{tape_of, write_ran};
 use crate::stepping::event_of;
 use crate::words::{count, next_word, number};
 use crate::writing::write_output;
-use apl_desk::Desk;
+use apl_desk::{Desk, DeskError};
 use apl_machine::Machine;
-use apl_runs::{RunError, Tape, run_desk};
-use apl_session::{Event, Session};
-use std::alloc::AllocError;
+use apl_runs::run_desk;
+use apl_session::{DriveError, Event, Session};
 
 /// The most sessions of a desk.
 const MOST: usize = 64;
@@ -31,17 +30,10 @@ fn desk_of(page: &mut Page, count: usize) -> Option<Desk> {
         );
     }
     if sessions.len() > MOST {
-        page.refuse(Lack::Words);
+        page.unknown();
         return None;
     }
     Some(Desk::new(sessions))
-}
-
-/// Writes a run over the sessions of a desk.
-fn write_run(page: &mut Page, desk: Desk, reader: &mut Tape, writer: &mut Tape, steps: u64) {
-    let ended: Result<Desk, RunError> = run_desk(page.alloc, desk, reader, writer, steps);
-    page.bytes(writer.bytes());
-    write_end(page, ended.err(), reader);
 }
 
 /// Writes a run over so many clear sessions.
@@ -53,7 +45,8 @@ fn write_run_of(page: &mut Page, text: &str) {
     let mut reader = tape_of(page.bytes_of(text), reading);
     let mut writer = tape_of(Vec::new(page.alloc), writing);
     if let Some(desk) = desk_of(page, count(sessions)) {
-        write_run(page, desk, &mut reader, &mut writer, number(steps));
+        let ended = run_desk(page.alloc, desk, &mut reader, &mut writer, number(steps));
+        write_ran(page, ended.err(), &mut reader, &mut writer);
     }
 }
 
@@ -78,10 +71,10 @@ fn are_there(pairs: &[(usize, Event)], count: usize) -> bool
 /// Lets the events happen, if their sessions are there.
 fn drive(page: &mut Page, desk: &mut Desk, pairs: &[(usize, Event)]) {
     if !are_there(pairs, desk.len()) {
-        return page.refuse(Lack::Words);
+        return page.unknown();
     }
-    if desk.drive(pairs).is_err() {
-        page.refuse(AllocError);
+    if let Err(error) = desk.drive(pairs) {
+        page.refuse(&error);
     }
 }
 
@@ -117,11 +110,26 @@ fn write_beside(page: &mut Page, text: &str) {
     page.count(&desk.into_sessions().len(), " sessions");
 }
 
+/// Writes what a desk and a session say where memory runs out after so many events and steps.
+fn write_short(page: &mut Page, text: &str) {
+    let (events, steps) = next_word(text);
+    let (events, steps) = (count(events), number(steps));
+    page.refuse(&DeskError {
+        pair: events,
+        steps,
+    });
+    page.refuse(&DriveError {
+        event: events,
+        steps,
+    });
+}
+
 /// Does what a line asks for, if its word is one of these.
 pub fn play(page: &mut Page, word: &str, text: &str) -> bool {
     match word {
         "desk" => write_run_of(page, text),
         "beside" => write_beside(page, text),
+        "short" => write_short(page, text),
         _ => return false,
     }
     true

@@ -4,21 +4,19 @@
 //! |---|---|
 //! | `header TEXT` | the header as it is shown, or the error's number |
 //! | `define HEADER◊LINE◊..` | the function's header, its class and its labels, or the error's number and the line |
-//! | `show HEADER◊LINE◊..` | the lines that show the function |
-//! | `lines HEADER◊LINE◊..` | for each line, and for the numbers before and behind, how many tokens it has, and its text |
 //! | `many N HEADER◊LINE◊LAST` | the same as of `define`, where N lines are alike; there is no last one where that is empty |
 
 use crate::page::Page;
 use crate::words::{count, next_part, next_word};
 use crate::writing::write_class;
 use apl_charset::Text;
-use apl_defn::{Definition, Header, canonical, define, header, show};
+use apl_defn::{Definition, Header, canonical, define, header};
 
 /// Writes a header as it is shown.
 fn write_canonical(page: &mut Page, header: &Header) {
     match canonical(page.alloc, header) {
         Ok(text) => page.text('|', text.as_slice()),
-        Err(error) => page.refuse(error),
+        Err(error) => page.refuse(&error),
     }
 }
 
@@ -26,7 +24,7 @@ fn write_canonical(page: &mut Page, header: &Header) {
 fn write_header_copy(page: &mut Page, header: &Header) {
     match header.copy(page.alloc) {
         Ok(copy) => write_canonical(page, &copy),
-        Err(error) => page.refuse(error),
+        Err(error) => page.refuse(&error),
     }
 }
 
@@ -35,7 +33,7 @@ fn write_header(page: &mut Page, text: &str) {
     let text = page.characters(text);
     match header(page.alloc, &text) {
         Ok(header) => write_header_copy(page, &header),
-        Err(error) => page.refuse(error),
+        Err(error) => page.refuse(&error),
     }
 }
 
@@ -92,52 +90,7 @@ fn write_many(page: &mut Page, text: &str) {
     let lines = many_lines(page, count(number), text);
     match define(page.alloc, &lines) {
         Ok(definition) => write_definition(page, &definition),
-        Err(error) => page.refuse(error),
-    }
-}
-
-/// Writes the lines that show a function.
-fn write_show(page: &mut Page, definition: &Definition) {
-    match show(page.alloc, definition) {
-        Ok(lines) => page.texts(&lines),
-        Err(error) => page.refuse(error),
-    }
-}
-
-/// Writes the lines that show the copy of a function.
-fn write_copy_shown(page: &mut Page, definition: &Definition) {
-    match definition.copy(page.alloc) {
-        Ok(copy) => write_show(page, &copy),
-        Err(error) => page.refuse(error),
-    }
-}
-
-/// Writes the lines that show the function of lines, as they show its copy.
-fn write_shown(page: &mut Page, text: &str) {
-    if let Some(definition) = definition_of(page, text) {
-        write_copy_shown(page, &definition);
-    }
-}
-
-/// Writes how many tokens a line has, and its text.
-fn write_numbered(page: &mut Page, definition: &Definition, line: usize) {
-    page.show(&line);
-    match (definition.tokens(line), definition.line(line)) {
-        (Some(tokens), Some(text)) => {
-            page.said(" has ", &tokens.len());
-            page.put(" tokens ");
-            page.text('|', text);
-        }
-        _ => page.line(" is no line"),
-    }
-}
-
-/// Writes the lines of the function of lines, and the numbers before and behind them.
-fn write_lines(page: &mut Page, text: &str) {
-    if let Some(definition) = definition_of(page, text) {
-        for line in 0..definition.len() + 2 {
-            write_numbered(page, &definition, line);
-        }
+        Err(error) => page.refuse(&error),
     }
 }
 
@@ -146,8 +99,6 @@ pub fn play(page: &mut Page, word: &str, text: &str) -> bool {
     match word {
         "header" => write_header(page, text),
         "define" => write_defined(page, text),
-        "show" => write_shown(page, text),
-        "lines" => write_lines(page, text),
         "many" => write_many(page, text),
         _ => return false,
     }

@@ -1,15 +1,13 @@
 //! Looks at a machine.
 
 use crate::codes::{bound_line, write_code};
-use crate::lacks::Lack;
 use crate::page::Page;
-use crate::parts::write_parts;
 use crate::words::count;
 use crate::writing::{write_class, write_lent, write_objects, write_operands};
 use apl_debug::{state_indicator, stops, traces};
-use apl_listed::code_of;
 use apl_machine::{Level, Machine};
 use apl_symbols::Name;
+use apl_workspace::{load, save};
 
 /// Writes what the context of this number is doing, from 0 for the newest: its code, how many of its instructions are
 /// done, and its operands.
@@ -46,25 +44,6 @@ fn write_vector(page: &mut Page, word: &str, lines: Option<&[usize]>) {
     page.end();
 }
 
-/// Writes the listings of lines, each behind the number of its line.
-fn write_listings(page: &mut Page, listings: &[Vec<u8>]) {
-    for (index, listing) in listings.iter().enumerate() {
-        page.mark('[');
-        page.count(&(index + 1), "]");
-        page.bytes(listing.as_slice());
-    }
-}
-
-/// Writes the listings of the lines of a function, as they would begin now.
-fn write_codes(page: &mut Page, machine: &Machine, text: &str) {
-    let name = page.characters(text);
-    match code_of(page.alloc, machine, &name) {
-        Ok(Some(listings)) => write_listings(page, &listings),
-        Ok(None) => page.line("no function"),
-        Err(error) => page.refuse(error),
-    }
-}
-
 /// Writes standing calls, a line each.
 fn write_calls(page: &mut Page, levels: &[Level]) {
     for level in levels {
@@ -78,7 +57,7 @@ fn write_calls(page: &mut Page, levels: &[Level]) {
 fn write_levels(page: &mut Page, machine: &Machine) {
     match state_indicator(machine) {
         Ok(levels) => write_calls(page, &levels),
-        Err(error) => page.refuse(error),
+        Err(error) => page.refuse(&error),
     }
 }
 
@@ -86,7 +65,7 @@ fn write_levels(page: &mut Page, machine: &Machine) {
 fn write_globals(page: &mut Page, machine: &Machine) {
     match machine.globals() {
         Ok(names) => write_objects(page, &names, '\n'),
-        Err(error) => page.refuse(error),
+        Err(error) => page.refuse(&error),
     }
 }
 
@@ -101,6 +80,22 @@ fn write_cached(page: &mut Page, machine: &Machine, text: &str) {
     }
 }
 
+/// Writes the file that the workspace is saved as.
+fn write_saved(page: &mut Page, machine: &Machine) {
+    match save(page.alloc, machine) {
+        Ok(bytes) => page.bytes(&bytes),
+        Err(error) => page.refuse(&error),
+    }
+}
+
+/// Writes whether a text is a workspace file, or why it is none.
+fn write_loaded(page: &mut Page, text: &str) {
+    match load(page.alloc, text.as_bytes()) {
+        Ok(_) => page.line("loaded"),
+        Err(error) => page.refuse(&error),
+    }
+}
+
 /// Looks at what a name stands for.
 fn look(page: &mut Page, machine: &Machine, word: &str, name: &Name) {
     match word {
@@ -110,7 +105,7 @@ fn look(page: &mut Page, machine: &Machine, word: &str, name: &Name) {
             write_vector(page, "stops: ", stops(machine, name));
             write_vector(page, "traces: ", traces(machine, name));
         }
-        _ => page.refuse(Lack::Words),
+        _ => page.unknown(),
     }
 }
 
@@ -126,11 +121,11 @@ pub fn play(page: &mut Page, machine: &Machine, word: &str, text: &str) -> bool 
     match word {
         "frame" => write_frame(page, machine, text),
         "value" | "class" | "watched" => look_at(page, machine, word, text),
-        "code" => write_codes(page, machine, text),
         "levels" => write_levels(page, machine),
         "globals" => write_globals(page, machine),
         "cached" => write_cached(page, machine, text),
-        "parts" => write_parts(page, machine),
+        "save" => write_saved(page, machine),
+        "load" => write_loaded(page, text),
         _ => return false,
     }
     true

@@ -14,12 +14,11 @@
 //! | `one`, `line N`, `idle N` | steps by a stepper of the machine |
 //! | `drive EVENT◊..` | events, each of them `line TEXT`, `steps N` or `interrupt` |
 //! | `resume N TEXT`, `answer TEXT` | a line whose stops are answered, by `resume_all` or by hand, with its steps counted |
-//! | `carried TEXT` | the same by hand, with the workspace saved and loaded at each stop |
-//! | `frame K`, `value NAME`, `class NAME`, `watched NAME`, `levels`, `globals`, `cached CLASSES TEXT`, `parts` | looks at the machine |
-//! | `code NAME` | the listing of each line of a function, behind its number |
+//! | `frame K`, `value NAME`, `class NAME`, `watched NAME`, `levels`, `globals`, `cached CLASSES TEXT` | looks at the machine |
+//! | `save`, `load TEXT` | the file that the workspace is saved as; whether a text is one, or why it is none |
 //!
 //! What is written stands behind `|`, and behind `!` where it reports a stop. In texts `◊` stands for a line feed, `␍` for a
-//! carriage return and `�` for the byte ff, which is no text. Workspaces in files: [`files`]. Calls of the crates beneath,
+//! carriage return and `�` for the byte ff, which is no text. Calls of the crates beneath,
 //! which no session makes so: [`texts`], [`functions`], [`codes`], [`arrays`], [`views`], [`naming`], [`running`] and
 //! [`desks`] say theirs.
 #![tactic(auto)]
@@ -27,13 +26,10 @@
 mod arrays;
 mod codes;
 mod desks;
-mod files;
 mod functions;
-mod lacks;
 mod looking;
 mod naming;
 mod page;
-mod parts;
 mod player;
 mod running;
 mod stepping;

@@ -1,19 +1,16 @@
-//! Calls of the crates of names and of vectors. A line says what is done one after another, between marks `◊`.
+//! Calls of the crate of names. A line says what is done one after another, between marks `◊`.
 //!
 //! | Line | What is done |
 //! |---|---|
 //! | `names ACT◊..` | `assign NAME N`; `number NAME N`, in the place of what it stands for; `enter LOCAL..`, each a name, `NAME:N` for a label or `NAME:∇` for a function; `bind LOCAL`; `leave`; `leave_with NAME`; `function NAME HEADER`; `erase NAME`; `clear`; and looks: `look NAME`, `global NAME`, `local NAME`, `scope K NAME`, `globals`, `depth` |
-//! | `vectors ACT◊..` | `set NAME LINE..`, `remove NAME`, `clear`; and looks: `get NAME`, `has NAME LINE` |
 
 use crate::functions::definition_of;
-use crate::lacks::Lack;
 use crate::page::Page;
 use crate::words::{count, element, next_word};
 use crate::writing::{write_class, write_lent, write_objects, write_value};
 use apl_arrays::Array;
 use apl_names::{Binding, DefinedFunction, Names};
 use apl_symbols::Name;
-use apl_vectors::{MOST_LINES, Vectors};
 
 /// Writes what a name stands for.
 fn write_binding(page: &mut Page, binding: Option<&Binding>) {
@@ -67,7 +64,7 @@ fn local_in(page: &mut Page, word: &str) -> Option<(Name, Binding)> {
 /// Makes a local stand in the newest scope.
 fn bind(page: &mut Page, names: &mut Names, name: &Name, binding: Binding) {
     if let Err(error) = names.bind(name, binding) {
-        page.refuse(error);
+        page.refuse(&error);
     }
 }
 
@@ -94,7 +91,7 @@ fn enter(page: &mut Page, names: &mut Names, text: &str) {
     let mut locals = locals_in(page, text);
     locals.reverse();
     if let Err(error) = names.open() {
-        page.refuse(error);
+        page.refuse(&error);
         return;
     }
     for (name, binding) in locals {
@@ -114,7 +111,7 @@ fn put_number(page: &mut Page, names: &mut Names, name: &Name, text: &str) {
 /// Gives a name a number.
 fn assign(page: &mut Page, names: &mut Names, name: &Name, text: &str) {
     if let Err(error) = names.assign(name, Array::number(element(text))) {
-        page.refuse(error);
+        page.refuse(&error);
     }
 }
 
@@ -124,7 +121,7 @@ fn define(page: &mut Page, names: &mut Names, name: &Name, text: &str) {
         return;
     };
     if let Err(error) = names.function(name, function) {
-        page.refuse(error);
+        page.refuse(&error);
     }
 }
 
@@ -138,7 +135,7 @@ fn leave_with(page: &mut Page, names: &mut Names, name: &Name) {
 fn write_globals(page: &mut Page, names: &Names) {
     match names.globals() {
         Ok(globals) => write_objects(page, &globals, ' '),
-        Err(error) => page.refuse(error),
+        Err(error) => page.refuse(&error),
     }
     page.end();
 }
@@ -156,7 +153,7 @@ fn act_on_name(page: &mut Page, names: &mut Names, word: &str, name: &Name, text
         "look" => write_looked_up(page, names, name),
         "global" => write_binding(page, names.global(name)),
         "local" => write_binding(page, names.local(name)),
-        _ => page.refuse(Lack::Words),
+        _ => page.unknown(),
     }
 }
 
@@ -199,62 +196,10 @@ fn write_names(page: &mut Page, text: &str) {
     }
 }
 
-/// Gives a function a vector, if that isn't too long.
-fn set(page: &mut Page, vectors: &mut Vectors, name: &Name, text: &str) {
-    let lines = page.counts(text);
-    if lines.len() > MOST_LINES {
-        return;
-    }
-    if let Err(error) = vectors.set(name, lines) {
-        page.refuse(error);
-    }
-}
-
-/// Writes a vector.
-fn write_vector(page: &mut Page, lines: &[usize]) {
-    page.mark('|');
-    page.numbers(lines);
-    page.end();
-}
-
-/// Does with the vectors of a function what a word asks for.
-fn act_on_vectors(page: &mut Page, vectors: &mut Vectors, word: &str, name: &Name, text: &str) {
-    match word {
-        "set" => set(page, vectors, name, text),
-        "get" => write_vector(page, vectors.get(name)),
-        "has" if vectors.has(name, count(text)) => page.line("has it"),
-        "has" => page.line("hasn't it"),
-        _ => {
-            vectors.remove(name);
-        }
-    }
-}
-
-/// Does something with vectors.
-fn act_on_vectors_by(page: &mut Page, vectors: &mut Vectors, text: &str) {
-    let (word, text) = next_word(text);
-    if word == "clear" {
-        return vectors.clear();
-    }
-    let (letters, text) = next_word(text);
-    if let Some(name) = page.name(letters) {
-        act_on_vectors(page, vectors, word, &name, text);
-    }
-}
-
-/// Does with new vectors what stands between the marks.
-fn write_vectors(page: &mut Page, text: &str) {
-    let mut vectors = Vectors::new(page.alloc);
-    for part in text.split('◊') {
-        act_on_vectors_by(page, &mut vectors, part);
-    }
-}
-
 /// Does what a line asks for, if its word is one of these.
 pub fn play(page: &mut Page, word: &str, text: &str) -> bool {
     match word {
         "names" => write_names(page, text),
-        "vectors" => write_vectors(page, text),
         _ => return false,
     }
     true

@@ -1,6 +1,5 @@
 //! What comes of rows, as it is written.
 
-use crate::lacks::Lack;
 use apl_charset::{Ch, Text};
 use std::alloc::{AllocError, Global};
 use std::fmt::Display;
@@ -148,33 +147,22 @@ impl Page {
         }
     }
 
-    /// Writes what a line lacks.
-    fn lack(&mut self, lack: Lack) {
-        match lack {
-            Lack::Words => self.put("unknown"),
-            Lack::Memory => self.is_short = true,
-            Lack::Busy => self.put("busy"),
-            Lack::Fault(fault) => self.show(&fault),
-            Lack::Error(number) => self.said("error ", &number),
-            Lack::ErrorAt(number, at) => {
-                self.said("error ", &number);
-                self.said(" at ", &at);
-            }
-        }
-        self.end();
+    /// Writes why a call gives no answer.
+    pub fn refuse<E: Display>(&mut self, error: &E) {
+        self.count(error, "");
     }
 
-    /// Writes why a call gives no answer.
-    pub fn refuse<E: Into<Lack>>(&mut self, error: E) {
-        self.lack(error.into());
+    /// Writes that the words of a line ask for nothing that is known.
+    pub fn unknown(&mut self) {
+        self.line("unknown");
     }
 
     /// What a call answers; where it answers nothing, writes why.
-    pub fn kept<T: Drop, E: Into<Lack>>(&mut self, answer: Result<T, E>) -> Option<T> {
+    pub fn kept<T: Drop, E: Display + Drop>(&mut self, answer: Result<T, E>) -> Option<T> {
         match answer {
             Ok(value) => Some(value),
             Err(error) => {
-                self.refuse(error);
+                self.refuse(&error);
                 None
             }
         }

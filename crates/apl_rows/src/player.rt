@@ -1,11 +1,9 @@
 //! What plays rows, a line at a time.
 
-use crate::lacks::Lack;
 use crate::page::Page;
 use crate::words::{next_word, number};
 use crate::{
-    arrays, codes, desks, files, functions, looking, naming, running, stepping, texts, typing,
-    views,
+    arrays, codes, desks, functions, looking, naming, running, stepping, texts, typing, views,
 };
 use apl_machine::Machine;
 use apl_session::Session;
@@ -14,13 +12,12 @@ use std::alloc::Global;
 /// The steps that a line gets where the row doesn't say.
 const STEPS: u64 = 1000;
 
-/// A session, the file that was saved last, and what came of a row since it was written last.
+/// A session, and what came of a row since it was written last.
 #[derive(Drop)]
 pub struct Player {
     pub session: Session,
     /// The most steps of a line that is typed.
     pub steps: u64,
-    pub file: Vec<u8>,
     pub page: Page,
 }
 
@@ -36,11 +33,10 @@ fn call(page: &mut Page, word: &str, text: &str) -> bool {
         || desks::play(page, word, text)
 }
 
-/// Types a line, makes steps, keeps a workspace or looks at the machine; else calls the crates beneath.
+/// Types a line, makes steps or looks at the machine; else calls the crates beneath.
 fn act(player: &mut Player, word: &str, text: &str) -> bool {
     typing::play(player, word, text)
         || stepping::play(player, word, text)
-        || files::play(player, word, text)
         || looking::play(&mut player.page, player.session.machine(), word, text)
         || call(&mut player.page, word, text)
 }
@@ -51,7 +47,6 @@ impl Player {
         Player {
             session: Session::new(alloc, Machine::new(alloc)),
             steps: STEPS,
-            file: Vec::new(alloc),
             page: Page::new(alloc),
         }
     }
@@ -61,7 +56,6 @@ impl Player {
         let alloc = self.page.alloc;
         self.session = Session::new(alloc, Machine::new(alloc));
         self.steps = STEPS;
-        self.file.clear();
     }
 
     /// Does what a line asks for.
@@ -72,7 +66,7 @@ impl Player {
             "steps" => self.steps = number(text),
             _ => {
                 if !act(self, word, text) {
-                    self.page.refuse(Lack::Words);
+                    self.page.unknown();
                 }
             }
         }

@@ -1,6 +1,5 @@
 //! Steps, events, and lines whose stops are answered.
 
-use crate::files::keep;
 use crate::page::Page;
 use crate::player::Player;
 use crate::typing::{feed, write_session};
@@ -20,7 +19,7 @@ fn write_progress(player: &mut Player, progress: Result<Progress, AllocError>) {
         Ok(Progress::Stopped) => player.page.line("Stopped"),
         Ok(Progress::LineEnd) => player.page.line("LineEnd"),
         Ok(Progress::Running) => player.page.line("Running"),
-        Err(error) => player.page.refuse(error),
+        Err(error) => player.page.refuse(&error),
     }
 }
 
@@ -84,8 +83,8 @@ fn events_of(page: &mut Page, text: &str) -> Vec<Event> {
 /// Lets the events of a text happen, and tells whether the session runs then.
 fn drive(player: &mut Player, text: &str) {
     let events = events_of(&mut player.page, text);
-    if player.session.drive(&events).is_err() {
-        player.page.refuse(AllocError);
+    if let Err(error) = player.session.drive(&events) {
+        player.page.refuse(&error);
     }
     write_session(player);
     let idle = player.session.machine().is_idle();
@@ -100,22 +99,13 @@ fn resume(player: &mut Player, text: &str) {
     write_session(player);
     match answer {
         Ok(stops) => player.page.count(&stops, " stops"),
-        Err(error) => player.page.refuse(error),
+        Err(error) => player.page.refuse(&error),
     }
-}
-
-/// Answers a stop by the line `→⎕LC`, where `keeps` once the workspace is saved and loaded.
-fn go_on(player: &mut Player, keeps: bool) {
-    if keeps {
-        write_session(player);
-        keep(player);
-    }
-    feed(player, "→⎕LC");
 }
 
 /// Runs what was typed until nothing runs, and answers each stop; counts the stops and all steps, which are at most as
 /// many as a line gets.
-fn run_on(player: &mut Player, keeps: bool) -> (u64, u64) {
+fn run_on(player: &mut Player) -> (u64, u64) {
     let mut stops = 0_u64;
     for made in 0..player.steps {
         if player.session.machine().is_idle() {
@@ -124,19 +114,19 @@ fn run_on(player: &mut Player, keeps: bool) -> (u64, u64) {
         match player.session.advance(1) {
             Ok(Progress::Stopped) => {
                 stops = stops.saturating_add(1);
-                go_on(player, keeps);
+                feed(player, "→⎕LC");
             }
             Ok(_) => {}
-            Err(error) => player.page.refuse(error),
+            Err(error) => player.page.refuse(&error),
         }
     }
     (stops, player.steps)
 }
 
 /// Types a line and runs it, its stops answered by hand, and counts them and all its steps.
-fn answer(player: &mut Player, keeps: bool, text: &str) {
+fn answer(player: &mut Player, text: &str) {
     if feed(player, text) {
-        let (stops, steps) = run_on(player, keeps);
+        let (stops, steps) = run_on(player);
         write_session(player);
         player.page.show(&stops);
         player.page.said(" stops, ", &steps);
@@ -153,8 +143,7 @@ pub fn play(player: &mut Player, word: &str, text: &str) -> bool {
         "idle" => step_by(player, Way::Idle(number(text))),
         "drive" => drive(player, text),
         "resume" => resume(player, text),
-        "answer" => answer(player, false, text),
-        "carried" => answer(player, true, text),
+        "answer" => answer(player, text),
         _ => return false,
     }
     true

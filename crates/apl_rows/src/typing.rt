@@ -23,7 +23,7 @@ fn count_steps(player: &mut Player) -> u64 {
             return made;
         }
         if let Err(error) = player.session.advance(1) {
-            player.page.refuse(error);
+            player.page.refuse(&error);
         }
     }
     player.steps
@@ -32,7 +32,7 @@ fn count_steps(player: &mut Player) -> u64 {
 /// Abandons what runs, and writes what came of it.
 pub fn interrupt(player: &mut Player) {
     if let Err(error) = player.session.interrupt() {
-        player.page.refuse(error);
+        player.page.refuse(&error);
     }
     write_session(player);
 }
@@ -57,7 +57,7 @@ fn feed_lines(player: &mut Player, lines: &str) {
 fn type_function(player: &mut Player, text: &str) {
     match format!(in player.page.alloc; "∇{text}◊∇") {
         Ok(lines) => feed_lines(player, lines.as_str()),
-        Err(error) => player.page.refuse(error),
+        Err(error) => player.page.refuse(&error),
     }
     write_session(player);
 }

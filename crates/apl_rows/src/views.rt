@@ -4,13 +4,11 @@
 //! | Line | What is written |
 //! |---|---|
 //! | `view A◊ACT◊..` | the array that the view shows, and its elements as they come one after another |
-//! | `reversals A` | whether the elements are those of the dense copy: of the whole view, and of it with each axis reversed |
 //! | `reduce F ALONG A◊ACT◊..`, `scan` likewise | the value along `first`, `last` or an axis from 1 on |
 //! | `outer F VIEW;VIEW`, `inner F G VIEW;VIEW` | the product |
 ghost use Rattle.std.specs.Prelude.{◌≡◌, ◌<◌, true, All};
 
 use crate::arrays::{dyadic_of, slots};
-use crate::lacks::Lack;
 use crate::page::Page;
 use crate::words::{next_half, next_part, next_word};
 use crate::writing::{write_answer, write_cells, write_found, write_value};
@@ -96,7 +94,7 @@ fn view_of<'a>(page: &mut Page, array: &'a Array, text: &str) -> View<'a> {
 fn write_copied(page: &mut Page, view: &View<'_>) {
     match view.copied(page.alloc) {
         Ok(copied) => write_value(page, Some(&copied)),
-        Err(error) => page.refuse(error),
+        Err(error) => page.refuse(&error),
     }
 }
 
@@ -122,152 +120,75 @@ fn write_view_of(page: &mut Page, text: &str) {
     }
 }
 
-/// Whether the elements of a view, one after another, are those of an array.
-fn are_elements(view: &View<'_>, dense: &Array) -> bool {
-    let mut elements = dense.iter();
-    for cell in view.iter() {
-        if elements.next() != Some(cell) {
-            return false;
-        }
-    }
-    elements.next().is_none()
-}
-
-/// Writes whether the elements of a view, one after another, are those of its dense copy.
-fn write_same(page: &mut Page, view: &View<'_>) {
-    match view.copied(page.alloc) {
-        Ok(dense) if are_elements(view, &dense) => page.put(" same"),
-        Ok(_) => page.put(" different"),
-        Err(error) => page.refuse(error),
-    }
-}
-
-/// Writes the same for a view, and for it with each axis reversed.
-fn write_reversals_of(page: &mut Page, view: &View<'_>) {
-    page.said("rank ", &view.rank());
-    page.mark(':');
-    write_same(page, view);
-    for axis in 0..view.rank() {
-        write_same(page, &view.reversed(axis));
-    }
-    page.end();
-}
-
-/// Writes whether the elements of views of an array are those of their dense copies.
-fn write_reversals(page: &mut Page, text: &str) {
-    if let Some(array) = page.array(text) {
-        write_reversals_of(page, &View::whole(&array));
-    }
-}
-
-/// An operator and its function.
-#[derive(Clone, Copy)]
-enum Operation {
-    Reduce(Dyadic),
-    Scan(Dyadic),
-}
-
-/// Writes the value of an operator over a view.
-fn write_along(page: &mut Page, operation: Operation, along: Along<'_>, view: &View<'_>) {
-    let answer = match operation {
-        Operation::Reduce(function) => reduce(page.alloc, function, along, view, Origin::One),
-        Operation::Scan(function) => scan(page.alloc, function, along, view, Origin::One),
+/// Writes the reduction or the scan of a view.
+fn write_along(page: &mut Page, scans: bool, function: Dyadic, along: Along<'_>, view: &View<'_>) {
+    let answer = if scans {
+        scan(page.alloc, function, along, view, Origin::One)
+    } else {
+        reduce(page.alloc, function, along, view, Origin::One)
     };
     write_answer(page, answer);
 }
 
 /// The same along the axis that a word says.
-fn write_along_word(page: &mut Page, operation: Operation, word: &str, view: &View<'_>) {
+fn write_along_word(page: &mut Page, scans: bool, function: Dyadic, word: &str, view: &View<'_>) {
     match word {
-        "first" => write_along(page, operation, Along::First, view),
-        "last" => write_along(page, operation, Along::Last, view),
+        "first" => write_along(page, scans, function, Along::First, view),
+        "last" => write_along(page, scans, function, Along::Last, view),
         _ => {
             let axes = slots(page, word);
-            write_along(page, operation, Along::Named(&axes), view);
+            write_along(page, scans, function, Along::Named(&axes), view);
         }
     }
 }
 
-/// Writes the value of an operator over a view, its axis first.
-fn write_operated(page: &mut Page, operation: Operation, text: &str) {
+/// Writes the reduction or the scan of a view: the function's symbol first, then the axis.
+fn write_operated(page: &mut Page, scans: bool, text: &str) {
+    let (symbol, text) = next_word(text);
     let (along, text) = next_word(text);
     let (first, text) = next_part(text);
+    let Some(function) = dyadic_of(symbol) else {
+        return page.unknown();
+    };
     if let Some(array) = page.array(first) {
         let view = view_of(page, &array, text);
-        write_along_word(page, operation, along, &view);
+        write_along_word(page, scans, function, along, &view);
     }
 }
 
-/// Writes a reduction, the function's symbol first.
-fn write_reduced(page: &mut Page, text: &str) {
-    let (symbol, text) = next_word(text);
-    match dyadic_of(symbol) {
-        Some(function) => write_operated(page, Operation::Reduce(function), text),
-        None => page.refuse(Lack::Words),
-    }
+/// The array of a text and what is done to its view.
+fn array_in<'a>(page: &mut Page, text: &'a str) -> Option<(Array, &'a str)> {
+    let (first, text) = next_part(text);
+    Some((page.array(first)?, text))
 }
 
-/// Writes a scan, the function's symbol first.
-fn write_scanned(page: &mut Page, text: &str) {
-    let (symbol, text) = next_word(text);
-    match dyadic_of(symbol) {
-        Some(function) => write_operated(page, Operation::Scan(function), text),
-        None => page.refuse(Lack::Words),
-    }
-}
-
-/// The functions of a product.
-#[derive(Clone, Copy)]
-enum Product {
-    Outer(Dyadic),
-    /// The one that folds, and the one whose values it folds.
-    Inner(Dyadic, Dyadic),
-}
-
-/// Writes the product of two views.
-fn write_product(page: &mut Page, product: Product, a: &View<'_>, b: &View<'_>) {
-    let answer = match product {
-        Product::Outer(each) => outer(page.alloc, each, a, b),
-        Product::Inner(fold, each) => inner(page.alloc, fold, each, a, b),
+/// Writes the product of the views of two arrays: an inner one, where there is a function that folds.
+fn write_product(page: &mut Page, fold: Option<Dyadic>, each: Dyadic, text: &str) {
+    let (left, right) = next_half(text);
+    let (Some((a, left)), Some((b, right))) = (array_in(page, left), array_in(page, right)) else {
+        return;
+    };
+    let a = view_of(page, &a, left);
+    let b = view_of(page, &b, right);
+    let answer = match fold {
+        Some(fold) => inner(page.alloc, fold, each, &a, &b),
+        None => outer(page.alloc, each, &a, &b),
     };
     write_answer(page, answer);
 }
 
-/// Writes the product of the view of an array and that of another one.
-fn write_product_by(page: &mut Page, product: Product, a: &View<'_>, text: &str) {
-    let (second, text) = next_part(text);
-    if let Some(b) = page.array(second) {
-        let b = view_of(page, &b, text);
-        write_product(page, product, a, &b);
-    }
-}
-
-/// Writes the product of the views of two arrays.
-fn write_product_of(page: &mut Page, product: Product, text: &str) {
-    let (left, right) = next_half(text);
-    let (first, left) = next_part(left);
-    if let Some(a) = page.array(first) {
-        let a = view_of(page, &a, left);
-        write_product_by(page, product, &a, right);
-    }
-}
-
-/// Writes an outer product, the function's symbol first.
-fn write_outer(page: &mut Page, text: &str) {
-    let (symbol, text) = next_word(text);
-    match dyadic_of(symbol) {
-        Some(each) => write_product_of(page, Product::Outer(each), text),
-        None => page.refuse(Lack::Words),
-    }
-}
-
-/// Writes an inner product, the functions' symbols first.
-fn write_inner(page: &mut Page, text: &str) {
-    let (first, text) = next_word(text);
-    let (second, text) = next_word(text);
-    match (dyadic_of(first), dyadic_of(second)) {
-        (Some(fold), Some(each)) => write_product_of(page, Product::Inner(fold, each), text),
-        _ => page.refuse(Lack::Words),
+/// Writes a product, the symbols of its functions first.
+fn write_product_of(page: &mut Page, text: &str, folds: bool) {
+    let (first, rest) = next_word(text);
+    let (second, text) = if folds {
+        next_word(rest)
+    } else {
+        (first, rest)
+    };
+    let fold = if folds { dyadic_of(first) } else { None };
+    match dyadic_of(second) {
+        Some(each) if fold.is_some() == folds => write_product(page, fold, each, text),
+        _ => page.unknown(),
     }
 }
 
@@ -275,11 +196,10 @@ fn write_inner(page: &mut Page, text: &str) {
 pub fn play(page: &mut Page, word: &str, text: &str) -> bool {
     match word {
         "view" => write_view_of(page, text),
-        "reversals" => write_reversals(page, text),
-        "reduce" => write_reduced(page, text),
-        "scan" => write_scanned(page, text),
-        "outer" => write_outer(page, text),
-        "inner" => write_inner(page, text),
+        "reduce" => write_operated(page, false, text),
+        "scan" => write_operated(page, true, text),
+        "outer" => write_product_of(page, text, false),
+        "inner" => write_product_of(page, text, true),
         _ => return false,
     }
     true

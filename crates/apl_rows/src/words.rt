@@ -1,6 +1,5 @@
 //! The words of a row.
 
-use crate::lacks::Lack;
 use crate::page::Page;
 use apl_arrays::{Array, Ravel, is_in_bounds, size};
 use apl_charset::{Ch, Text};
@@ -65,11 +64,12 @@ fn byte(digits: &[u8]) -> u8 {
 }
 
 /// The array of a shape and elements, where they fit and are within the limits.
-fn shaped(shape: &[usize], ravel: Ravel) -> Result<Array, Lack> {
-    if !is_in_bounds(shape) || size(shape) != ravel.len() {
-        return Err(Lack::Words);
+fn shaped(shape: &[usize], ravel: Ravel) -> Option<Array> {
+    if is_in_bounds(shape) && size(shape) == ravel.len() {
+        Array::from_shape(shape, ravel).ok()
+    } else {
+        None
     }
-    Ok(Array::from_shape(shape, ravel)?)
 }
 
 impl Page {
@@ -108,7 +108,7 @@ impl Page {
         let letters = self.characters(word);
         let name = Name::new(&letters);
         if name.is_none() {
-            self.refuse(Lack::Words);
+            self.unknown();
         }
         name
     }
@@ -185,6 +185,10 @@ impl Page {
         let (shape, text) = text.split_once(':').unwrap_or(("", text));
         let ravel = self.ravel(text);
         let shape = self.counts(shape);
-        self.kept(shaped(&shape, ravel))
+        let array = shaped(&shape, ravel);
+        if array.is_none() {
+            self.unknown();
+        }
+        array
     }
 }

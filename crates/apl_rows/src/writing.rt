@@ -69,7 +69,7 @@ pub fn write_lent(page: &mut Page, value: Option<Lent<'_>>) {
 pub fn write_answer(page: &mut Page, answer: Result<Array, Stop>) {
     match answer {
         Ok(value) => write_value(page, Some(&value)),
-        Err(stop) => page.refuse(stop),
+        Err(stop) => page.refuse(&stop),
     }
 }
 
