@@ -1,5 +1,5 @@
 -- A run that is cut at its stops does what the same run does without them.
-use Rattle.std.proofs.Common.{◌≡◌, ℕ, zero, suc, ◌+◌, ◌*◌, ◌≤◌, List, [], ◌∷◌, ◌++◌, Bool, true, false, Option, Some, None, arith, ap, ◌∙◌, sym, refl, subst, ◌⊎◌, inl, inr}
+use Rattle.std.proofs.Common.{◌≡◌, ℕ, zero, suc, ◌+◌, ◌≤◌, List, [], ◌∷◌, ◌++◌, Bool, true, false, Option, Some, None, arith, ap, ◌∙◌, sym, refl, subst, ◌⊎◌, inl, inr}
 use Rattle.std.specs.Prelude.{if◌then◌else◌, not, ◌&&◌}
 use Rattle.apl_defn.specs.Definitions.{Text, Definition, is_line}
 use Rattle.apl_names.specs.Maps.{Map}
@@ -11,8 +11,7 @@ use Rattle.apl_machine_state.specs.Reports.{abandoned}
 use Rattle.apl_machine_state.specs.Calls.{begun_line, returned}
 use Rattle.apl_machine_state.specs.Changes.{Change, Rests, Moves, AsksStops, Arrives, change, change_in}
 use Rattle.apl_machine_state.specs.State.{State, Turn, turn, step, steps, is_idle, interrupt, interrupted, moved, comes_to, arrived, applied, stop_report}
-use Rattle.apl_session.specs.Events.{typed}
-use Rattle.apl_resume.specs.Cut.{free, resume_line, resumed, after_stop, cut_steps, stops_in, is_quiet, IsQuietRun, is_named_by, named_in, moves, cut_moves, after_moves, count}
+use Rattle.apl_resume.specs.Cut.{free, resumed, after_stop, cut_steps, stops_in, is_quiet, IsQuietRun, is_named_by, named_in, moves, count}
 use Rattle.apl_resume.proofs.Output.{plain-more, plain-stop}
 use Rattle.apl_resume.proofs.Resuming.{IsResumed, gone_on, resumed-by}
 
@@ -174,21 +173,6 @@ stops-named (suc n) s ready q =
     let there : stops_in n next ≡ named_in next.stops n (free next) = stops-named n next m.ready (subst (IsQuietRun n) (sym m.same) q.1) in
     ap (λ (k : ℕ). count (turn s).stopped + k) (there ∙ ap (λ (v : Vectors). named_in v n (free next)) m.stops ∙ ap (named_in s.stops n) m.same)
     ∙ ap (λ (b : Bool). count b + named_in s.stops n (step (free s))) here
-
-moves-of : (b : Bool) (s : State) → (b ≡ true → IsResumed s) → (if b then moves 2 (typed s resume_line) else 0) ≡ 2 * count b
-moves-of true s r = (r refl).taken
-moves-of false s r = refl
-
--- THE STEPS of the cut run are those of the other run and two for each stop.
-pub moves-cut : (n : ℕ) (s : State) → IsReady s → IsQuietRun n (free s) → cut_moves n s ≡ moves n (free s) + 2 * stops_in n s
-moves-cut zero s ready q = refl
-moves-cut (suc n) s ready q =
-    let m : StepMatches s = matches s ready q.0 in
-    let next : State = after_stop (turn s) in
-    let there : cut_moves n next ≡ moves n (free next) + 2 * stops_in n next = moves-cut n next m.ready (subst (IsQuietRun n) (sym m.same) q.1) in
-    let here : after_moves (turn s) ≡ 2 * count (turn s).stopped = moves-of (turn s).stopped (turn s).state (turn-resumed s ready) in
-    let same : moves n (free next) ≡ moves n (step (free s)) = ap (moves n) m.same in
-    omega arith
 
 count-most : (b : Bool) → count b ≤ 1
 count-most true = omega arith

@@ -6,11 +6,11 @@ use Rattle.apl_vectors.specs.Vectors.{Vectors}
 use Rattle.apl_machine_state.specs.Changes.{Change, Rests, Moves, AsksStops, Arrives, change}
 use Rattle.apl_machine_state.specs.State.{State, turn, step, steps, is_idle, interrupt}
 use Rattle.apl_session.specs.Events.{typed}
-use Rattle.apl_resume.specs.Cut.{free, unstopped, resumed, after_stop, cut_steps, stops_in, IsQuietRun, is_named_by, named_in, moves, cut_moves, count}
-use Rattle.apl_resume.specs.Law.{CutIsUncut, CutInSingleSteps}
+use Rattle.apl_resume.specs.Cut.{free, unstopped, resumed, after_stop, cut_steps, cut_by, stops_in, stops_by, IsQuietRun, is_named_by, named_in, moves, moves_by, count}
+use Rattle.apl_resume.specs.Law.{CutIsUncut, CutInSingleSteps, IsSameAfter}
 use Rattle.apl_resume.proofs.Typing.{IsLine, IsSettled, settled_line, typed_line}
-use Rattle.apl_resume.proofs.Stops.{IsReady, StepMatches, matches, cut-free, stops-named, moves-cut, stops-most, interrupt-free, applied-stops, idle-rests, step-idle}
-use Rattle.apl_resume.proofs.Single.{single-steps, single-stops, budget-lasts}
+use Rattle.apl_resume.proofs.Stops.{IsReady, StepMatches, matches, cut-free, stops-named, stops-most, interrupt-free, applied-stops, idle-rests, step-idle}
+use Rattle.apl_resume.proofs.Single.{single-steps, single-stops, single-moves, budget-lasts}
 
 -- in a run without stop vectors nothing stops
 never : (b : Bool) → (b && false) ≡ false
@@ -101,6 +101,22 @@ cut_in_single_steps x line n idle =
       lasts = budget-lasts n s ready;
       state = ap interrupt (sym (single-steps n s ready));
       stops = sym (single-stops n s ready);
+      on_the_way = λ k. single-steps k s ready;
+      stops_on_the_way = λ k. single-stops k s ready;
+    }
+
+-- what is known of k steps of both runs, over the single steps of the one
+same-after : (vectors : Vectors) (s u : State) (k : ℕ) → IsReady s → IsQuietRun k (free s) → stops_in k s ≡ named_in vectors k u → free (cut_steps k s) ≡ free (steps k u)
+    → moves k (free s) ≡ moves k u → IsSameAfter vectors s u k
+same-after vectors s u k ready quiet named same taken =
+    let here : cut_by (k + 2 * named_in vectors k u) s ≡ cut_steps k s = ap (λ (j : ℕ). cut_by (k + 2 * j) s) (sym named) ∙ single-steps k s ready in
+    let by_stops : moves_by (k + 2 * named_in vectors k u) s ≡ moves_by (k + 2 * stops_in k s) s = ap (λ (j : ℕ). moves_by (k + 2 * j) s) (sym named) in
+    let made : moves_by (k + 2 * stops_in k s) s ≡ moves k (free s) + 2 * stops_in k s = single-moves k s ready quiet in
+    record {
+      same = ap free here ∙ same;
+      stops = ap (λ (j : ℕ). stops_by (k + 2 * j) s) (sym named) ∙ single-stops k s ready ∙ named;
+      steps_taken = omega arith;
+      both_idle = ap is_idle (ap free here ∙ same);
     }
 
 -- THE LAW
@@ -115,23 +131,21 @@ cut_is_uncut x line n idle quiet =
     let freed : (k : ℕ) → k ≤ n → IsFreed k u = λ (k : ℕ) (le : k ≤ n). freed_run k u (other.emptied refl) (ready-line (unstopped x) u other.settled) (quiet-front k n u le quiet) in
     let quiet_s : (k : ℕ) → k ≤ n → IsQuietRun k (free s) = λ (k : ℕ) (le : k ≤ n). subst (IsQuietRun k) (sym both) (freed k le).quiet in
     let way : (k : ℕ) → k ≤ n → free (cut_steps k s) ≡ free (steps k u) = λ (k : ℕ) (le : k ≤ n). cut-free k s ready (quiet_s k le) ∙ ap (steps k) both ∙ sym (freed k le).states in
+    let taken : (k : ℕ) → k ≤ n → moves k (free s) ≡ moves k u = λ (k : ℕ) (le : k ≤ n). ap (moves k) both ∙ sym (freed k le).taken in
+    let named : (k : ℕ) → k ≤ n → stops_in k s ≡ named_in x.stops k u = λ (k : ℕ) (le : k ≤ n).
+    stops-named k s ready (quiet_s k le) ∙ ap (named_in s.stops k) both ∙ sym ((freed k le).lines s.stops) ∙ named-vectors x.stops s.stops k s u (stops-line x s known.settled) (sym (ap is_idle both)) in
     let all : n ≤ n = omega arith in
     record {
       at_the_end = interrupt-free (cut_steps n s) ∙ ap interrupt (way n all) ∙ sym (interrupt-free (steps n u));
-      on_the_way = way;
-      interrupted = λ runs.
-          let made : moves n u ≡ n = all-moves n u runs in
-          let a : cut_moves n s ≡ moves n (free s) + 2 * stops_in n s = moves-cut n s ready (quiet_s n all) in
-          let b : moves n (free s) ≡ moves n u = ap (moves n) both ∙ sym (freed n all).taken in
-          (made, omega arith, way n all);
-      stops = λ k le. stops-named k s ready (quiet_s k le) ∙ ap (named_in s.stops k) both ∙ sym ((freed k le).lines s.stops) ∙ named-vectors x.stops s.stops k s u (stops-line x s known.settled) (sym (ap is_idle both));
-      steps_taken = λ k le.
-          let a : cut_moves k s ≡ moves k (free s) + 2 * stops_in k s = moves-cut k s ready (quiet_s k le) in
-          let b : moves k (free s) ≡ moves k u = ap (moves k) both ∙ sym (freed k le).taken in
-          a ∙ ap (λ (j : ℕ). j + 2 * stops_in k s) b;
+      on_the_way = λ k le. same-after x.stops s u k ready (quiet_s k le) (named k le) (way k le) (taken k le);
+      stops = named;
       at_most =
           let a : stops_in n s ≤ moves n (free s) = stops-most n s ready (quiet_s n all) in
-          let b : moves n (free s) ≡ moves n u = ap (moves n) both ∙ sym (freed n all).taken in
+          let b : moves n (free s) ≡ moves n u = taken n all in
           omega arith;
-      both_idle = λ k le. ap is_idle (way k le);
+      interrupted = λ runs.
+          let made : moves n u ≡ n = all-moves n u runs in
+          let a : moves_by (n + 2 * stops_in n s) s ≡ moves n (free s) + 2 * stops_in n s = single-moves n s ready (quiet_s n all) in
+          let b : moves n (free s) ≡ moves n u = taken n all in
+          (made, omega arith, ap free (single-steps n s ready) ∙ way n all);
     }

@@ -79,15 +79,6 @@ abbrev pub moves : ℕ → State → ℕ
 moves zero s = 0
 moves (suc n) s = count (not (is_idle s)) + moves n (step s)
 
--- how many of the two steps that answer a stop don't begin idle
-abbrev pub after_moves : Turn → ℕ
-after_moves t = if t.stopped then moves 2 (typed t.state resume_line) else 0
-
--- the same of a cut run of n steps, with those that answer its stops
-abbrev pub cut_moves : ℕ → State → ℕ
-cut_moves zero s = 0
-cut_moves (suc n) s = count (not (is_idle s)) + after_moves (turn s) + cut_moves n (after_stop (turn s))
-
 -- single steps, where each stop is answered at once by the line →⎕LC
 abbrev pub answered : Turn → State
 answered t = if t.stopped then typed t.state resume_line else t.state
@@ -100,3 +91,8 @@ cut_by (suc n) s = cut_by n (answered (turn s))
 abbrev pub stops_by : ℕ → State → ℕ
 stops_by zero s = 0
 stops_by (suc n) s = count (turn s).stopped + stops_by n (answered (turn s))
+
+-- how many of n single steps don't begin idle
+abbrev pub moves_by : ℕ → State → ℕ
+moves_by zero s = 0
+moves_by (suc n) s = count (not (is_idle s)) + moves_by n (answered (turn s))
