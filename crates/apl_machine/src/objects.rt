@@ -8,10 +8,19 @@ ghost use Rattle.apl_machine.specs.Spaces.{IsSound, state_of};
 
 use crate::workspace::Workspace;
 use apl_arrays::Origin;
+use apl_contexts::Lines;
 use apl_defn::Definition;
 use apl_names::{Binding, DefinedFunction};
 use apl_symbols::Name;
 use std::alloc::AllocError;
+
+/// Functions go, and so does what is kept of them: lines, and calls that are over. What stands goes on.
+fn forget(workspace: &mut Workspace)
+    ensures { workspace.new ≡ workspace.old }
+{
+    workspace.lines = Lines::new(workspace.alloc);
+    workspace.contexts.trim();
+}
 
 /// Defines a function, in the place of what its name stood for globally, with empty stop and trace
 /// vectors. After an error nothing has changed.
@@ -27,6 +36,7 @@ pub(crate) fn define(workspace: &mut Workspace, definition: Definition) -> Resul
     workspace.names.function(&name, function)?;
     workspace.stops.remove(&name);
     workspace.traces.remove(&name);
+    forget(workspace);
     Ok(())
 }
 
@@ -70,6 +80,7 @@ pub(crate) fn erase(workspace: &mut Workspace, names: &[Name])
     for name in names {
         erase_one(workspace, name);
     }
+    forget(workspace);
 }
 
 /// Makes it a clear workspace, with the output that is written.
@@ -83,4 +94,5 @@ pub(crate) fn clear(workspace: &mut Workspace)
     workspace.traces.clear();
     workspace.io = Origin::One;
     workspace.contexts.clear();
+    forget(workspace);
 }
