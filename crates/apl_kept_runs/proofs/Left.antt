@@ -14,7 +14,7 @@ use Rattle.apl_runs.specs.Transcript.{after_lines}
 use Rattle.apl_runs.specs.Ways.{Way}
 use Rattle.apl_kept_sessions.proofs.Sessions.{sessions-reached}
 use Rattle.apl_kept_runs.proofs.Kept.{without-definition}
-use Rattle.apl_kept_runs.specs.Promises.{CanBeKept, CutRunsCanBeKept, IsLeftWhole, LeavesWhole, RunsCanBeKept, left_by}
+use Rattle.apl_kept_runs.specs.Promises.{CanBeKept, CutRunsCanBeKept, LeavesWhole, RunsCanBeKept, left_by}
 
 -- an idle state to which a machine comes, with no definition open
 kept-left : (s : State) → IsReached s → is_idle s ≡ true → s.definition ≡ None → CanBeKept s

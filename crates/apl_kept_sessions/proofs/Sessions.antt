@@ -1,7 +1,5 @@
 -- What is typed makes a state that can be saved of such a state, and one to which a machine comes of such a one.
-use Rattle.std.proofs.Common.{List, Option}
-use Rattle.apl_defn.specs.Definitions.{Text}
-use Rattle.apl_machine_state.specs.State.{State, clear}
+use Rattle.apl_machine_state.specs.State.{clear}
 use Rattle.apl_session.specs.Events.{after}
 use Rattle.apl_savable.specs.Savable.{IsSavable}
 use Rattle.apl_savable.specs.Reached.{IsReached, stepped, interrupted, typed, with_definition, without_objects, emptied, told, defining}
