@@ -5,7 +5,7 @@ use Rattle.std.specs.List.{AllByRecursion}
 use Rattle.apl_runs.specs.Transcript.{ended, unfinished, complete_lines, last_line, lines_of, without_return, after_lines, transcript_of, transcript}
 use Rattle.apl_devices.specs.Devices.{Extends}
 use Rattle.apl_runs.specs.Ways.{Way, IsInOrder}
-use Rattle.apl_runs.specs.Runs.{IsWithinLimits, HasEnded, IsDue, IsWritten, text_taken, StoppedAt, EndsRun, StopsWriting, Writes, ReadsLine, ReadsEnd, IsPiece, BeginsWithLine, IsLast}
+use Rattle.apl_runs.specs.Runs.{IsWithinLimits, HasEnded, IsDue, IsInTurn, IsWritten, text_taken, StoppedAt, EndsRun, StopsWriting, Writes, ReadsLine, ReadsEnd, IsPiece, BeginsWithLine, IsLast}
 use Rattle.apl_runs.specs.declared.runs.RunError.{RunError}
 use Rattle.apl_runs.specs.declared.runs.RunError.TheVariants.{Read, Write, Memory, LineTooLong, TooManyLines}
 use Rattle.apl_runs.proofs.Reading.{ended-behind_line, unfinished-behind_line, ended-behind_piece, unfinished-behind_piece, map-append_one, all-append_one, unbroken-more, last_line-length, complete-length}
@@ -120,6 +120,18 @@ piece-more piece byte p other room = record {
   short = omega (arith, length-append piece (byte ∷ []));
 }
 
+-- These lines have written all that they write, and at most one more was taken.
+in-turn : {S : Type 0} (way : Way S) (ws : S) (taken old mid new : List ℕ) (first lines : List (List ℕ)) → length lines ≤ 1 → lines_of taken ≡ first ++ lines →
+    mid ≡ old ++ transcript_of way ws first → (more : List ℕ) → new ≡ mid ++ more → IsInTurn way ws taken old new
+in-turn way ws taken old mid new first lines one all wrote more behind = record {
+  done = first;
+  last = lines;
+  one = one;
+  lines = all;
+  more = more;
+  wrote = behind ∙ ap (λ (m : List ℕ). m ++ more) wrote;
+}
+
 module _ {S : Type 0} (way : Way S) (order : IsInOrder way) where
   reached-took : (ws : S) (before left left' : List ℕ) (tells : Bool) (old mid new : List ℕ) (s s' : S) (count : ℕ) (line : List ℕ)
       (r : Reached way ws before left tells old mid s count) → Took r.taken count line before left' →
@@ -148,14 +160,15 @@ module _ {S : Type 0} (way : Way S) (order : IsInOrder way) where
 
   -- an error of doing what was taken last
   stopped-writing : (e : RunError) (ws : S) (before left' taken : List ℕ) (tells : Bool) (old new : List ℕ) → before ≡ taken ++ left' → IsWithinLimits taken → StopsWriting e →
-      (IsTrue tells → Extends old new (text_taken way ws taken left')) → StoppedAt e way ws before left' tells old new
-  stopped-writing e ws before left' taken tells old new read fits h x = record {
+      (IsTrue tells → Extends old new (text_taken way ws taken left')) → (IsTrue tells → IsInTurn way ws taken old new) → StoppedAt e way ws before left' tells old new
+  stopped-writing e ws before left' taken tells old new read fits h x turn = record {
     taken = taken;
     refused = [];
     read = read ∙ ap (λ (t : List ℕ). t ++ left') (sym (append-nil taken));
     within = fits;
     due = due-writing e taken h;
     wrote = λ t. written-writing e ws taken left' old new h (x t);
+    in_turn = turn;
   }
 
   -- a front of what whole lines write is one of what may be written
@@ -190,6 +203,7 @@ module _ {S : Type 0} (way : Way S) (order : IsInOrder way) where
       (subst (λ (xs : List (List ℕ)). Extends old new (transcript_of way ws xs)) (sym k.lines)
       (subst (λ (text : List ℕ). Extends old new text) (sym (transcript-append way order ws s (complete_lines r.taken) (shown ∷ []) r.state))
       (extends-second old mid new before_it (transcript_of way s (shown ∷ [])) (r.wrote t) (x.1 t)))))
+      (λ t. in-turn way ws k.all old mid new (complete_lines r.taken) (shown ∷ []) (omega arith) (lines-whole k.all k.whole ∙ k.lines) (r.wrote t) (x.1 t).front (x.1 t).added)
 
   -- Nothing is left, and these are the lines behind the complete ones.
 
@@ -214,22 +228,23 @@ module _ {S : Type 0} (way : Way S) (order : IsInOrder way) where
 
   -- doing them or the end has failed
   unfinished-end : (e : RunError) (ws : S) (before left left' : List ℕ) (tells : Bool) (old mid new : List ℕ) (s : S) (count : ℕ) (lines : List (List ℕ))
-      (r : Reached way ws before left tells old mid s count) → lines_of before ≡ complete_lines r.taken ++ lines → IsWithinLimits before → left' ≡ [] →
+      (r : Reached way ws before left tells old mid s count) → length lines ≤ 1 → lines_of before ≡ complete_lines r.taken ++ lines → IsWithinLimits before → left' ≡ [] →
       Writes {A = Unit {0}} (Err e) (way.unwritten (way.at_end (after_lines way s lines))) tells mid new → StoppedAt e way ws before left' tells old new
-  unfinished-end e ws before left left' tells old mid new s count lines r all fits end x =
+  unfinished-end e ws before left left' tells old mid new s count lines r one all fits end x =
       let first : List (List ℕ) = complete_lines r.taken in
       stopped-writing e ws before left' before tells old new (sym (append-nil before) ∙ ap (λ (b : List ℕ). before ++ b) (sym end)) fits x.0
       (λ t. subst (λ (after : List ℕ). Extends old new (text_taken way ws before after)) (sym end)
       (subst (λ (xs : List (List ℕ)). Extends old new (way.unwritten (way.at_end (after_lines way ws xs)))) (sym all)
       (subst (λ (text : List ℕ). Extends old new text) (sym (transcript-end way order ws s first lines r.state))
       (extends-second old mid new (transcript_of way ws first) (way.unwritten (way.at_end (after_lines way s lines))) (r.wrote t) (x.1 t)))))
+      (λ t. in-turn way ws before old mid new first lines one all (r.wrote t) (x.1 t).front (x.1 t).added)
 
   finishes : (result : Result (Unit {0}) RunError) (ws : S) (before left left' : List ℕ) (tells : Bool) (old mid new : List ℕ) (s s' : S) (count : ℕ) (lines : List (List ℕ))
-      (r : Reached way ws before left tells old mid s count) → lines_of before ≡ complete_lines r.taken ++ lines → IsWithinLimits before → left' ≡ [] →
+      (r : Reached way ws before left tells old mid s count) → length lines ≤ 1 → lines_of before ≡ complete_lines r.taken ++ lines → IsWithinLimits before → left' ≡ [] →
       OnOk result (s' ≡ way.quiet (way.at_end (after_lines way s lines))) → Writes result (way.unwritten (way.at_end (after_lines way s lines))) tells mid new →
       EndsRun result way ws s' before left' tells old new
-  finishes (Ok x) ws before left left' tells old mid new s s' count lines r all fits end state wrote = finished ws before left left' tells old mid new s s' count lines r all fits end state wrote
-  finishes (Err e) ws before left left' tells old mid new s s' count lines r all fits end state wrote = unfinished-end e ws before left left' tells old mid new s count lines r all fits end wrote
+  finishes (Ok x) ws before left left' tells old mid new s s' count lines r one all fits end state wrote = finished ws before left left' tells old mid new s s' count lines r all fits end state wrote
+  finishes (Err e) ws before left left' tells old mid new s s' count lines r one all fits end state wrote = unfinished-end e ws before left left' tells old mid new s count lines r one all fits end wrote
 
   -- The last line was read, and is done or has failed.
 
@@ -239,7 +254,7 @@ module _ {S : Type 0} (way : Way S) (order : IsInOrder way) where
       EndsRun result way ws s' before left' tells old new
   ends-with_last result ws before left left' tells old mid new s s' count line r few b state wrote =
       let all : before ≡ r.taken ++ line = read-all r.taken line before left left' r.read b in
-      finishes result ws before left left' tells old mid new s s' count (last_line line) r
+      finishes result ws before left left' tells old mid new s s' count (last_line line) r (last_line-length line)
       (ap lines_of all ∙ lines-piece r.taken line r.whole b.is_piece)
       (subst IsWithinLimits (sym all) (within-piece r.taken line count r.whole r.short r.counted b.is_piece few)) b.end state wrote
 
@@ -263,6 +278,7 @@ module _ {S : Type 0} (way : Way S) (order : IsInOrder way) where
     within = within-piece r.taken piece count r.whole r.short r.counted p few;
     due = due;
     wrote = wrote;
+    in_turn = λ t. in-turn way ws (r.taken ++ piece) old new new (complete_lines r.taken) (last_line piece) (last_line-length piece) (lines-piece r.taken piece r.whole p) (r.wrote t) [] (sym (append-nil new));
   }
 
   -- all that the complete lines write
@@ -307,6 +323,10 @@ module _ {S : Type 0} (way : Way S) (order : IsInOrder way) where
 
   -- Behind the last line that may be,
 
+  turn-whole : (ws : S) (before left : List ℕ) (tells : Bool) (old new : List ℕ) (s : S) (count : ℕ) (r : Reached way ws before left tells old new s count) → IsTrue tells → IsInTurn way ws r.taken old new
+  turn-whole ws before left tells old new s count r t =
+      in-turn way ws r.taken old new new (complete_lines r.taken) [] (omega arith) (lines-whole r.taken r.whole ∙ sym (append-nil (complete_lines r.taken))) (r.wrote t) [] (sym (append-nil new))
+
   -- the reader fails
   stopped-at_end : (ws : S) (before left left' : List ℕ) (tells : Bool) (old new : List ℕ) (s : S) (count : ℕ) →
       Reached way ws before left tells old new s count → count ≡ 1000000 → left' ≡ left → StoppedAt Read way ws before left' tells old new
@@ -317,6 +337,7 @@ module _ {S : Type 0} (way : Way S) (order : IsInOrder way) where
     within = within-whole r.taken count r.whole r.short r.counted (omega arith);
     due = refl;
     wrote = r.wrote;
+    in_turn = λ t. turn-whole ws before left tells old new s count r t;
   }
 
   -- a line more begins
@@ -329,6 +350,7 @@ module _ {S : Type 0} (way : Way S) (order : IsInOrder way) where
     within = within-whole r.taken count r.whole r.short r.counted (omega arith);
     due = (r.counted ∙ full, r.whole, refl);
     wrote = r.wrote;
+    in_turn = λ t. turn-whole ws before left tells old new s count r t;
   }
 
   pub stopped-full : (e : RunError) (ws : S) (before left left' : List ℕ) (tells : Bool) (old new : List ℕ) (s : S) (count : ℕ) →
@@ -345,6 +367,6 @@ module _ {S : Type 0} (way : Way S) (order : IsInOrder way) where
       OnOk result (s' ≡ way.quiet (way.at_end s)) → Writes result (way.unwritten (way.at_end s)) tells mid new → EndsRun result way ws s' before left' tells old new
   ends-full result ws before left left' tells old mid new s s' count r full e f state wrote =
       let all : before ≡ r.taken = r.read ∙ ap (λ (x : List ℕ). r.taken ++ x) e ∙ append-nil r.taken in
-      finishes result ws before left left' tells old mid new s s' count [] r
+      finishes result ws before left left' tells old mid new s s' count [] r (omega arith)
       (ap lines_of all ∙ lines-whole r.taken r.whole ∙ sym (append-nil (complete_lines r.taken)))
       (subst IsWithinLimits (sym all) (within-whole r.taken count r.whole r.short r.counted (omega arith))) f state wrote

@@ -51,6 +51,16 @@ IsWritten Read way s taken after old new = new ≡ old ++ transcript_of way s (c
 IsWritten LineTooLong way s taken after old new = new ≡ old ++ transcript_of way s (complete_lines taken)
 IsWritten TooManyLines way s taken after old new = new ≡ old ++ transcript_of way s (complete_lines taken)
 
+-- Lines are done in turn: of those that were taken all but the last have written all that they write. So what a line writes is written before the next line
+-- is read, and where the writer fails nothing was read behind the line that it failed at.
+pub record IsInTurn {S : Type 0} (way : Way S) (s : S) (taken old new : List ℕ) : Type 0 where
+  pub done : List (List ℕ)
+  pub last : List (List ℕ)
+  pub one : length last ≤ 1
+  pub lines : lines_of taken ≡ done ++ last
+  pub more : List ℕ
+  pub wrote : new ≡ old ++ transcript_of way s done ++ more
+
 -- Where a run from s in a way stopped: it took an input within the limits, read the refused byte behind it, if there is one, and nothing further, and wrote what is due by then.
 pub record StoppedAt {S : Type 0} (error : RunError) (way : Way S) (s : S) (before after : List ℕ) (tells : Bool) (old new : List ℕ) : Type 0 where
   pub taken : List ℕ
@@ -59,6 +69,7 @@ pub record StoppedAt {S : Type 0} (error : RunError) (way : Way S) (s : S) (befo
   pub within : IsWithinLimits taken
   pub due : IsDue error taken refused
   pub wrote : IsTrue tells → IsWritten error way s taken after old new
+  pub in_turn : IsTrue tells → IsInTurn way s taken old new
 
 -- how a run from s to s' ends
 abbrev pub EndsRun : {A S : Type 0} → Result A RunError → Way S → S → S → List ℕ → List ℕ → Bool → List ℕ → List ℕ → Type 0
