@@ -12,7 +12,6 @@ import enum
 import functools
 import glob
 import hashlib
-import json
 import os
 import re
 import shutil
@@ -188,28 +187,6 @@ def check(rt: ModuleType, crate: Any, folder: str, words: list[str]) -> tuple[in
         return status, said.read()
 
 
-def lay_out(rt: ModuleType, crate: Any, to: str) -> bool:
-    """Makes a folder of kept work of the modules that a built library holds, so that a check of the crate begins with what its own proof made.
-    Returns whether it could: a program has no library."""
-    made = f"{crate.rlib}/toolchain" if crate.makes_rlib() else ""
-    if not os.path.isfile(f"{made}/checked.a"):
-        return False
-    os.mkdir(to)
-    # (the checker names the folder within, by its build)
-    check(rt, crate, crate.folder, ["--incremental", to, "--only", ""])
-    within = glob.glob(f"{to}/*/")
-    if len(within) != 1:
-        return False
-    with open(f"{made}/checked.a", "rb") as archive:
-        for line in text_of(f"{made}/checked.json").splitlines():
-            name, at, size = json.loads(line)
-            if "/" not in name:
-                archive.seek(at)
-                with open(f"{within[0]}/{name}.oantt", "wb") as file:
-                    file.write(archive.read(size))
-    return True
-
-
 class Trial:
     """The mutants of one crate, tried over what is proved of it."""
 
@@ -217,17 +194,22 @@ class Trial:
         self.rt, self.crate, self.room = rt, crate, room
         self.seed: str | None = None
 
-    def known(self) -> list[str]:
-        """Returns the checker's names of the crate's functions, by what the built library holds."""
-        listed = f"{self.crate.rlib}/toolchain/checked.json" if self.crate.makes_rlib() else ""
-        start = f"Rattle-{self.crate.name}-proofs."
-        found = [json.loads(line)[0] for line in text_of(listed).split("\n") if line]
-        return [it[len(start) : -len(".Code")].replace(".", "::") for it in found if it.startswith(start) and it.endswith(".Code")]
-
     def begin(self) -> None:
-        """Makes the folder of kept work that each check begins with."""
-        if lay_out(self.rt, self.crate, f"{self.room}/seed"):
+        """Finds the kept work that each check begins with: that of the crate's folder, or else of a check that is made now. A program
+        of few mutants has none."""
+        kept = f"{self.crate.folder}/out/incremental"
+        if os.path.isdir(kept):
+            self.seed = kept
+        elif made := self.rt.seeded(self.crate, ["--jobs", "1"]):
+            shutil.move(f"{made}/seed", self.room)
+            shutil.rmtree(made, ignore_errors=True)
             self.seed = f"{self.room}/seed"
+
+    def known(self) -> list[str]:
+        """Returns the checker's names of the crate's functions, by what is kept."""
+        start, end = f"Rattle-{self.crate.name}-proofs.", ".Code.oantt"
+        files = glob.glob(f"{glob.escape(self.seed)}/*/{start}*{end}") if self.seed else []
+        return [os.path.basename(it)[len(start) : -len(end)].replace(".", "::") for it in files]
 
     def check(self, texts: dict[str, str], words: list[str], kept: str | None) -> tuple[int, str]:
         """Checks a copy of the crate with these texts, and returns the status and what was said."""
@@ -350,6 +332,7 @@ def tried(rt: ModuleType, crate: Any, paths: list[str]) -> Iterator[tuple[str, T
     """Tries a crate's mutants, of which each one's path is given with what came of it. The crate, and what it stands on, must be built."""
     with tempfile.TemporaryDirectory(prefix=f"rt-edits-{os.getpid()}-") as room:
         trial = Trial(rt, crate, room)
+        trial.begin()
         known = trial.known()
         good = []
         for path in paths:
@@ -358,8 +341,6 @@ def tried(rt: ModuleType, crate: Any, paths: list[str]) -> Iterator[tuple[str, T
                 yield path, Told(Outcome.BAD, why)
             else:
                 good.append(read_mutant(path, crate.folder, known))
-        if good:
-            trial.begin()
         for mutant, told in trial.all(good):
             yield mutant.path, told
 

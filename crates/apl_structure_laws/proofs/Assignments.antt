@@ -27,7 +27,7 @@ use Rattle.apl_select.specs.Assignment.{assigned_at, fits_over, last_to, overlai
 use Rattle.apl_select.specs.Indexing.{Places, indexed, joined_shape, led_to}
 use Rattle.apl_select.specs.Lined.{item_or, place_served}
 use Rattle.apl_select.specs.inside.Reached.{AreOnAxes}
-use Rattle.apl_select.specs.inside.Written.{AreEnough}
+use Rattle.apl_arrays.specs.Written.{AreEnough}
 use Rattle.apl_select.proofs.Fits.{fits_enough}
 use Rattle.apl_select.proofs.Reaching.{led_within}
 use Rattle.apl_structure_laws.specs.Assignments.{AreAssigned, LastStands, LeadsLast, ReadsBack}
