@@ -7,11 +7,11 @@ use Rattle.std.proofs.lemmas.Int.{ints, unsigned_abs-mul}
 use Rattle.std.proofs.lemmas.List.FromFn.{map-range_with_len_more}
 use Rattle.std.proofs.Math.Nat.{mul-le-mul_right}
 use Rattle.apl_folds.specs.inside.Sums.{total}
-use Rattle.apl_folds.proofs.ByPlaces.{all_small}
 use Rattle.apl_folds.proofs.Totals.{fits_below}
 use Rattle.apl_operators.specs.declared.joint.Joint.{Joint}
 use Rattle.apl_operators.specs.inside.SumsOfProducts.{product_of, AreWithin}
 use Rattle.apl_operators.specs.inside.NarrowProducts.{AreNarrow, IsColumn, Meets, dot, sum_in, SumsBefore}
+use Rattle.apl_operators.proofs.SmallNumbers.{all_small}
 
 total_end : (zs : List ℤ) (z : ℤ) → total (zs ++ z ∷ []) ≡ total zs +ℤ z
 total_end [] z = omega (arith, ints)

@@ -1,5 +1,5 @@
 -- Products of small numbers.
-use Rattle.std.proofs.Common.{◌≡◌, ◌↔◌, ℕ, ℤ, pos, ◌*ℤ◌, ◌≤ℤ◌, ◌<◌, ◌≤◌, ◌^◌, Ok, FitsSigned, ap, sym, ◌∙◌, arith, w64}
+use Rattle.std.proofs.Common.{zero, suc, ◌≡◌, ◌↔◌, ℕ, ℤ, pos, ◌*ℤ◌, ◌≤ℤ◌, ◌<◌, ◌≤◌, ◌^◌, List, [], ◌∷◌, length, get_or, Ok, FitsSigned, ap, sym, ◌∙◌, arith, w64}
 use Rattle.std.specs.Prelude.{bit_or, unsigned_abs}
 use Rattle.std.specs.Int.{w32}
 use Rattle.std.proofs.lemmas.Int.{ints, fits_signed_mul}
@@ -25,3 +25,9 @@ both_small x y f s t bound hx hy e hf = (
   λ h. let l : bound < 2 ^ 32 = hf.0 h in (hx.0 (omega (arith, le_or_l s t)), hy.0 (omega (arith, le_or_r s t))),
   λ h. hf.1 (omega (arith, or_lt 32 s t (hx.1 h.0) (hy.1 h.1))),
 )
+
+-- the numbers of a list are within a bound, and so is what stands for a number beyond its end
+pub all_small : (zs : List ℤ) (bound : ℕ) → ((k : ℕ) → k < length zs → unsigned_abs (get_or zs k (pos 0)) ≤ bound) → (k : ℕ) → unsigned_abs (get_or zs k (pos 0)) ≤ bound
+all_small [] bound h k = omega arith
+all_small (z ∷ zs) bound h zero = h 0 (omega arith)
+all_small (z ∷ zs) bound h (suc k) = all_small zs bound (λ j l. h (suc j) (omega arith)) k

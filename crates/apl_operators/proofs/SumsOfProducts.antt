@@ -17,13 +17,13 @@ use Rattle.apl_scalar.proofs.Signs.{in_range-fits}
 use Rattle.apl_scalar.proofs.Whole.{all_values}
 use Rattle.apl_folds.specs.Folds.{folded}
 use Rattle.apl_folds.specs.inside.Sums.{total, magnitudes}
-use Rattle.apl_folds.proofs.ByPlaces.{all_small}
 use Rattle.apl_folds.proofs.Rights.{folded_numbers}
 use Rattle.apl_folds.proofs.Totals.{total_small, fits_below, fold_total}
 use Rattle.apl_operators.specs.declared.joint.Joint.{Joint}
 use Rattle.apl_operators.specs.Products.{extended_index}
 use Rattle.apl_operators.specs.Joints.{met, folds_met, row_place, column_place}
 use Rattle.apl_operators.specs.inside.SumsOfProducts.{product_of, sum_from, IsMore, FitTogether, AreSums, sum_at}
+use Rattle.apl_operators.proofs.SmallNumbers.{all_small}
 
 -- a bound of products from bounds of their factors, as the code tests it
 bound_fits : (n p q : ℕ) → q ≡ min (n * p) (2 ^ 64 - 1) → q < 2 ^ 63 → n * p < 2 ^ 63
