@@ -136,9 +136,9 @@ def batch_of(mutants: list[Mutant], folder: str) -> tuple[list[Mutant], dict[str
     return chosen, texts
 
 
-# What the checker says of a function whose own proof it looked at, and of one whose proof says nothing since it calls one that failed.
+# What the checker says of a function, and of one whose proof says nothing, where no error is told of it, since it calls one that failed.
 VERDICT = re.compile(r"^fn (\S+): (.*)$", re.M)
-HIDDEN = re.compile(r"no proof: it calls ")
+HIDDEN = re.compile(r"(no proof:|not proved;) it calls ")
 NAMES = re.compile(r"(note: )?(\./)?proofs/.*(has no field|is not in scope|has no `|was not admitted)")
 
 
@@ -160,9 +160,9 @@ def judged(mutant: Mutant, told: dict[str, str], said: str) -> Told | None:
     # a closure's name is that of its function, behind the word fn
     mine = {name: what for name, what in told.items() if any(is_within(name, it) for it in mutant.functions)}
     for name, what in mine.items():
-        if what.startswith("not proved") or (what.startswith("no proof") and not HIDDEN.match(what)):
-            words = own_words(said, name)
-            others = [it for it in words if not NAMES.match(it)]
+        words = own_words(said, name)
+        others = [it for it in words if not NAMES.match(it)]
+        if what.startswith(("not proved", "no proof")) and (others or not HIDDEN.match(what)):
             if words and not others and not re.search(r"(?m)^note: src/\S+: it is not proved that", said):
                 return Told(Outcome.BY_NAMES, words[0])
             return Told(Outcome.REFUSED, (others or [f"{name}: {what}"])[0])
