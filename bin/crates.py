@@ -50,7 +50,7 @@ def in_lanes(crates, work, in_order=True):
     for crate in sorted(crates, key=lambda it: -len(it.below())):
         behind[crate] = size(crate) + max((behind[it] for it in behind if crate in it.below()), default=0)
     left, running, well = sorted(crates, key=lambda it: -behind[it]), {}, set()
-    lanes = os.cpu_count() or 1
+    lanes = len(os.sched_getaffinity(0))
     with ThreadPoolExecutor(lanes) as pool:
         while left or running:
             ready = [it for it in left if not in_order or all(low not in behind or low in well for low in it.below())]
