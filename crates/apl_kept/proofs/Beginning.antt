@@ -31,8 +31,8 @@ interrupt-reached s h = sessions-reached s (Interrupt ∷ []) h
 
 -- a call that may be refused leads from one state to another, or leaves it
 either : {A E : Type 0} (r : Result A E) (s t u : State) → OnOk r (t ≡ u) → OnErr r (t ≡ s) → IsReached s → IsReached u → IsReached t
-either (Ok x) s t u ok err old new = subst IsReached (sym ok) new
-either (Err e) s t u ok err old new = subst IsReached (sym err) old
+either (Ok x) s t u ok err h g = subst IsReached (sym ok) g
+either (Err e) s t u ok err h g = subst IsReached (sym err) h
 
 pub fed : {A E : Type 0} (r : Result A E) (s t : State) (line : List ℕ) → OnOk r (t ≡ typed s line) → OnErr r (t ≡ s) → IsReached s → IsReached t
 fed r s t line ok err h = either r s t (typed s line) ok err h (typed-reached s line h)
