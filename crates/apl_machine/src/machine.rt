@@ -8,6 +8,7 @@ ghost use Rattle.apl_machine_state.specs.Objects.{cleared, erased, globals, leve
 ghost use Rattle.apl_machine_state.specs.State.{State, clear, definition_of, interrupt, is_global_variable, is_idle};
 ghost use Rattle.apl_machine_state.specs.State.{progress, step, steps, steps_progress, turn, value_of, with_function, with_lines};
 ghost use Rattle.apl_machine_state.specs.Beginning.{begun};
+ghost use Rattle.apl_order.specs.Kept.{IsKept};
 ghost use Rattle.apl_contexts.specs.Contexts.{line_in};
 ghost use Rattle.apl_contexts.specs.Typed.{IsTyped};
 ghost use Rattle.apl_names.specs.Maps.{IsMap};
@@ -163,6 +164,14 @@ impl Machine {
         let _workspace = &self.workspace;
     }
 
+    /// The law that a machine's state is one that a machine can have: its contexts stand in order, and what it keeps of its names,
+    /// lines and vectors holds together.
+    pub fn keeps_order(&self)
+        ensures { IsKept self.now }
+    {
+        let _workspace = &self.workspace;
+    }
+
     /// Begins the statement of a typed text. A text that is no line, or has a label, is reported
     /// and leaves the machine idle. After an error the machine is as before.
     pub fn begin(&mut self, text: &[Ch]) -> Result<(), BeginError>
@@ -234,6 +243,13 @@ impl Machine {
         let mut lines = said(self.workspace.alloc, lines)?;
         self.workspace.output.append(&mut lines)?;
         Ok(())
+    }
+
+    /// The lines written since the last call of [`Machine::take_output`], oldest first.
+    pub fn output(&self) -> &[OutLine]
+        ensures { result.now ≡ self.now.output }
+    {
+        self.workspace.output.as_slice()
     }
 
     /// The lines written since the last call. It takes no memory.

@@ -25,6 +25,11 @@ closed s = record s { definition = None }
 abbrev pub opened : List Text → State → State
 opened lines s = record s { definition = Some lines }
 
+-- the number of the next line of an open definition, of which the header is line 0; 0 where none is open
+abbrev pub next_line : Option (List Text) → ℕ
+next_line None = 0
+next_line (Some lines) = length lines
+
 -- The text behind a first ∇.
 
 -- behind the first character that is no blank

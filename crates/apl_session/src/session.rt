@@ -1,8 +1,9 @@
 // A machine that is typed to.
 ghost use Rattle.std.specs.Prelude.{◌≡◌, ◌↔◌, [], ◌∷◌, ℕ, ◌<◌, take, slice_get, not, ◌==◌, find, true, Some, None, IfErr, IfOk, OnOk, OnErr, IsErrOf, IsFalse};
 ghost use Rattle.apl_machine_state.specs.State.{is_idle, steps, steps_progress, interrupt};
+ghost use Rattle.apl_order.specs.Kept.{IsKept};
 ghost use Rattle.apl_session.specs.Commands.{commanded};
-ghost use Rattle.apl_session.specs.Defining.{refused, closed, typed_behind_del};
+ghost use Rattle.apl_session.specs.Defining.{refused, closed, next_line, typed_behind_del};
 ghost use Rattle.apl_session.specs.Events as model;
 ghost use Rattle.apl_session.specs.Refusals.{feed_number};
 ghost use Rattle.apl_session.specs.Views.{event as event_view, event_list};
@@ -142,12 +143,37 @@ impl Session {
         machine
     }
 
+    /// The law that a session's state is one that a session can have, as [`Machine::keeps_order`] says.
+    pub fn keeps_order(&self)
+        ensures { IsKept self.now }
+    {
+        self.machine.keeps_order();
+    }
+
     /// The machine, as it stands. An open definition is left out.
     pub fn machine(&self) -> &Machine
         ensures { result.now ≡ closed self.now }
     {
         self.machine.opens_no_definition();
         &self.machine
+    }
+
+    /// The number of the next line of the definition that is open, from 1, since its header is line 0; 0 where none is open. It is
+    /// 1,001 where no further line is kept.
+    pub fn next_line(&self) -> usize
+        ensures { result ≡ next_line self.now.definition }
+    {
+        match &self.definition {
+            Some(definition) => definition.as_slice().len(),
+            None => 0,
+        }
+    }
+
+    /// The lines written since the last call of [`Session::take_output`], oldest first.
+    pub fn output(&self) -> &[OutLine]
+        ensures { result.now ≡ self.now.output }
+    {
+        self.machine.output()
     }
 
     /// The lines written since the last call. It takes no memory.

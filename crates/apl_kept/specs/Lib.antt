@@ -1,0 +1,4 @@
+pub mod Keeping
+pub mod Names
+pub mod Numbers
+pub mod Promises

@@ -1,0 +1,13 @@
+//! A session that a host holds from one call to the next: it types lines, gives steps in slices, may interrupt between two, takes what
+//! was written, and looks at names, calls and functions without a step.
+#![tactic(auto)]
+
+mod error;
+mod kept;
+mod laws;
+mod names;
+
+pub use error::KeptError;
+pub use kept::{Kept, open};
+pub use laws::{output_may_be_taken, sliced_lines_are_one, slices_are_one};
+pub use names::{Named, Reading, Shape};

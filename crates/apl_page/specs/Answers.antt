@@ -1,0 +1,43 @@
+-- What calls that read a session answer in a buffer.
+use Rattle.std.specs.Prelude.{◌≡◌, ◌⊎◌, ℕ, nat_le, List, ◌++◌, drop, length, IsFalse, IsTrue, Option, Some, None, Result, Ok, Err, if◌then◌else◌}
+use Rattle.apl_machine_state.specs.State.{is_idle}
+use Rattle.apl_session.specs.Defining.{closed}
+use Rattle.apl_workspace.specs.Saved.{IsLoaded, IsSavedAs, settled}
+use Rattle.apl_page.specs.Numbers.{refusal_number}
+use Rattle.apl_page.specs.Places.{Keeping}
+use Rattle.apl_page.specs.declared.refusal.Refusal.{Refusal}
+use Rattle.apl_page.specs.declared.refusal.Refusal.TheVariants.{Memory, Running, NoSession}
+
+-- bytes at the front of a buffer, which keeps what it held behind them
+abbrev pub laid : List ℕ → List ℕ → List ℕ
+laid bytes buffer = bytes ++ drop (length bytes) buffer
+
+-- What a call answers that comes to bytes or is refused. The bytes lie at the front of the buffer; where it is too small for them it stays, and the
+-- number is 9; how many they are is told. A refusal changes nothing.
+abbrev pub Gives : Result (List ℕ) Refusal → ℕ → List ℕ → List ℕ → ℕ → ℕ → Type 0
+Gives (Ok bytes) number old new size size' =
+    (number ≡ (if nat_le (length bytes) (length old) then 0 else 9)) × (new ≡ (if nat_le (length bytes) (length old) then laid bytes old else old)) × (size' ≡ length bytes)
+Gives (Err refusal) number old new size size' = (number ≡ refusal_number refusal) × (new ≡ old) × (size' ≡ size)
+
+-- What is due comes of a call. Memory may run out where a session stands.
+abbrev pub IsDue : Result (List ℕ) Refusal → Result (List ℕ) Refusal → Type 0
+IsDue (Err NoSession) outcome = outcome ≡ Err NoSession
+IsDue due outcome = (outcome ≡ due) ⊎ (outcome ≡ Err Memory)
+
+abbrev pub Reads : Result (List ℕ) Refusal → ℕ → List ℕ → List ℕ → ℕ → ℕ → Type 0
+Reads due number old new size size' = (outcome : Result (List ℕ) Refusal) × IsDue due outcome × Gives outcome number old new size size'
+
+-- The file of the workspace of the session at a place comes of a call, and what is loaded of it is the same state; or the session runs. Memory may run
+-- out where it doesn't.
+abbrev pub IsFileOf : Keeping → Result (List ℕ) Refusal → Type 0
+IsFileOf k (Ok bytes) = IsTrue (is_idle k.state) × IsSavedAs bytes (closed k.state) × IsLoaded bytes (settled k.state)
+IsFileOf k (Err Running) = IsFalse (is_idle k.state)
+IsFileOf k (Err Memory) = IsTrue (is_idle k.state)
+IsFileOf k (Err refusal) = ⊥
+
+abbrev pub IsFile : Option Keeping → Result (List ℕ) Refusal → Type 0
+IsFile None outcome = outcome ≡ Err NoSession
+IsFile (Some k) outcome = IsFileOf k outcome
+
+abbrev pub ReadsFile : Option Keeping → ℕ → List ℕ → List ℕ → ℕ → ℕ → Type 0
+ReadsFile place number old new size size' = (outcome : Result (List ℕ) Refusal) × IsFile place outcome × Gives outcome number old new size size'
