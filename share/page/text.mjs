@@ -49,7 +49,7 @@ export function names(text) {
             functions.push({ name: functionName(line.slice(2)), header: line.slice(2) });
         } else {
             const [name, kind, ...shape] = line.split(' ');
-            variables.push({ name, kind: kind === 'C' ? 'characters' : 'numbers', shape });
+            variables.push({ name, kind: { N: 'numbers', C: 'characters' }[kind] ?? '', shape });
         }
     }
     return { functions, variables };
@@ -57,13 +57,13 @@ export function names(text) {
 
 /** What a person reads of a variable's type and shape. */
 export function described({ kind, shape }) {
-    return shape.length ? `${kind}, ${shape.join(' by ')}` : kind === 'numbers' ? 'a number' : 'a character';
+    return shape.length ? `${kind}, ${shape.join(' by ')}` : kind ? `a ${kind.slice(0, -1)}` : 'no value';
 }
 
 /** The lines of )SI: a function's name and number, and whether it is suspended. */
 export function levels(text) {
-    const found = text.split('\n').map(line => /^(.*)\[(\d+)\]( \*)?$/.exec(line)).filter(Boolean);
-    return found.map(([, name, number, star]) => ({ name, number: Number(number), isSuspended: !!star }));
+    const found = text.split('\n').map(line => /^(.*)\[(\d+)\]( \*)?$/.exec(line));
+    return found.filter(Boolean).map(([, name, number, star]) => ({ name, number: Number(number), isSuspended: !!star }));
 }
 
 /** How a line goes on: the word before the cursor, what is behind it in all completions, and these. */

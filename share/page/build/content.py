@@ -1,5 +1,6 @@
 """What the page shows of this repository: the keys, an example of each character, the tutorial and the sample workspaces."""
 import json
+import re
 from pathlib import Path
 from typing import Any
 
@@ -7,6 +8,13 @@ from modules import TOP, script
 
 SHARE = Path(TOP) / "share"
 PLAIN = ("```sh", "```")
+# What the documents say of a terminal, and what the page says in its place.
+OF_A_TERMINAL = re.compile(r" `bin/apl-terminal [^`]*` opens it[^.]*\.| Start `bin/apl-terminal` .*?;(?= in this text)")
+TYPING = """\
+A character of the language is typed by a backquote and a key: `` `- `` is `×`, `` `i `` is `⍳`, `` `r `` is `⍴`, `` `[ `` is `←`, `` `2 `` is `¯`, \
+`` `g `` is `∇`, `` `l `` is `⎕`. The bar above the session has them all, and tells the key of each. The arrow keys bring back earlier lines, Tab \
+completes names. A click on a line of this page takes it to be typed, and the button below types all lines of a step."""
+LEFT_OUT = ("Keeping it for another day", "What comes next")
 
 
 def keys() -> list[tuple[str, str, str]]:
@@ -66,14 +74,16 @@ def page(name: str, path: Path, workspace: str | None) -> dict[str, Any]:
     steps: list[dict[str, Any]] = []
     lines: list[str] = []
     title, *rest = path.read_text(encoding="utf-8").splitlines()
-    heading = title.removeprefix("# ")
+    heading = title = title.removeprefix("# ")
     for line in [*rest, "## "]:
-        if line.startswith("## "):
+        if not line.startswith("## "):
+            line = OF_A_TERMINAL.sub("", line).replace(". in this text", ". In this text")
+            lines.append(TYPING if line.startswith("APL's characters are typed by") else line)
+            continue
+        if heading not in LEFT_OUT:
             steps.append({"title": heading, "blocks": blocks(lines)})
-            heading, lines = line[3:], []
-        else:
-            lines.append(line)
-    return {"name": name, "title": title.removeprefix("# "), "workspace": workspace, "steps": steps}
+        heading, lines = line[3:], []
+    return {"name": name, "title": title, "workspace": workspace, "steps": steps}
 
 
 def content() -> dict[str, Any]:

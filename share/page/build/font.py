@@ -3,6 +3,7 @@
 
 usage: share/page/build/font.py     needs Debian's fonts-dejavu-core, python3-fonttools and python3-brotli
 """
+import importlib
 import os
 import sys
 
@@ -13,11 +14,10 @@ WORDS = "…·–—’“”"
 
 
 def main() -> int:
-    from fontTools import subset  # pylint: disable=import-error,import-outside-toplevel
-
+    subset = importlib.import_module("fontTools.subset")
     characters = "".join(map(chr, range(32, 127))) + LANGUAGE + WORDS
     words = [FONT, f"--text={characters}", "--flavor=woff2", "--layout-features=", "--no-hinting", "--desubroutinize", f"--output-file={HERE}/apl.woff2"]
-    subset.main([*words, "--name-IDs=1,2,13,14"])
+    subset.main([*words, "--name-IDs=0,1,2,13,14"])
     return 0
 
 

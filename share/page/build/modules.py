@@ -1,6 +1,7 @@
 """The LLVM module of a program of this repository, for x86-64: of the proved program, or of one of which nothing is proved.
 
 Both are what the toolchain hands to its compiler: a stand-in for that keeps the module."""
+import importlib
 import importlib.machinery
 import importlib.util
 import os
@@ -56,17 +57,16 @@ def proved(name: str, kept: str, room: str) -> bool:
             super().__init__(words, *given, **named)
 
     sys.path.insert(0, f"{TOP}/bin")
-    import crates  # pylint: disable=import-error,import-outside-toplevel
-
+    crates: Any = importlib.import_module("crates")
     rt = crates.load()
     crate = crates.listed(rt)[name]
     if crates.prove(rt, crate.below()):
         return False
-    subprocess.Popen = Begun  # type: ignore[misc]
+    setattr(subprocess, "Popen", Begun)
     try:
         return bool(crates.build(crate)) and os.path.exists(kept)
     finally:
-        subprocess.Popen = begin  # type: ignore[misc]
+        setattr(subprocess, "Popen", begin)
 
 
 def unproved(name: str, kept: str, room: str) -> bool:
