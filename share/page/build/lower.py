@@ -92,10 +92,11 @@ def lowered_instruction(r: Reader) -> list[bytes | Temporary]:
     """Returns the next instruction, lowered."""
     begin, op = r.at, r.byte()
     if op in LOADS or op in STORES:
-        _, offset = r.number(), r.number()
+        align, offset = r.number(), r.number()
         if offset >= 1 << 32:
             raise NotLowered("an offset beyond 32 bits")
-        access = r.data[begin : r.at]
+        # Anew, since the linker leaves a place of ten bytes for an offset.
+        access = bytes([op]) + number(align) + number(offset)
         if op in LOADS:
             return [WRAP, access]
         value = (STORES[op], 0)

@@ -15,6 +15,8 @@ from typing import Any
 FLAGS = ["--headless=new", "--no-sandbox", "--disable-gpu", "--disable-dev-shm-usage", "--remote-debugging-pipe", "--no-first-run", "--window-size=1200,780"]
 QUIET = ["--disable-background-networking", "--disable-component-update", "--disable-sync", "--host-resolver-rules=MAP * ~NOTFOUND, EXCLUDE 127.0.0.1"]
 SECONDS = 30.0
+# The numbers of keys that have a name, and the text that they type.
+KEYS = {"Enter": (13, "\r"), "Tab": (9, ""), "Escape": (27, ""), "ArrowLeft": (37, ""), "ArrowUp": (38, ""), "ArrowRight": (39, ""), "ArrowDown": (40, "")}
 
 
 def found() -> str | None:
@@ -123,8 +125,7 @@ class Tab:
 
     def press(self, key: str, modifiers: int = 0, code: str = "") -> None:
         """Presses a key."""
-        named = {"Enter": (13, "\r"), "Tab": (9, ""), "ArrowUp": (38, ""), "ArrowDown": (40, ""), "Escape": (27, "")}
-        number, text = named.get(key, (ord(key[0].upper()), key))
+        number, text = KEYS.get(key, (ord(key[0].upper()) if key.isalnum() else 0, key))
         how: dict[str, Any] = {"key": key, "code": code or key, "windowsVirtualKeyCode": number, "modifiers": modifiers}
         if text and not modifiers:
             how["text"] = text
