@@ -13,6 +13,7 @@ import { showBar } from './bar.mjs';
 const it = id => document.getElementById(id);
 const encoder = new TextEncoder();
 const FIRST = 'workspace';
+const WELCOME = 'Type a line below, as 2+3×4, and Enter. Backquote and a key type a character: `- is ×. Learn, above, has a tutorial.';
 
 class Page {
     #words = [];
@@ -60,6 +61,7 @@ class Page {
         if (this.store) this.banner('');
         this.transcript.clear();
         this.transcript.restore(notes?.transcript ?? []);
+        if (!notes) this.transcript.note(WELCOME);
         this.entry.history = notes?.history ?? [];
         const page = CONTENT.pages.find(page => page.name === notes?.guide?.page);
         if (page) this.guide.open(page, notes.guide.step);

@@ -8,10 +8,15 @@ export class Transcript {
     #place;
     #entries = [];
     #size = 0;
+    #follows = true;
+    #frame = 0;
 
     /** `again` is called with the text of a typed line that is clicked. */
     constructor(place, again) {
         this.#place = place;
+        // Who reads further up is left there; else the last line stays in sight.
+        place.addEventListener('scroll', () => { this.#follows = place.scrollHeight - place.scrollTop - place.clientHeight < 40; });
+        new ResizeObserver(() => this.#follows && this.end()).observe(place);
         place.addEventListener('click', ({ target }) => {
             if (target.dataset.line !== undefined && !String(getSelection())) again(target.dataset.line);
         });
@@ -19,7 +24,6 @@ export class Transcript {
 
     #add(kind, text, line) {
         if (!text) return;
-        const follows = this.#place.scrollHeight - this.#place.scrollTop - this.#place.clientHeight < 40;
         const part = document.createElement('span');
         part.className = kind;
         part.textContent = text;
@@ -30,12 +34,15 @@ export class Transcript {
             this.#size -= this.#entries.shift()[1].length;
             this.#place.firstChild.remove();
         }
-        if (follows || kind === 'typed') this.end();
+        if (this.#follows || kind === 'typed') this.end();
     }
 
-    /** Shows the last line. */
+    /** Shows the last line, once before the next picture is drawn. */
     end() {
-        this.#place.scrollTop = this.#place.scrollHeight;
+        this.#frame ||= requestAnimationFrame(() => {
+            this.#frame = 0;
+            this.#place.scrollTop = this.#place.scrollHeight;
+        });
     }
 
     typed(line, number) {

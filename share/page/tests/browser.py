@@ -112,9 +112,9 @@ class Tab:
         return got["result"].get("value")
 
     def until(self, code: str, seconds: float = SECONDS) -> None:
-        """Waits until an expression is true."""
+        """Waits until an expression is true; while a page is left and another one opened, it may have no value."""
         end = time.monotonic() + seconds
-        while not self.run(f"!!({code})"):
+        while not self.run(f"(() => {{ try {{ return !!({code}); }} catch {{ return false; }} }})()"):
             if time.monotonic() > end:
                 raise TimeoutError(f"{code}\n{self.run('document.body?.innerText')}")
             time.sleep(0.01)
