@@ -18,14 +18,18 @@ const WELCOME = 'Type a line below, as 2+3×4, and Enter. Backquote and a key ty
 class Page {
     #words = [];
     #levels = [];
-    #functions = [];
+    #named = null;
+    #standing = null;
+    #lasting = null;
     session = null;
 
     constructor(source, module) {
         this.source = source;
         this.module = module;
         this.name = decodeURIComponent(location.hash.slice(1)) || FIRST;
-        this.say = text => { it('hint').textContent = text; };
+        // What is pointed at is shown; what is told is read aloud too.
+        this.show = text => { it('hint').textContent = text; };
+        this.say = text => { it('hint').textContent = it('told').textContent = text; };
         this.entry = new Entry({
             line: it('line'), label: it('prompt'), form: it('form'), keys: new Map(CONTENT.keys), known: () => this.#words,
             enter: lines => this.type(lines), say: this.say,
@@ -33,7 +37,7 @@ class Page {
         this.transcript = new Transcript(it('transcript'), line => this.entry.set(line));
         this.window = new FunctionWindow(it('function'), lines => this.type(lines));
         this.guide = new Guide({ place: it('guide'), type: lines => this.type(lines), put: line => this.entry.set(line), moved: () => this.session?.keepSoon() });
-        showBar(it('bar'), CONTENT, { put: text => this.entry.put(text), say: this.say });
+        showBar(it('bar'), CONTENT, { put: text => this.entry.put(text), say: this.show });
         this.#menus();
         this.#buttons();
         it('name').textContent = document.title = this.name;
@@ -63,12 +67,19 @@ class Page {
         this.transcript.restore(notes?.transcript ?? []);
         if (!notes) this.transcript.note(WELCOME);
         this.entry.history = notes?.history ?? [];
-        const page = CONTENT.pages.find(page => page.name === notes?.guide?.page);
-        if (page) this.guide.open(page, notes.guide.step);
+        const wanted = notes?.guide ?? { page: sessionStorage.getItem('guide'), step: 0 };
+        sessionStorage.removeItem('guide');
+        this.#guided(wanted);
         this.session = new Session({
             begin: () => new Worker(this.source), module: this.module, store: this.store, name: this.name, file, notes, tell: this.#told(),
             noted: () => ({ transcript: this.transcript.last(), history: this.entry.history, guide: this.guide.at }),
         });
+    }
+
+    /** Opens a guide where it was left, if there is one. */
+    #guided(at) {
+        const page = CONTENT.pages.find(page => page.name === at?.page);
+        if (page) this.guide.open(page, at.step);
     }
 
     /** What the session tells, and what that does to the page. */
@@ -90,6 +101,8 @@ class Page {
 
     type(lines) {
         if (!this.session) return;
+        // So that the browser doesn't clear away what it keeps when room is short.
+        this.#lasting ??= navigator.storage?.persist?.().catch(() => false) ?? true;
         for (const line of lines) this.entry.remember(line);
         this.session.type(lines);
         this.entry.focus();
@@ -104,9 +117,11 @@ class Page {
     }
 
     #state(named, standing) {
+        this.#running(false, false);
+        if (named === this.#named && standing === this.#standing) return;
+        [this.#named, this.#standing] = [named, standing];
         const { functions, variables } = names(named);
         this.#levels = levels(standing);
-        this.#functions = functions;
         this.#words = [...functions, ...variables].map(it => it.name);
         showLevels(it('levels'), this.#levels, null, name => this.edit(name));
         showVariables(it('variables'), variables, name => this.type([name]));
@@ -174,8 +189,8 @@ class Page {
         const { notes } = await this.store?.get(page.name) ?? {};
         const file = page.workspace ? encoder.encode(page.workspace) : new Uint8Array();
         if (notes && page.name !== this.name) {
-            await this.#leave();
-            this.#to(page.name);
+            sessionStorage.setItem('guide', page.name);
+            await this.go(page.name);
         } else if (notes) {
             this.guide.open(page);
             this.session.keepSoon();
@@ -195,22 +210,17 @@ class Page {
         let free = name;
         for (let n = 2; taken.includes(free); n++) free = `${name}-${n}`;
         await this.store.put(free, { written: 1, open: [], since: [], transcript: [], history: this.entry.history, guide }, file);
-        await this.#leave();
+        await this.session?.flush();
         return this.#to(free);
     }
 
     /** Where nothing is kept: begins with this file in the page that stands. */
     #restart(file, guide) {
         this.transcript.clear();
-        const page = CONTENT.pages.find(page => page.name === guide?.page);
-        if (page) this.guide.open(page);
+        this.#guided(guide);
         this.session = new Session({
             begin: () => new Worker(this.source), module: this.module, store: null, name: this.name, file, tell: this.#told(), noted: () => ({}),
         });
-    }
-
-    async #leave() {
-        await this.session?.flush();
     }
 
     #to(name) {
@@ -219,7 +229,7 @@ class Page {
 
     async go(name) {
         if (name === this.name) return;
-        await this.#leave();
+        await this.session?.flush();
         this.#to(name);
     }
 

@@ -11,6 +11,7 @@ export class Session {
     #notes;
     #open = [];             // the lines of the definition that is open
     #since = [];            // the lines typed since the file was made
+    #sent = [];             // those that the worker has not typed yet
     #unwritten = null;      // the file, where it isn't written yet
     #timer = 0;
     #writing = null;
@@ -46,13 +47,21 @@ export class Session {
         this.#worker.terminate();
         clearTimeout(this.#patience);
         this.tell.note(`The machine was begun again from the workspace that was kept last: ${why}.`);
-        if (this.#since.length) this.tell.undone('These lines were typed since, and are not done:', this.#since);
+        const undone = this.#undone();
+        if (undone.length) this.tell.undone('These lines were typed since, and are not done:', undone);
         this.#since = [];
+        this.#sent = [];
         this.#open = [...this.#notes.open];
         this.#questions.forEach(done => done(null));
         this.#questions.clear();
+        this.#waiting.splice(0).forEach(done => done());
         this.#setRunning(false);
         this.#start();
+    }
+
+    /** The lines whose work isn't in the file. */
+    #undone() {
+        return [...this.#since, ...this.#sent];
     }
 
     #setRunning(isRunning) {
@@ -62,6 +71,7 @@ export class Session {
 
     type(lines) {
         this.#setRunning(true);
+        this.#sent.push(...lines);
         this.#worker.postMessage({ what: 'lines', lines });
     }
 
@@ -121,7 +131,7 @@ export class Session {
     async #write() {
         if (!this.store) return;
         const file = this.#unwritten;
-        this.#notes = { ...this.#notes, ...this.noted(), since: [...this.#since], written: this.#notes.written + 1 };
+        this.#notes = { ...this.#notes, ...this.noted(), since: this.#undone(), written: this.#notes.written + 1 };
         this.#unwritten = null;
         try {
             await this.store.put(this.name, this.#notes, file);
@@ -147,6 +157,7 @@ export class Session {
     _typed({ line, number }) {
         this.#open = number ? [...this.#open, line] : [line];
         this.#since.push(line);
+        this.#sent.shift();
         this.isRunning = true;
         this.tell.typed(line, number);
         this.keepSoon();
@@ -164,6 +175,7 @@ export class Session {
         if (!next) this.#open = [];
         this.tell.wrote(wrote);
         if (number) this.tell.note(`This line is not done: ${meaning(number)}.`);
+        this.#sent.splice(0, left.length);
         if (left.length) this.tell.undone('These lines were to follow, and are not typed:', left);
         this.tell.ended(next);
     }

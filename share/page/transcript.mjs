@@ -1,7 +1,7 @@
 /** The transcript: what was typed, what it wrote, and what the page says. */
 import { parts, prompt } from './text.mjs';
 
-const SHOWN = 400000;       // characters that are kept in the page
+const SHOWN = 400000, PARTS = 2000;      // characters that are kept in the page, and parts
 const KEPT = 50000;         // characters that are kept with the workspace
 
 export class Transcript {
@@ -30,7 +30,7 @@ export class Transcript {
         if (line !== undefined) part.dataset.line = line;
         this.#place.append(part);
         this.#entries.push([kind, text, line]);
-        for (this.#size += text.length; this.#size > SHOWN && this.#entries.length > 1;) {
+        for (this.#size += text.length; (this.#size > SHOWN || this.#entries.length > PARTS) && this.#entries.length > 1;) {
             this.#size -= this.#entries.shift()[1].length;
             this.#place.firstChild.remove();
         }

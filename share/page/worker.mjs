@@ -134,11 +134,10 @@ export function work(port) {
         if (number === FINE) for (const line of pending) machine.type(line);
         collect();
         written.take();
+        if (number !== FINE) machine.open(new Uint8Array());
         tell('opened', { number, next: machine.nextLine() });
-        if (number === FINE) {
-            look();
-            save();
-        }
+        look();
+        if (number === FINE) save();
     }
 
     const answers = {

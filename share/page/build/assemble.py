@@ -8,8 +8,20 @@ import bundle
 import content
 
 FOLDER = Path(__file__).resolve().parent.parent
-# What each page may do besides: the module is compiled, the worker begun, the font lies in the style.
-POLICY = "default-src 'none'; script-src {script} 'wasm-unsafe-eval'; worker-src {worker}; style-src {style}; font-src data:; connect-src {connect}; base-uri 'none'; form-action 'none'"
+# What each page may do: the module is compiled, the worker begun; the font lies in the style, and the icon in the page.
+POLICY = "; ".join(
+    (
+        "default-src 'none'",
+        "script-src {script} 'wasm-unsafe-eval'",
+        "worker-src {worker}",
+        "style-src {style}",
+        "connect-src {connect}",
+        "font-src data:",
+        "img-src data:",
+        "base-uri 'none'",
+        "form-action 'none'",
+    )
+)
 
 
 def digest(text: str) -> str:

@@ -101,7 +101,15 @@ class Tab:
 
     def go(self, url: str) -> None:
         """Opens an address, and waits until the machine is ready or the page says why not."""
+        self.run("window.isLeft = true")
         self.ask("Page.navigate", url=url)
+        self.until("!window.isLeft")
+        self.settled()
+
+    def reload(self) -> None:
+        """Opens the page again, and waits likewise."""
+        self.run("window.isLeft = true; setTimeout(() => location.reload())")
+        self.until("!window.isLeft")
         self.settled()
 
     def run(self, code: str) -> Any:

@@ -1,46 +1,11 @@
-"""What a person does with the page, done in a headless Chromium: each function here tries one thing, and raises where it isn't so."""
-import json
-import os
-import subprocess
-import tempfile
+"""What a person does with a session, done in a headless Chromium: each function here tries one thing, raises where it isn't so, and tells what it saw."""
 import time
 from collections.abc import Callable
-from pathlib import Path
 
-from browser import Browser, Tab, host
+from browser import Tab
+from trial import HALF, LOOP, Trial, has, same
 
-LOOP = ("∇LOOP", "→1", "∇")
-HALF = ("∇Z←HALF N", "Z←N÷2", "∇")
 CTRL = 2
-
-
-class Trial:
-    """What a trial has: the built page in a folder, and the native program, where one is given."""
-
-    def __init__(self, folder: Path, program: str | None) -> None:
-        self.folder, self.program = folder, program
-        self.browser = Browser()
-        self.file = (folder / "apl.html").resolve().as_uri()
-        self.room = tempfile.mkdtemp()
-        self.server, self.site = host(str(folder / "site"))
-
-    def tab(self, name: str, url: str | None = None, **how: object) -> Tab:
-        """Opens a tab on a workspace of this name."""
-        return Tab(self.browser, f"{url or self.file}#{name}", **how)  # type: ignore[arg-type]
-
-    def close(self) -> None:
-        self.browser.close()
-        self.server.shutdown()
-
-
-def same(got: object, wanted: object) -> None:
-    if got != wanted:
-        raise AssertionError(f"got {got!r}, and not {wanted!r}")
-
-
-def has(text: str, part: str) -> None:
-    if part not in text:
-        raise AssertionError(f"there is no {part!r} in {text!r}")
 
 
 def opened_from_disk(trial: Trial) -> str:
@@ -107,23 +72,6 @@ def language_bar(trial: Trial) -> str:
     return ""
 
 
-def definition_prompt(trial: Trial) -> str:
-    """Within a definition the prompt is the line's number, after a reload too."""
-    tab = trial.tab("prompt")
-    tab.typed("∇Z←F X", "Z←X+1")
-    same(tab.text("prompt"), "[2]   ")
-    saved(tab)
-    tab.go(trial.file + "#prompt")
-    tab.ask("Page.reload")
-    time.sleep(0.3)
-    tab.settled()
-    same(tab.text("prompt"), "[2]   ")
-    has(tab.typed("Z←2×Z", "∇", "F 4"), "10\n")
-    same(tab.text("prompt"), "      ")
-    tab.close()
-    return ""
-
-
 def interrupted(trial: Trial) -> str:
     """A line that doesn't end is interrupted by the button and by the key, within a second."""
     tab, took = trial.tab("interrupt"), []
@@ -161,142 +109,6 @@ def flood(trial: Trial) -> str:
         raise AssertionError(f"{len(tab.transcript())} characters, interrupted after {took:.2f} s")
     tab.close()
     return f"after {took * 1000:.0f} ms"
-
-
-def saved(tab: Tab) -> None:
-    """Waits until what stands is kept."""
-    tab.until("document.getElementById('kept').textContent.startsWith('Kept')")
-    time.sleep(0.3)
-
-
-def reloaded(trial: Trial) -> str:
-    """A call that is suspended goes on after a reload."""
-    tab = trial.tab("reload")
-    tab.typed(*HALF, "1+HALF 7")
-    tab.until("document.getElementById('levels').textContent === 'HALF[1] suspendedZ←N÷2'")
-    same(tab.run("document.querySelectorAll('#transcript .fault').length"), 1)
-    saved(tab)
-    tab.ask("Page.reload")
-    time.sleep(0.3)
-    tab.settled()
-    has(tab.transcript(), "DOMAIN ERROR\n")
-    has(tab.text("levels"), "HALF[1]")
-    has(tab.typed("N←8"), "N←8")
-    tab.click("#resume")
-    tab.until("document.getElementById('transcript').textContent.endsWith('→⎕LC\\n5\\n')")
-    tab.until("document.getElementById('resume').disabled")
-    tab.close()
-    return ""
-
-
-def two_tabs(trial: Trial) -> str:
-    """A second tab of a workspace is told, and opens it when the first is closed; so on a host and from the disk."""
-    for url in (trial.site, trial.file):
-        first = trial.tab("twice", url)
-        first.typed("A←7")
-        saved(first)
-        second = trial.tab("twice", url)
-        has(second.text("banner"), "open in another tab")
-        second.enter("A←8")
-        same(second.transcript(), "")
-        first.close()
-        second.until("document.getElementById('state').textContent === 'Ready'")
-        second.run("document.getElementById('line').value = ''")
-        has(second.typed("A"), "7\n")
-        second.close()
-    return ""
-
-
-def download(trial: Trial, tab: Tab) -> Path:
-    """Returns the path of the file that the page gives."""
-    trial.browser.ask("Browser.setDownloadBehavior", behavior="allow", downloadPath=trial.room)
-    before = set(os.listdir(trial.room))
-    tab.click("#workspaces summary")
-    tab.until("document.querySelector('#workspaces button')")
-    tab.run("[...document.querySelectorAll('#workspaces button')].find(it => it.textContent === 'Download').click()")
-    for _ in range(500):
-        new = [it for it in set(os.listdir(trial.room)) - before if it.endswith(".json")]
-        if new:
-            time.sleep(0.1)
-            return Path(trial.room) / new[0]
-        time.sleep(0.02)
-    raise AssertionError("no file was downloaded")
-
-
-def downloaded(trial: Trial) -> str:
-    """The file that the page gives is one that the native program goes on with."""
-    tab = trial.tab("download")
-    tab.typed(*HALF, "1+HALF 7")
-    path = download(trial, tab)
-    same(json.loads(path.read_text(encoding="utf-8"))["contexts"][0]["line"], "1+HALF 7")
-    tab.close()
-    if not trial.program:
-        return "no native program was given to read it"
-    ran = subprocess.run([trial.program, str(path)], input="N←8\n→⎕LC\n".encode(), stdout=subprocess.PIPE, check=True)
-    same(ran.stdout.decode(), "5\n")
-    return "read by the native program"
-
-
-def opened_file(trial: Trial) -> str:
-    """A file opens as a workspace of its own; a damaged one is told, and the session stays."""
-    path = Path(trial.room) / "given.json"
-    path.write_text('{"contexts":[],"functions":[],"io":0,"variables":[{"name":"B","value":{"nums":[7],"shape":[]}}],"version":2}', encoding="utf-8")
-    damaged = Path(trial.room) / "damaged.json"
-    damaged.write_text("[" * 100_000, encoding="utf-8")
-    tab = trial.tab("open")
-    tab.typed("A←7")
-    tab.choose(str(damaged))
-    tab.until("document.getElementById('banner').textContent.includes('damaged.json is refused')")
-    has(tab.typed("A+1"), "8\n")
-    tab.choose(str(path))
-    tab.until("document.getElementById('name').textContent === 'given'")
-    tab.settled()
-    has(tab.typed("B,⍳2"), "7 0 1\n")
-    tab.go(trial.file + "#open")
-    tab.ask("Page.reload")
-    time.sleep(0.3)
-    tab.settled()
-    has(tab.typed("A"), "7\n")
-    tab.close()
-    return ""
-
-
-def worker_that_dies(trial: Trial) -> str:
-    """Where the worker ends the page says so, shows the lines that are not done, and goes on from what was kept."""
-    tab = trial.tab("dies")
-    tab.typed(*LOOP, "A←7")
-    saved(tab)
-    tab.enter("LOOP")
-    tab.until("!document.getElementById('interrupt').disabled")
-    trial.browser.ask("Runtime.enable", tab.worker())
-    trial.browser.ask("Runtime.evaluate", tab.worker(), expression="setTimeout(() => { throw new Error('on purpose'); })")
-    tab.until("document.getElementById('transcript').textContent.includes('The machine was begun again')")
-    tab.settled()
-    same(tab.run("[...document.querySelectorAll('#transcript .undone')].map(it => it.textContent).join()"), "      LOOP\n")
-    has(tab.typed("A"), "7\n")
-    tab.close()
-    return ""
-
-
-def stopped_by_force(trial: Trial) -> str:
-    """A step that takes long is stopped by force, by a second press."""
-    tab = trial.tab("force")
-    tab.typed("A←7", "M←1000 1000⍴⍳7")
-    time.sleep(0.5)
-    tab.until("document.getElementById('kept').textContent.includes('2,0')")
-    tab.enter("⍴M+.×M")
-    tab.until("!document.getElementById('interrupt').disabled")
-    tab.click("#interrupt")
-    tab.until("document.getElementById('interrupt').textContent === 'Stop by force' || document.getElementById('interrupt').disabled", 5)
-    if tab.run("document.getElementById('interrupt').disabled"):
-        tab.close()
-        return "the step ended before it could be tried"
-    tab.click("#interrupt")
-    tab.until("document.getElementById('transcript').textContent.includes('The machine was begun again')", 2)
-    tab.settled()
-    has(tab.typed("A,⍴M"), "7 1000 1000\n")
-    tab.close()
-    return ""
 
 
 def functions_and_variables(trial: Trial) -> str:
@@ -429,42 +241,6 @@ def narrow(trial: Trial) -> str:
 
 
 ALL: list[Callable[[Trial], str]] = [
-    opened_from_disk, keys_of_the_line, language_bar, definition_prompt, interrupted, flood, reloaded, two_tabs, downloaded, opened_file, worker_that_dies,
-    stopped_by_force, functions_and_variables, guide, asks_no_other_host, own_font, accessible, line_in_time, narrow,
+    opened_from_disk, keys_of_the_line, language_bar, interrupted, flood, functions_and_variables, guide, asks_no_other_host, own_font, accessible,
+    line_in_time, narrow,
 ]
-
-
-SHOWN = (
-    "MARKS←2 4 9", "CLASS←3 3⍴MARKS,1 2 5 6 7 9", "CLASS", "+/CLASS", "∇Z←MEAN V", "Z←(+/V)÷⍴V", "∇", "∇REPORT M;I", "I←1",
-    "NEXT:'ROW ',(⍕I),': ',⍕MEAN M[I;]", "I←I+1", "→(I≤1↑⍴M)/NEXT", "'DONE'", "∇", "REPORT CLASS",
-)
-
-
-def pictures(folder: Path, to: Path) -> None:
-    """Takes pictures of the page with a session: page.png, page-dark.png, page-guide.png, page-narrow.png, page-narrow-dark.png."""
-    trial = Trial(folder, None)
-    try:
-        tab = trial.tab("class")
-        tab.typed(*SHOWN)
-        tab.keys("V`[1 2 6")
-        tab.run("document.querySelector('#bar button[aria-label^=\"shape\"]').dispatchEvent(new PointerEvent('pointerenter'))")
-        tab.picture(f"{to}/page.png")
-        saved(tab)
-        for name, how in (("dark", {"colours": "dark"}), ("narrow", {"width": 360, "height": 740}), ("narrow-dark", {"width": 360, "height": 740, "colours": "dark"})):
-            tab.close()
-            tab = trial.tab("class", **how)  # type: ignore[arg-type]
-            tab.picture(f"{to}/page-{name}.png")
-        tab.close()
-        tab = trial.tab("start")
-        tab.click("#guides summary")
-        tab.until("document.querySelector('#guides button')")
-        tab.picture(f"{to}/page-menu.png")
-        tab.run("document.querySelector('#guides button').click()")
-        tab.until("document.getElementById('name').textContent === 'tutorial'")
-        tab.settled()
-        tab.run("[...document.querySelectorAll('#guide footer button')].at(-1).click()")
-        tab.run("[...document.querySelectorAll('#guide footer button')][1].click()")
-        time.sleep(0.5)
-        tab.picture(f"{to}/page-guide.png")
-    finally:
-        trial.close()
