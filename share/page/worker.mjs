@@ -46,12 +46,15 @@ export function work(port) {
     let machine, interrupted = false, running = false, unseen = 0, decoder, saveTook = 0, saveTimer = 0;
     const lines = [], written = new Written();
     const tell = (what, more) => port.postMessage({ what, ...more });
-    const pause = (() => {
+    /** Lets messages in. A timer would wait longer. */
+    const pause = () => new Promise(done => {
         const { port1, port2 } = new MessageChannel();
-        let next;
-        port1.onmessage = () => next();
-        return () => new Promise(done => { next = done; port2.postMessage(0); });
-    })();
+        port1.onmessage = () => {
+            port1.close();
+            done();
+        };
+        port2.postMessage(0);
+    });
 
     function die(error) {
         port.onmessage = null;
