@@ -76,6 +76,12 @@ class Page {
         });
     }
 
+    /** Shows lines that are not done, which may be typed again. */
+    #undone(why, lines) {
+        this.transcript.undone(why, lines);
+        this.banner(why, ['Type them again', () => { this.banner(''); this.type(lines); }], ['Close', () => this.banner('')]);
+    }
+
     /** Opens a guide where it was left, if there is one. */
     #guided(at) {
         const page = CONTENT.pages.find(page => page.name === at?.page);
@@ -89,7 +95,7 @@ class Page {
             typed: (line, number) => this.transcript.typed(line, number),
             wrote: wrote => this.transcript.wrote(wrote),
             note: text => this.transcript.note(text),
-            undone: (why, lines) => this.transcript.undone(why, lines),
+            undone: (why, lines) => this.#undone(why, lines),
             ended: next => this.entry.number(next),
             running: (isRunning, byForce) => this.#running(isRunning, byForce),
             state: (named, standing) => this.#state(named ?? '', standing ?? ''),

@@ -28,7 +28,7 @@ export class Session {
         this.#file = file ?? new Uint8Array();
         this.#notes = notes ?? { written: 0, open: [], since: [] };
         this.#open = [...this.#notes.open];
-        if (this.#notes.since.length) tell.undone('These lines were typed since the workspace was kept, and are not done in it:', this.#notes.since);
+        if (this.#notes.since.length) tell.undone('Lines were typed since the workspace was kept, and are not done in it.', this.#notes.since);
         this.#start();
     }
 
@@ -48,7 +48,7 @@ export class Session {
         clearTimeout(this.#patience);
         this.tell.note(`The machine was begun again from the workspace that was kept last: ${why}.`);
         const undone = this.#undone();
-        if (undone.length) this.tell.undone('These lines were typed since, and are not done:', undone);
+        if (undone.length) this.tell.undone('Lines that were typed since are not done.', undone);
         this.#since = [];
         this.#sent = [];
         this.#open = [...this.#notes.open];
@@ -176,7 +176,7 @@ export class Session {
         this.tell.wrote(wrote);
         if (number) this.tell.note(`This line is not done: ${meaning(number)}.`);
         this.#sent.splice(0, left.length);
-        if (left.length) this.tell.undone('These lines were to follow, and are not typed:', left);
+        if (left.length) this.tell.undone('Lines that were to follow are not typed.', left);
         this.tell.ended(next);
     }
 

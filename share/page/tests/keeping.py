@@ -131,4 +131,44 @@ def stopped_by_force(trial: Trial) -> str:
     return ""
 
 
-ALL = [definition_prompt, reloaded, two_tabs, downloaded, opened_file, worker_that_dies, stopped_by_force]
+def overtaken(trial: Trial) -> str:
+    """What another page wrote isn't written over, though there be no lock: the page says that it keeps nothing more."""
+    tab = trial.tab("overtaken")
+    tab.typed("A←7")
+    saved(tab)
+    tab.run("""new Promise(done => {
+        const begun = indexedDB.open('apl', 1);
+        begun.onsuccess = () => {
+            const notes = begun.result.transaction('notes', 'readwrite').objectStore('notes'), had = notes.get('overtaken');
+            had.onsuccess = () => { notes.put({ ...had.result, written: had.result.written + 1, history: ['ANOTHER'] }, 'overtaken').onsuccess = done; };
+        };
+    })""")
+    tab.typed("A←8")
+    tab.until("document.getElementById('banner').textContent.includes('another page has written')")
+    tab.reload()
+    has(tab.typed("A"), "7\n")
+    tab.close()
+    return ""
+
+
+def large_workspace(trial: Trial) -> str:
+    """A large workspace is written in pauses; a line that was typed just before the page is left is done there, or shown to be typed again."""
+    tab = trial.tab("large")
+    tab.typed(*(f"{name}←(⍳1000000)+123456789012" for name in "ABC"))
+    tab.until("document.getElementById('kept').textContent.includes(', 39,0')")
+    begun = time.monotonic()
+    tab.enter("X←5")
+    tab.until("document.getElementById('transcript').textContent.endsWith('X←5\\n')")
+    took = time.monotonic() - begun
+    time.sleep(0.1)
+    tab.reload()
+    undone = "      X←5\n" in tab.run("[...document.querySelectorAll('#transcript .undone')].map(it => it.textContent)")
+    tab.until("document.getElementById('variables').textContent.includes('C numbers, 1000000')")
+    if undone:
+        tab.run("[...document.querySelectorAll('#banner button')][0].click()")
+    tab.until("document.getElementById('variables').textContent.includes('X a number')")
+    tab.close()
+    return f"answered in {took * 1000:.0f} ms, then {'shown again' if undone else 'kept'}"
+
+
+ALL = [definition_prompt, reloaded, two_tabs, downloaded, opened_file, worker_that_dies, stopped_by_force, overtaken, large_workspace]
