@@ -168,16 +168,19 @@ export class Session {
         setTimeout(() => this.#worker.postMessage({ what: 'seen' }));
     }
 
-    _ended({ number, next, left, ...wrote }) {
+    _ended({ number, next, ...wrote }) {
         clearTimeout(this.#patience);
         this.#patience = 0;
         this.next = next;
         if (!next) this.#open = [];
         this.tell.wrote(wrote);
         if (number) this.tell.note(`This line is not done: ${meaning(number)}.`);
-        this.#sent.splice(0, left.length);
-        if (left.length) this.tell.undone('Lines that were to follow are not typed.', left);
         this.tell.ended(next);
+    }
+
+    _left({ lines }) {
+        this.#sent.splice(0, lines.length);
+        this.tell.undone('Lines that were to follow are not typed.', lines);
     }
 
     _state({ names, levels }) {

@@ -7,8 +7,7 @@ const MOST_STEPS = 2000;        // of a slice: few enough that an interrupt is s
 const SLICE = 8;                // milliseconds that a slice of long steps should take
 const AT_ONCE = 40;             // milliseconds between two looks at what the page wants
 const FRONT = 100000, BACK = 30000;     // characters of what a line writes that are shown where it writes more
-const QUICK = 20;               // milliseconds of a save that is made after each line
-const DETAILED = 1 << 20;       // bytes of a workspace from which the lines of the standing calls are read
+const QUICK = 20, SMALL = 1 << 20;      // milliseconds, or bytes, of a file that is made after each line; others are made in pauses
 
 /** What is written between two looks of the page, of which the middle is left out where it is too long. */
 export class Written {
@@ -35,15 +34,15 @@ export class Written {
     }
 }
 
-/** The calls that stand in a workspace's file, the newest first: the name and number that )SI shows, and the text of the line. */
+/** The lines of the calls that stand in a workspace's file, the newest first; null where that is too large to be read after each line. */
 export function standingCalls(bytes) {
-    if (bytes.length > DETAILED) return null;
+    if (bytes.length > SMALL) return null;
     const { contexts } = JSON.parse(new TextDecoder().decode(bytes));
     return contexts.filter(it => it.kind === 'call').reverse().map(it => it.lines[it.at - 1] ?? '');
 }
 
 export function work(port) {
-    let machine, interrupted = false, running = false, unseen = 0, decoder, saveTook = 0, saveTimer = 0;
+    let machine, interrupted = false, running = false, unseen = 0, decoder, looked = 0, saveTook = 0, saveSize = 0, saveTimer = 0;
     const lines = [], written = new Written();
     const tell = (what, more) => port.postMessage({ what, ...more });
     /** Lets messages in. A timer would wait longer. */
@@ -51,6 +50,7 @@ export function work(port) {
         const { port1, port2 } = new MessageChannel();
         port1.onmessage = () => {
             port1.close();
+            looked = performance.now();
             done();
         };
         port2.postMessage(0);
@@ -71,7 +71,7 @@ export function work(port) {
 
     /** Makes the steps of the line that was typed, until it ends or is interrupted. */
     async function finish() {
-        let steps = 64, looked = performance.now(), before = looked;
+        let steps = 64, before = performance.now();
         while (!machine.isIdle()) {
             const number = machine.advance(steps);
             if (number !== FINE) return number;
@@ -87,7 +87,7 @@ export function work(port) {
             }
             await pause();
             if (interrupted) return machine.interrupt();
-            looked = before = performance.now();
+            before = performance.now();
         }
         return FINE;
     }
@@ -95,20 +95,26 @@ export function work(port) {
     async function typeOne(line) {
         tell('typed', { line, number: machine.nextLine() });
         decoder = new TextDecoder();
-        interrupted = false;
         let number = machine.type(line);
         if (number === FINE) number = await finish();
         if (!machine.isIdle() && machine.interrupt() !== FINE) throw new Error('memory has run out');
         const gathered = collect();
-        tell('ended', { ...written.take(), number: number || gathered, next: machine.nextLine(), left: interrupted ? lines.splice(0) : [] });
+        tell('ended', { ...written.take(), number: number || gathered, next: machine.nextLine() });
     }
 
+    /** Types the lines that wait, of which an interrupt leaves those that were to follow. */
     async function typeAll() {
         running = true;
-        while (lines.length) await typeOne(lines.shift());
+        interrupted = false;
+        looked = performance.now();
+        while (lines.length && !interrupted) {
+            await typeOne(lines.shift());
+            if (performance.now() - looked >= AT_ONCE) await pause();
+        }
+        if (lines.length) tell('left', { lines: lines.splice(0) });
         running = false;
         look();
-        if (saveTook <= QUICK) save();
+        if (saveTook <= QUICK || saveSize <= SMALL) save();
         else saveTimer ||= setTimeout(save, Math.min(5000, 20 * saveTook));
     }
 
@@ -124,6 +130,7 @@ export function work(port) {
         try {
             const begun = performance.now(), { number, bytes } = machine.save();
             saveTook = performance.now() - begun;
+            saveSize = bytes?.length ?? 0;
             tell('saved', { number, bytes, calls: bytes && standingCalls(bytes) });
         } catch (error) {
             die(error);
