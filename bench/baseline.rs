@@ -6,7 +6,7 @@ use std::process::ExitCode;
 /// The first place of a second operand, far from those of a first one.
 const APART: u64 = 1_000_000_007;
 
-/// There is no value: it leaves 64 bits, or the numbers are outside the function's domain.
+/// There is no value: it overflows 64 bits, or the numbers are outside the function's domain.
 #[derive(Clone, Copy)]
 struct Fault;
 
@@ -79,8 +79,8 @@ const KERNELS: &[Kernel] = &[
     Kernel("⌈/b", |_, b| fold_rows(b, |x, y| Some(x.max(y))), (Scalar, seven), (Vector, wide)),
     Kernel("+⌿B", |_, b| fold_columns(b, i64::checked_add), (Scalar, seven), (Square, wide)),
     Kernel("+/⍉B", |_, b| fold_rows(&turned(b), i64::checked_add), (Scalar, seven), (Square, wide)),
-    Kernel("+\\b", |_, b| fronts(b, i64::checked_add), (Scalar, seven), (Vector, wide)),
-    Kernel("⌈\\b", |_, b| fronts(b, |x, y| Some(x.max(y))), (Scalar, seven), (Vector, wide)),
+    Kernel("+\\b", |_, b| prefixes(b, i64::checked_add), (Scalar, seven), (Vector, wide)),
+    Kernel("⌈\\b", |_, b| prefixes(b, |x, y| Some(x.max(y))), (Scalar, seven), (Vector, wide)),
     Kernel("⌽b", |_, b| Ok(b.numbers.iter().rev().copied().collect()), (Scalar, seven), (Vector, wide)),
     Kernel("⍉B", |_, b| Ok(turned(b).numbers), (Scalar, seven), (Square, wide)),
     Kernel("⍋b", |_, b| Ok(grade(b)), (Scalar, seven), (Vector, wide)),
@@ -115,16 +115,16 @@ fn fold_columns(b: &Operand, function: impl Fn(i64, i64) -> Option<i64>) -> Valu
 }
 
 /// The folds of the first numbers by an associative function.
-fn fronts(b: &Operand, function: impl Fn(i64, i64) -> Option<i64>) -> Values {
+fn prefixes(b: &Operand, function: impl Fn(i64, i64) -> Option<i64>) -> Values {
     let mut values = Vec::with_capacity(b.numbers.len());
-    let mut front = None;
+    let mut prefix = None;
     for x in &b.numbers {
-        let value = match front {
+        let value = match prefix {
             None => *x,
-            Some(front) => function(front, *x).ok_or(Fault)?,
+            Some(prefix) => function(prefix, *x).ok_or(Fault)?,
         };
         values.push(value);
-        front = Some(value);
+        prefix = Some(value);
     }
     Ok(values)
 }
@@ -246,7 +246,7 @@ fn and(x: i64, y: i64) -> Option<i64> {
     (matches!(x, 0 | 1) && matches!(y, 0 | 1)).then_some(x & y)
 }
 
-/// A number below 2^31 for a place, spread as if by chance.
+/// A number below 2^31 for a place, pseudo-random.
 fn spread(place: u64) -> u64 {
     let once = place.wrapping_mul(0x9E37_79B9_7F4A_7C15);
     let twice = (once ^ once >> 32).wrapping_mul(0xD6E8_FEB8_6659_FD93);

@@ -23,7 +23,7 @@ enum apl_number {
     APL_DEFINITION = 4,     /* A function or a variable isn't one, or stands in the wrong place. */
     APL_CONTEXT = 5,        /* A half-done statement, call or text is against the rules. */
     APL_CODE = 6,           /* The code of a half-done line isn't that of its text. */
-    APL_LIMIT = 7,          /* An array is too large, or more than 256 calls stand. */
+    APL_LIMIT = 7,          /* An array is too large, or over 256 calls and executes stand. */
     APL_MEMORY = 8,         /* Memory has run out, anywhere. */
     APL_BUFFER = 9,         /* A buffer is too small: the sizes tell what both need. Neither was written to. */
     APL_LINE_TOO_LONG = 14, /* A line has over 2,000 bytes. The transcript is that of the lines before it. */

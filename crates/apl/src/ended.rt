@@ -3,7 +3,7 @@
 use apl_files::FileError;
 use apl_runs::RunError;
 use apl_words::WordsError;
-use apl_workspace::{LoadError, SaveError};
+use apl_workspace::LoadError;
 use std::alloc::{AllocError, Global};
 use std::io;
 use thiserror::Error;
@@ -49,15 +49,6 @@ impl From<LoadError> for Ended {
         match error {
             LoadError::Memory => Ended::Memory,
             _ => Ended::Load(error.number()),
-        }
-    }
-}
-
-impl From<SaveError> for Ended {
-    fn from(error: SaveError) -> Ended {
-        match error {
-            SaveError::Memory => Ended::Memory,
-            SaveError::Running => Ended::Save(FileError::Refused),
         }
     }
 }

@@ -5,7 +5,7 @@ ghost use Rattle.apl_machine_state.specs.State.{is_idle};
 use crate::ended::Ended;
 use apl_files::Held;
 use apl_machine::Machine;
-use apl_workspace::{load, save};
+use apl_workspace::{SaveError, load, save};
 use std::{fs, io};
 
 /// The workspace that a file holds.
@@ -20,8 +20,13 @@ pub(crate) fn load_file(rt: &HostRuntime, path: &str) -> Result<Machine, Ended>
     }
 }
 
-/// Saves a workspace in a file that this run holds.
-pub(crate) fn save_file(rt: &HostRuntime, held: &Held, ws: &Machine) -> Result<(), Ended> {
-    let bytes = save(rt.alloc(), ws)?;
-    Ok(held.save(rt, &bytes)?)
+/// Saves a workspace, in which nothing runs, in a file that this run holds.
+pub(crate) fn save_file(rt: &HostRuntime, held: &Held, ws: &Machine) -> Result<(), Ended>
+    requires { IsTrue (is_idle ws.now) }
+{
+    match save(rt.alloc(), ws) {
+        Ok(bytes) => Ok(held.save(rt, &bytes)?),
+        Err(SaveError::Memory) => Err(Ended::Memory),
+        Err(SaveError::Running) => unreachable!(),
+    }
 }

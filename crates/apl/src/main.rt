@@ -55,7 +55,9 @@ fn run_on(
     running: &Running,
     input: &mut Input,
     output: &mut Output,
-) -> Result<Machine, Ended> {
+) -> Result<Machine, Ended>
+    ensures { IfOk result (λ m. IsTrue (is_idle m)) }
+{
     let ws = first_workspace(rt, running)?;
     let ran = match running.way {
         Way::Plain => run(rt.alloc(), ws, input, output, running.steps)?,

@@ -60,6 +60,7 @@ fn machine_of(alloc: Global, workspace: &[u8]) -> Result<Machine, LoadError>
 
 /// A session on the workspace of a file, or on a clear one where no bytes are given. It is idle, and has written nothing. Errors are
 /// those of [`apl_workspace::load`].
+#[tactic(auto, using(crate::proofs::Beginning::open_reached))]
 pub fn open(alloc: Global, workspace: &[u8]) -> Result<Kept, LoadError>
     ensures opened { IfOk result (λ k. BeginsWith workspace.now k) }
     ensures idle { IfOk result (λ k. IsTrue (is_idle k)) }

@@ -82,6 +82,7 @@ fn function_reading(alloc: Global, function: Option<&Definition>) -> Result<Read
 }
 
 /// What a statement that begins now reads under a name.
+#[tactic(auto, using(crate::proofs::Readings::variable_read, crate::proofs::Readings::function_read))]
 fn reading_now(alloc: Global, machine: &Machine, name: &Name) -> Result<Reading, AllocError>
     ensures { IfOk result (λ r. r ≡ reading_now machine.now name.now) }
 {

@@ -22,10 +22,10 @@ use Rattle.apl_resume.proofs.Stops.{IsReady, ready-next, turn-idle}
 use Rattle.apl_resume.proofs.Typing.{IsSettled, settled_line, typed_line}
 use Rattle.apl_kept_sessions.specs.Promises.{behind}
 use Rattle.apl_kept_sessions.proofs.Behind.{after-behind, interrupt-behind, turn-behind}
-use Rattle.apl_kept_sessions.proofs.Going.{savable-goes-on}
+use Rattle.apl_kept_sessions.proofs.Going.{sessions-go-on}
 use Rattle.apl_kept_sessions.proofs.Sessions.{sessions-savable}
 use Rattle.apl_kept_runs.specs.Kept.{Run, after_turn, from, gone_on, kept_steps, reloaded, reloaded_at, whole, with_state}
-use Rattle.apl_kept_runs.specs.Promises.{CanBeKept, KeptRunsAreTheSame}
+use Rattle.apl_kept_runs.specs.Promises.{CanBeKept, KeptRunsAreTheSame, ReachedRunsAreTheSame}
 
 -- ---- a stop
 
@@ -86,7 +86,7 @@ answers-kept : (before : List OutLine) (t : State) → CanBeKept t → behind (b
 answers-kept before t kept =
     let loaded : State = resumed (state_of (parts_of t)) in
     ap (λ (output : List OutLine). record loaded { output = output }) (append_assoc before t.output loaded.output)
-    ∙ ap (behind before) (sym (savable-goes-on t answer kept.savable kept.idle kept.closed))
+    ∙ ap (behind before) (sym (sessions-go-on t answer kept.savable kept.idle kept.closed))
     ∙ sym (after-behind before t answer)
 
 -- b: the stop is one at which the run is saved
@@ -173,8 +173,7 @@ begun-goes x line savable idle = record {
 }
 
 pub kept-runs : KeptRunsAreTheSame
-kept-runs asked x line n reached idle =
-    let savable = reached-savable x reached in
+kept-runs asked x line n savable idle =
     let r : Run = from (typed x line) in
     let g : Goes r = begun-goes x line savable idle in
     record {
@@ -185,3 +184,6 @@ kept-runs asked x line n reached idle =
       stops = λ k. let e : (kept_steps asked k r).stops ≡ 0 + stops_in k (typed x line) = stops-same asked k r g in omega arith;
       at_the_end = sym (interrupt-behind (kept_steps asked n r).taken (kept_steps asked n r).state) ∙ ap interrupt (steps-same asked n r g);
     }
+
+pub reached-runs : ReachedRunsAreTheSame
+reached-runs asked x line n reached idle = kept-runs asked x line n (reached-savable x reached) idle

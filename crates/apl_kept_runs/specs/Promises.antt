@@ -37,7 +37,11 @@ pub record IsSameRun (asked : ℕ → Bool) (x : State) (line : List ℕ) (n : �
 
 -- the law
 abbrev pub KeptRunsAreTheSame : Type 0
-KeptRunsAreTheSame = (asked : ℕ → Bool) (x : State) (line : List ℕ) (n : ℕ) → IsReached x → is_idle x ≡ true → IsSameRun asked x line n
+KeptRunsAreTheSame = (asked : ℕ → Bool) (x : State) (line : List ℕ) (n : ℕ) → IsSavable x → is_idle x ≡ true → IsSameRun asked x line n
+
+-- and of a state to which a machine came
+abbrev pub ReachedRunsAreTheSame : Type 0
+ReachedRunsAreTheSame = (asked : ℕ → Bool) (x : State) (line : List ℕ) (n : ℕ) → IsReached x → is_idle x ≡ true → IsSameRun asked x line n
 
 -- ---- what is left
 

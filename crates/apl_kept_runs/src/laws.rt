@@ -1,13 +1,15 @@
 //! The laws of what runs leave, and of runs that are saved on their way.
-ghost use Rattle.apl_kept_runs.specs.Promises.{CutRunsCanBeKept, KeptRunsAreTheSame, RunsCanBeKept};
+ghost use Rattle.apl_kept_runs.specs.Promises.{CutRunsCanBeKept, KeptRunsAreTheSame, ReachedRunsAreTheSame, RunsCanBeKept};
 
 use apl_runs::lines_leave_idle;
 
 /// The law that the cut run of a line is the same run where it is saved, loaded again and gone on with at
 /// its stops, at whichever of them: at each of them the machine can be saved, and what follows, the states
-/// and what is written, is what follows without.
+/// and what is written, is what follows without. It holds of each state that can be saved, and so wherever
+/// a machine came to.
 pub fn kept_runs_are_the_same()
-    ensures { KeptRunsAreTheSame }
+    ensures savable { KeptRunsAreTheSame }
+    ensures reached { ReachedRunsAreTheSame }
 {
     // Nothing is done: the law is of the definitions.
 }

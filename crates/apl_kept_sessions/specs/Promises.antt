@@ -27,8 +27,13 @@ SessionsAreTheSame = (events : List Event) → is_idle (after clear events) ≡ 
 abbrev pub behind : List OutLine → State → State
 behind lines s = record s { output = lines ++ s.output }
 
--- What is loaded goes on as what it was saved of: whatever happens to an idle state to which a machine comes, without an open definition, happens to the state of its parts too,
+-- What is loaded goes on as what it was saved of: whatever happens to an idle state without an open definition happens to the state of its parts too,
 -- behind the output that was taken before it was saved.
 abbrev pub SessionsGoOn : Type 0
-SessionsGoOn = (s : State) (events : List Event) → IsReached s → is_idle s ≡ true → s.definition ≡ None
+SessionsGoOn = (s : State) (events : List Event) → IsSavable s → is_idle s ≡ true → s.definition ≡ None
+    → after s events ≡ behind s.output (after (state_of (parts_of s)) events)
+
+-- and so it does wherever a machine came to
+abbrev pub ReachedSessionsGoOn : Type 0
+ReachedSessionsGoOn = (s : State) (events : List Event) → IsReached s → is_idle s ≡ true → s.definition ≡ None
     → after s events ≡ behind s.output (after (state_of (parts_of s)) events)

@@ -1,5 +1,5 @@
 //! Laws of sessions.
-ghost use Rattle.apl_kept_sessions.specs.Promises.{SessionsAreTheSame, SessionsGoOn, SessionsKeepReached, SessionsKeepSavable};
+ghost use Rattle.apl_kept_sessions.specs.Promises.{ReachedSessionsGoOn, SessionsAreTheSame, SessionsGoOn, SessionsKeepReached, SessionsKeepSavable};
 
 /// The law that events make a state that can be saved of such a state: lines that are typed, commands
 /// and definitions among them, steps and interrupts.
@@ -20,8 +20,10 @@ pub fn sessions_are_the_same()
     ensures { SessionsAreTheSame }
 {}
 
-/// The law that a session which is saved and loaded goes on as it would have without, wherever a machine came
-/// to: whatever lines are typed, steps made and interrupts sent, its states are the same, and what is written.
+/// The law that a session which is saved and loaded goes on as it would have without, from each state that can
+/// be saved, and so wherever a machine came to: whatever lines are typed, steps made and interrupts sent, its
+/// states are the same, and what is written.
 pub fn sessions_go_on()
-    ensures { SessionsGoOn }
+    ensures savable { SessionsGoOn }
+    ensures reached { ReachedSessionsGoOn }
 {}

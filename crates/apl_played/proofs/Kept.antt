@@ -1,4 +1,4 @@
--- Lines leave nothing running, and a state to which a machine comes.
+-- Lines leave nothing running, and a state to which a machine comes, which a workspace file can hold.
 use Rattle.std.proofs.Common.{◌≡◌, ℕ, List, [], ◌∷◌, true, None, sym, subst}
 use Rattle.apl_machine_state.specs.State.{State, is_idle}
 use Rattle.apl_savable.specs.Reached.{IsReached, ReachedIsSavable, new, loaded, output_taken, defining}
@@ -7,8 +7,8 @@ use Rattle.apl_runs.specs.Idle.{LeavesIdle}
 use Rattle.apl_runs.specs.Sessions.{line_events, plain}
 use Rattle.apl_runs.specs.Transcript.{after_lines, lines_of}
 use Rattle.apl_workspace.specs.Saved.{settled}
-use Rattle.apl_played.specs.Laws.{LinesKeepReached}
-use Rattle.apl_played.specs.Playing.{BeginsWith}
+use Rattle.apl_played.specs.Laws.{LinesKeepReached, LinesKeepSavable}
+use Rattle.apl_played.specs.Playing.{BeginsWith, state_after}
 
 module _ (reached-savable : ReachedIsSavable) (sessions-reached : SessionsKeepReached) (leaves-idle : (n : ℕ) → LeavesIdle (plain n)) where
   begun-reached : (bytes : List ℕ) (s : State) → BeginsWith bytes s → IsReached s
@@ -27,7 +27,12 @@ module _ (reached-savable : ReachedIsSavable) (sessions-reached : SessionsKeepRe
   settled-reached : (s : State) → IsReached s → IsReached (settled s)
   settled-reached s h = output_taken (record s { definition = None }) (defining s None h)
 
-  pub kept : LinesKeepReached
-  kept steps workspace s lines begun idle =
+  pub lines-kept-reached : LinesKeepReached
+  lines-kept-reached steps workspace s lines begun idle =
       let h = begun-reached workspace s begun in
       (lines-idle steps s (lines_of lines) h idle, settled-reached (after_lines (plain steps) s (lines_of lines)) (lines-reached steps s (lines_of lines) h))
+
+  pub lines-kept-savable : LinesKeepSavable
+  lines-kept-savable steps workspace s lines begun idle =
+      let h = lines-kept-reached steps workspace s lines begun idle in
+      (h.0, reached-savable (state_after steps s lines) h.1)

@@ -1,13 +1,15 @@
 // Laws of calls that follow one another.
-ghost use Rattle.apl_played.specs.Laws.{CutCallsAreOne, LinesKeepReached};
+ghost use Rattle.apl_played.specs.Laws.{CutCallsAreOne, LinesKeepReached, LinesKeepSavable};
 
 use apl_kept_sessions::sessions_keep_reached;
 use apl_runs::lines_leave_idle;
 use apl_savable::reached_is_savable;
 
-/// The law that lines on a workspace's bytes leave nothing running, and a state to which a machine comes.
-pub(crate) fn lines_keep_reached()
-    ensures { LinesKeepReached }
+/// The law that lines on a workspace's bytes leave nothing running, and a state all of which a workspace file can hold: one to
+/// which a machine comes.
+pub(crate) fn lines_keep_savable()
+    ensures savable { LinesKeepSavable }
+    ensures reached { LinesKeepReached }
 {
     reached_is_savable();
     sessions_keep_reached();

@@ -1,13 +1,13 @@
 //! Lines are played on a workspace.
 ghost use Rattle.std.specs.Prelude.{◌≡◌, [], IfErr, IfOk, IsTrue, MatchResult};
 ghost use Rattle.apl_machine_state.specs.State.{State, is_idle};
-ghost use Rattle.apl_savable.specs.Reached.{IsReached};
+ghost use Rattle.apl_savable.specs.Savable.{IsSavable};
 ghost use Rattle.apl_workspace.specs.Saved.{IsLoaded, IsSavedAs, settled};
 ghost use Rattle.apl_played.specs.Playing.{BeginsWith, IsUnbegun, IsUnplayed, Plays, Runs, StopsFrom};
 ghost use Rattle.apl_played.specs.declared.error.PlayError.TheVariants as refusal;
 
 use crate::error::PlayError;
-use crate::law::lines_keep_reached;
+use crate::law::lines_keep_savable;
 use crate::memory::{Input, Output};
 use apl_machine::Machine;
 use apl_runs::{RunError, run};
@@ -64,7 +64,7 @@ fn run_lines(
 /// The file of an idle machine to which a session came.
 fn file_of(alloc: Global, machine: &Machine) -> Result<Vec<u8>, PlayError>
     requires idle { IsTrue (is_idle machine.now) }
-    requires reached { IsReached machine.now }
+    requires savable { IsSavable machine.now }
     ensures saved { IfOk result (λ b. IsSavedAs b.items machine.now) }
     ensures again { IfOk result (λ b. IsLoaded b.items (settled machine.now)) }
     ensures memory { IfErr result (λ e. e ≡ refusal.Memory) }
@@ -91,7 +91,7 @@ pub fn play(alloc: Global, workspace: &[u8], lines: &[u8], steps: u64) -> Result
     // Bytes that stand for a state stand for no other, and are refused for nothing but the lines.
     ensures complete { (s : State) → BeginsWith workspace.now s → MatchResult result (λ p. Plays steps s lines.now p) (λ e. StopsFrom steps s lines.now e) }
 {
-    lines_keep_reached();
+    lines_keep_savable();
     let before = begin(alloc, workspace)?;
     let (after, transcript) = run_lines(alloc, before, lines, steps)?;
     let workspace = file_of(alloc, &after)?;

@@ -22,11 +22,13 @@ fn run_last<L: Listener, W: Sink>(
     line: &[u8],
     writer: &mut W,
 ) -> Result<(), RunError>
-    requires { IsInOrder (L.way listener.now) }
+    requires in_order { IsInOrder (L.way listener.now) }
+    requires between { L.IsBetweenLines on.old }
     ensures state { OnOk result (on.new ≡
         (L.way listener.now).quiet ((L.way listener.now).at_end (after_lines (L.way listener.now) on.old (last_line line.now)))) }
     ensures wrote { Writes result ((L.way listener.now).unwritten ((L.way listener.now).at_end (after_lines (L.way listener.now) on.old (last_line line.now))))
         W.tells (W.written writer.old) (W.written writer.new) }
+    ensures between { OnOk result (L.IsBetweenLines on.new) }
     ensures writer { W.failed writer.new ≡ writer_failed result (W.failed writer.old) }
 {
     if line.is_empty() {
@@ -47,8 +49,10 @@ fn read_lines<L: Listener, R: Source, W: Sink>(
 ) -> Result<(), RunError>
     requires in_order { IsInOrder (L.way listener.now) }
     requires quiet { (L.way listener.now).quiet on.old ≡ on.old }
+    requires between { L.IsBetweenLines on.old }
     ensures ran { IsTrue R.tells →
         EndsRun result (L.way listener.now) on.old on.new (R.left reader.old) (R.left reader.new) W.tells (W.written writer.old) (W.written writer.new) }
+    ensures between { OnOk result (L.IsBetweenLines on.new) }
     ensures reader { R.failed reader.new ≡ reader_failed result (R.failed reader.old) }
     ensures writer { W.failed writer.new ≡ writer_failed result (W.failed writer.old) }
 {
@@ -73,8 +77,10 @@ pub fn run_lines<L: Listener, R: Source, W: Sink>(
 ) -> Result<(), RunError>
     requires in_order { IsInOrder (L.way listener.now) }
     requires quiet { (L.way listener.now).quiet on.old ≡ on.old }
+    requires between { L.IsBetweenLines on.old }
     ensures ran { IsTrue R.tells →
         EndsRun result (L.way listener.now) on.old on.new (R.left reader.old) (R.left reader.new) W.tells (W.written writer.old) (W.written writer.new) }
+    ensures between { OnOk result (L.IsBetweenLines on.new) }
     ensures reader { R.failed reader.new ≡ reader_failed result (R.failed reader.old) }
     ensures writer { W.failed writer.new ≡ writer_failed result (W.failed writer.old) }
 {

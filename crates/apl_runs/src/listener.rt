@@ -16,6 +16,9 @@ pub trait Listener {
     /// What they make of it.
     ghost way: { Self → Way Self.On };
 
+    /// How that stands between two lines.
+    ghost IsBetweenLines: { Self.On → Type 0 };
+
     /// Does a line, and writes what stands to be written then. After an error a front of that is
     /// written.
     fn hear<W: Sink>(
@@ -25,15 +28,19 @@ pub trait Listener {
         line: &[u8],
         writer: &mut W,
     ) -> Result<(), RunError>
+        requires { IsBetweenLines on.old }
         ensures state { OnOk result (on.new ≡ (way self.now).quiet ((way self.now).after_line on.old line.now)) }
         ensures wrote { Writes result ((way self.now).unwritten ((way self.now).after_line on.old line.now))
             W.tells (W.written writer.old) (W.written writer.new) }
+        ensures between { OnOk result (IsBetweenLines on.new) }
         ensures writer { W.failed writer.new ≡ writer_failed result (W.failed writer.old) };
 
     /// Does what the end of the input asks for, and writes what stands to be written then. After an
     /// error a front of that is written.
     fn end<W: Sink>(&self, alloc: Global, on: &mut Self::On, writer: &mut W) -> Result<(), RunError>
+        requires { IsBetweenLines on.old }
         ensures state { OnOk result (on.new ≡ (way self.now).quiet ((way self.now).at_end on.old)) }
         ensures wrote { Writes result ((way self.now).unwritten ((way self.now).at_end on.old)) W.tells (W.written writer.old) (W.written writer.new) }
+        ensures between { OnOk result (IsBetweenLines on.new) }
         ensures writer { W.failed writer.new ≡ writer_failed result (W.failed writer.old) };
 }

@@ -1,10 +1,12 @@
 // How a line is done on a session.
-ghost use Rattle.std.specs.Prelude.{◌≡◌, OnOk};
+ghost use Rattle.std.specs.Prelude.{◌≡◌, IsTrue, OnOk};
+ghost use Rattle.apl_machine_state.specs.State.{is_idle};
 ghost use Rattle.apl_runs.specs.Manners.{does};
 ghost use Rattle.apl_runs.specs.Output.{written, silent};
 ghost use Rattle.apl_runs.specs.Runs.{Writes, writer_failed};
 ghost use Rattle.apl_runs.specs.Sessions.{plain_line};
 
+use crate::law::lines_leave_idle;
 use crate::lines::write_lines;
 use crate::listener::Listener;
 use crate::runs::RunError;
@@ -24,27 +26,32 @@ pub enum Manner {
 
 /// Types a line, makes its steps, and interrupts what still runs.
 fn type_line(session: &mut Session, line: &[u8], steps: u64) -> Result<(), AllocError>
+    requires { IsTrue (is_idle session.old) }
     ensures { OnOk result (session.new ≡ plain_line steps session.old line.now) }
 {
     match session.feed(line) {
         Ok(()) => {}
-        Err(FeedError::Busy) => {}
+        Err(FeedError::Busy) => unreachable!(),
         Err(FeedError::Memory) => return Err(AllocError),
     }
     session.advance(steps)?;
     session.interrupt()
 }
 
-/// Does a line.
+/// Does a line, which leaves nothing running.
 fn do_line(session: &mut Session, line: &[u8], manner: Manner) -> Result<(), AllocError>
-    ensures { OnOk result (session.new ≡ does manner session.old line.now) }
+    requires { IsTrue (is_idle session.old) }
+    ensures done { OnOk result (session.new ≡ does manner session.old line.now) }
+    ensures idle { OnOk result (IsTrue (is_idle session.new)) }
 {
+    session.keeps_order();
+    lines_leave_idle();
     match manner {
         Manner::Plain(steps) => type_line(session, line, steps),
         Manner::Answered(steps) => match resume_all(session, line, steps) {
             Ok(_) => Ok(()),
-            // No line leaves the session running, so it isn't busy (`lines_leave_idle`).
-            Err(_) => Err(AllocError),
+            Err(FeedError::Busy) => unreachable!(),
+            Err(FeedError::Memory) => Err(AllocError),
         },
     }
 }
@@ -65,11 +72,15 @@ fn write_output<W: Sink>(
 }
 
 impl Listener for Manner {
+    ghost use Rattle.std.specs.Prelude.{IsTrue};
+    ghost use Rattle.apl_machine_state.specs.State.{is_idle};
     ghost use Rattle.apl_runs.specs.Manners.{way};
 
     type On = Session;
 
     ghost way = { way };
+
+    ghost IsBetweenLines = { λ s. IsTrue (is_idle s) };
 
     fn hear<W: Sink>(
         &self,

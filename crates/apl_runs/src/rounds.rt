@@ -212,11 +212,14 @@ pub struct Rounds {
 }
 
 impl Listener for Rounds {
+    ghost use Rattle.std.specs.Prelude.{⊤};
     ghost use Rattle.apl_runs.specs.Rounds.{rounds};
 
     type On = Board;
 
     ghost way = { λ r. rounds r.steps };
+
+    ghost IsBetweenLines = { λ _. ⊤ };
 
     fn hear<W: Sink>(
         &self,

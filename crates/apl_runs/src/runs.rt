@@ -83,6 +83,7 @@ fn run_in<R: Source, W: Sink>(
     ensures transcript { IsTrue R.tells → IsTrue W.tells →
         OnOk result (W.written writer.new ≡ W.written writer.old ++ transcript (way manner) (closed ws) (R.left reader.old)) }
     ensures state { IsTrue R.tells → IfOk result (λ m. m ≡ closed (silent (after_lines (way manner) (closed ws) (lines_of (R.left reader.old))))) }
+    ensures idle { IfOk result (λ m. IsTrue (is_idle m)) }
     ensures read_to_end { IsTrue R.tells → OnOk result (R.left reader.new ≡ []) }
     ensures within { IsTrue R.tells → OnOk result (IsWithinLimits (R.left reader.old)) }
     ensures stopped { IsTrue R.tells →
@@ -101,7 +102,7 @@ fn run_in<R: Source, W: Sink>(
 /// writes the output. A line that comes to a stop ends there. Lines end with a line feed, and a
 /// carriage return before it is dropped; what follows the last line feed is a line if it isn't
 /// empty. A definition that is open at the end is left out. The machine is idle and has no output,
-/// by the caller's care. It is dropped after an error:
+/// by the caller's care, and idle when it is given back. It is dropped after an error:
 ///
 /// - Read where the reader failed. All that the complete lines write is written.
 /// - Write where the writer failed or took no byte, Memory where a growth was refused. A front of what
@@ -121,6 +122,7 @@ pub fn run<R: Source, W: Sink>(
     ensures transcript { IsTrue R.tells → IsTrue W.tells →
         OnOk result (W.written writer.new ≡ W.written writer.old ++ transcript (plain steps) (closed ws) (R.left reader.old)) }
     ensures state { IsTrue R.tells → IfOk result (λ m. m ≡ closed (silent (after_lines (plain steps) (closed ws) (lines_of (R.left reader.old))))) }
+    ensures idle { IfOk result (λ m. IsTrue (is_idle m)) }
     ensures read_to_end { IsTrue R.tells → OnOk result (R.left reader.new ≡ []) }
     ensures within { IsTrue R.tells → OnOk result (IsWithinLimits (R.left reader.old)) }
     ensures stopped { IsTrue R.tells →
@@ -155,6 +157,7 @@ pub fn run_resumed<R: Source, W: Sink>(
     ensures transcript { IsTrue R.tells → IsTrue W.tells →
         OnOk result (W.written writer.new ≡ W.written writer.old ++ transcript (answered steps) (closed ws) (R.left reader.old)) }
     ensures state { IsTrue R.tells → IfOk result (λ m. m ≡ closed (silent (after_lines (answered steps) (closed ws) (lines_of (R.left reader.old))))) }
+    ensures idle { IfOk result (λ m. IsTrue (is_idle m)) }
     ensures read_to_end { IsTrue R.tells → OnOk result (R.left reader.new ≡ []) }
     ensures within { IsTrue R.tells → OnOk result (IsWithinLimits (R.left reader.old)) }
     ensures stopped { IsTrue R.tells →

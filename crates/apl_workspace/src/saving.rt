@@ -2,6 +2,7 @@
 ghost use Rattle.std.specs.Prelude.{◌≡◌, ◌↔◌, IfOk, IsErrOf, IsFalse};
 ghost use Rattle.apl_machine_state.specs.State.{is_idle};
 ghost use Rattle.apl_savable.specs.Reached.{IsReached};
+ghost use Rattle.apl_savable.specs.Savable.{IsSavable};
 ghost use Rattle.apl_workspace.specs.Saved.{IsLoaded, IsSavedAs, settled};
 ghost use Rattle.apl_workspace.specs.declared.error.SaveError.TheVariants as error;
 
@@ -17,8 +18,9 @@ use std::alloc::Global;
 pub fn save(alloc: Global, machine: &Machine) -> Result<Vec<u8>, SaveError>
     ensures running { IsErrOf result error.Running ↔ IsFalse (is_idle machine.now) }
     ensures saved { IfOk result (λ b. IsSavedAs b.items machine.now) }
-    // What is loaded of it is the same state, for each that a machine comes to.
-    ensures again { IsReached machine.now → IfOk result (λ b. IsLoaded b.items (settled machine.now)) }
+    // What is loaded of it is the same state, for each that a file can hold, and so for each that a machine comes to.
+    ensures again { IsSavable machine.now → IfOk result (λ b. IsLoaded b.items (settled machine.now)) }
+    ensures reached { IsReached machine.now → IfOk result (λ b. IsLoaded b.items (settled machine.now)) }
 {
     if !machine.is_idle() {
         return Err(SaveError::Running);

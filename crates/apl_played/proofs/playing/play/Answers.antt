@@ -1,10 +1,10 @@
 use Rattle.std.proofs.Common.{sym, subst}
 use Rattle.std.proofs.lemmas.Result.{err_from_is_err_and}
-use Rattle.apl_savable.specs.Reached.{IsReached}
+use Rattle.apl_savable.specs.Savable.{IsSavable}
 use Rattle.apl_played.proofs.playing.play.Goals as goal
 
-pub file_of-requires-clause-reached : goal.file_of-requires-clause-reached
-file_of-requires-clause-reached c = subst IsReached (sym c.in_ok-after.ensures.ran.state) (c.lines_keep_reached.ensures c.args.steps c.args.workspace.now c.in_ok-before.before c.args.lines.now c.in_ok-before.ensures.begun c.in_ok-before.ensures.idle).1
+pub file_of-requires-clause-savable : goal.file_of-requires-clause-savable
+file_of-requires-clause-savable c = subst IsSavable (sym c.in_ok-after.ensures.ran.state) (c.lines_keep_savable.ensures.savable c.args.steps c.args.workspace.now c.in_ok-before.before c.args.lines.now c.in_ok-before.ensures.begun c.in_ok-before.ensures.idle).1
 
 -- want of memory says nothing
 

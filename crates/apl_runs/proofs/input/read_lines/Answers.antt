@@ -31,6 +31,7 @@ loop-preserved g c = record {
       (g.W.Sink.written c.args.writer.now) (g.W.Sink.written c.loop.writer) (g.W.Sink.written c.hear.new.writer) c.loop.on c.hear.new.on c.loop.counter
       c.read_line.new.line.items c.deref-in-loop.result.now c.in_ok-read_line.field-0
       (c.loop.invariant.reached r) c.if-not-branch.false c.deref-in-loop.ensures.value (c.in_ok-read_line.ensures.line r) c.in_ok-hear.ensures.state c.in_ok-hear.ensures.wrote;
+  between = c.in_ok-hear.ensures.between;
   reader = c.in_ok-read_line.ensures.reader ∙ c.loop.invariant.reader;
   writer = c.in_ok-hear.ensures.writer ∙ c.loop.invariant.writer;
 }

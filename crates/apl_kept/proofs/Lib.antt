@@ -1,0 +1,4 @@
+pub mod Beginning
+pub mod Readings
+pub mod Slices
+pub mod Sources
