@@ -23,9 +23,8 @@ class Page {
     #lasting = null;
     session = null;
 
-    constructor(source, module) {
+    constructor(source) {
         this.source = source;
-        this.module = module;
         this.name = decodeURIComponent(location.hash.slice(1)) || FIRST;
         // What is pointed at is shown; what is told is read aloud too.
         this.show = text => { it('hint').textContent = text; };
@@ -44,8 +43,8 @@ class Page {
         if (this.name !== FIRST) document.title = `${this.name} · APL`;
     }
 
-    /** Opens the workspace that the address names, where no other page has it. */
-    async open() {
+    /** Opens the workspace that the address names, where no other page has it. `module` is a promise of the compiled module. */
+    async open(module) {
         try {
             this.store = await Store.open();
         } catch (error) {
@@ -55,8 +54,10 @@ class Page {
         if (this.store && !await lock(this.name, () => this.#begin())) {
             it('state').textContent = 'Open elsewhere';
             this.banner('This workspace is open in another tab. It opens here when that is closed.', ['Work on a copy', () => this.#copy()]);
+            this.module = await module;
             return;
         }
+        this.module = await module;
         await this.#begin();
     }
 
@@ -281,8 +282,8 @@ class Page {
 /** Begins the page, whose module comes from `load`; `source` is this script's address, which the worker is begun with. */
 export async function show(source, load) {
     try {
-        const page = new Page(source, await load());
-        await page.open();
+        const module = load();
+        await new Page(source).open(module);
     } catch (error) {
         it('state').textContent = `The machine can't begin: ${error?.message || error}`;
     }

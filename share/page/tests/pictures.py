@@ -16,6 +16,7 @@ def pictures(folder: Path, to: Path) -> None:
     try:
         tab = trial.tab("class")
         tab.typed(*SHOWN)
+        tab.until("document.querySelector('#levels code').textContent")
         tab.keys("V`[1 2 6")
         tab.run("document.querySelector('#bar button[aria-label^=\"shape\"]').dispatchEvent(new PointerEvent('pointerenter'))")
         tab.picture(f"{to}/page.png")
