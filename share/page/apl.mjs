@@ -15,6 +15,15 @@ const encoder = new TextEncoder();
 const FIRST = 'workspace';
 const WELCOME = 'Type a line below, as 2+3×4, and Enter. Backquote and a key type a character: `- is ×. Learn, above, has a tutorial.';
 
+/** The name in an address, or what stands there where it is none. */
+function named(text) {
+    try {
+        return decodeURIComponent(text);
+    } catch {
+        return text;
+    }
+}
+
 class Page {
     #words = [];
     #levels = [];
@@ -25,7 +34,7 @@ class Page {
 
     constructor(source) {
         this.source = source;
-        this.name = decodeURIComponent(location.hash.slice(1)) || FIRST;
+        this.name = named(location.hash.slice(1)) || FIRST;
         // What is pointed at is shown; what is told is read aloud too.
         this.show = text => { it('hint').textContent = text; };
         this.say = text => { it('hint').textContent = it('told').textContent = text; };
@@ -34,13 +43,13 @@ class Page {
             enter: lines => this.type(lines), say: this.say,
         });
         this.transcript = new Transcript(it('transcript'), line => this.entry.set(line));
-        this.window = new FunctionWindow(it('function'), lines => this.type(lines));
+        this.window = new FunctionWindow(it('function'), lines => this.typeAlone(lines));
         this.guide = new Guide({ place: it('guide'), type: lines => this.type(lines), put: line => this.entry.set(line), moved: () => this.session?.keepSoon() });
         showBar(it('bar'), CONTENT, { put: text => this.entry.put(text), say: this.show });
         this.#menus();
         this.#buttons();
-        it('name').textContent = document.title = this.name;
-        if (this.name !== FIRST) document.title = `${this.name} · APL`;
+        it('name').textContent = this.name;
+        document.title = this.name === FIRST ? 'APL' : `${this.name} · APL`;
     }
 
     /** Opens the workspace that the address names, where no other page has it. `module` is a promise of the compiled module. */
@@ -97,7 +106,7 @@ class Page {
             wrote: wrote => this.transcript.wrote(wrote),
             note: text => this.transcript.note(text),
             undone: (why, lines) => this.#undone(why, lines),
-            ended: next => this.entry.number(next),
+            ended: next => { this.entry.number(next); },
             running: (isRunning, byForce) => this.#running(isRunning, byForce),
             state: (named, standing) => this.#state(named ?? '', standing ?? ''),
             calls: calls => showLevels(it('levels'), this.#levels, calls, name => this.edit(name)),
@@ -115,12 +124,18 @@ class Page {
         this.entry.focus();
     }
 
+    /** Types lines that are statements or a definition of their own, where no definition is open that would take them. */
+    typeAlone(lines) {
+        if (this.session?.next) this.say('A definition is open: close it by ∇ first.');
+        else this.type(lines);
+    }
+
     #running(isRunning, byForce) {
         it('state').textContent = isRunning ? 'Running' : 'Ready';
         it('interrupt').disabled = !isRunning;
         it('interrupt').textContent = byForce ? 'Stop by force' : 'Interrupt';
         if (byForce) this.say('The line is in the midst of a long step. To stop it by force goes back to the workspace that was kept last.');
-        it('resume').disabled = it('give-up').disabled = isRunning || !this.#levels.length;
+        it('resume').disabled = it('give-up').disabled = isRunning || !this.#levels.length || this.session?.next > 0;
     }
 
     #state(named, standing) {
@@ -131,7 +146,7 @@ class Page {
         this.#levels = levels(standing);
         this.#words = [...functions, ...variables].map(it => it.name);
         showLevels(it('levels'), this.#levels, null, name => this.edit(name));
-        showVariables(it('variables'), variables, name => this.type([name]));
+        showVariables(it('variables'), variables, name => this.typeAlone([name]));
         showFunctions(it('functions'), functions, name => this.edit(name));
         this.#running(false, false);
     }

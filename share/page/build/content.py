@@ -14,6 +14,9 @@ TYPING = """\
 A character of the language is typed by a backquote and a key: `` `- `` is `×`, `` `i `` is `⍳`, `` `r `` is `⍴`, `` `[ `` is `←`, `` `2 `` is `¯`, \
 `` `g `` is `∇`, `` `l `` is `⎕`. The bar above the session has them all, and tells the key of each. The arrow keys bring back earlier lines, Tab \
 completes names. A click on a line of this page takes it to be typed, and the button below types all lines of a step."""
+# A line has a bound of steps there, and none here.
+BOUND = "Each typed line is given a million steps. What takes more is interrupted, and is suspended as after a fault."
+NO_BOUND = "A line that doesn't end is ended by the button Interrupt, and is suspended as after a fault. The lines behind it are then offered again."
 LEFT_OUT = ("Keeping it for another day", "What comes next")
 
 
@@ -77,7 +80,7 @@ def page(name: str, path: Path, workspace: str | None) -> dict[str, Any]:
     heading = title = title.removeprefix("# ")
     for line in [*rest, "## "]:
         if not line.startswith("## "):
-            line = OF_A_TERMINAL.sub("", line).replace(". in this text", ". In this text")
+            line = OF_A_TERMINAL.sub("", line).replace(". in this text", ". In this text").replace(BOUND, NO_BOUND)
             lines.append(TYPING if line.startswith("APL's characters are typed by") else line)
             continue
         if heading not in LEFT_OUT:

@@ -112,6 +112,8 @@ class Assembling(unittest.TestCase):
         self.assertEqual(typed[:2], ["2+3×4", "2×3+4"])
         self.assertIn("∇Z←MEAN V", typed)
         self.assertNotIn("apl-terminal", str(pages))
+        self.assertNotIn("million steps", str(pages))
+        self.assertIn("the button Interrupt", str(pages["tutorial"]))
 
     def test_the_policy_allows_the_script_that_stands_in_the_page(self) -> None:
         page = assemble.one_file(b"module")

@@ -127,6 +127,10 @@ def functions_and_variables(trial: Trial) -> str:
     has(tab.typed("HALF 7"), "3\n")
     tab.click("#variables button")
     tab.until("document.getElementById('transcript').textContent.endsWith('      M\\n1 2 3\\n4 5 6\\n')")
+    tab.typed("∇OPEN")
+    tab.click("#variables button")
+    tab.until("document.getElementById('told').textContent.startsWith('A definition is open')")
+    has(tab.typed("∇"), "[1]   ∇")
     tab.close()
     return ""
 
