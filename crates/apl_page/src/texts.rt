@@ -10,7 +10,7 @@ use crate::refusal::Refusal;
 use crate::spelling::spelled;
 use apl_charset::{Ch, CharFault, Text, decode_line, push_ascii, push_number};
 use apl_faults::{Call, place as place_text};
-use apl_kept::{KeptError, Named, Reading};
+use apl_kept::{KeptError, Named, Reading, Shape};
 use apl_machine::Level;
 use apl_session::Bytes;
 use apl_symbols::Name;
@@ -40,18 +40,13 @@ fn push_lengths(line: &mut Vec<Ch>, lengths: &[usize]) -> Result<(), AllocError>
 }
 
 /// The name of a variable, a blank, a letter, and the lengths of its axes.
-fn variable_line(
-    alloc: Global,
-    name: &Name,
-    letter: Ch,
-    lengths: &[usize],
-) -> Result<Text, AllocError>
-    ensures { IfOk result (λ line. line ≡ variable_line name.now letter lengths.now) }
+fn variable_line(alloc: Global, name: &Name, letter: Ch, shape: &Shape) -> Result<Text, AllocError>
+    ensures { IfOk result (λ line. line ≡ variable_line name.now letter shape.now) }
 {
     let mut line = Vec::from_slice(alloc, name.as_slice())?;
     line.push(Ch::ascii(b' '))?;
     line.push(letter)?;
-    push_lengths(&mut line, lengths)?;
+    push_lengths(&mut line, shape.as_slice())?;
     Ok(Text::new(line))
 }
 
@@ -62,10 +57,8 @@ fn name_line(alloc: Global, named: &Named) -> Result<Text, AllocError>
     let name = &named.name;
     match &named.reading {
         Reading::Function(header) => function_line(alloc, header.as_slice()),
-        Reading::Numbers(shape) => { variable_line(alloc, name, Ch::ascii(b'N'), shape.as_slice()) }
-        Reading::Characters(shape) => {
-            variable_line(alloc, name, Ch::ascii(b'C'), shape.as_slice())
-        }
+        Reading::Numbers(shape) => variable_line(alloc, name, Ch::ascii(b'N'), shape),
+        Reading::Characters(shape) => variable_line(alloc, name, Ch::ascii(b'C'), shape),
         Reading::Unset => Ok(Text::new(Vec::from_slice(alloc, name.as_slice())?)),
     }
 }
