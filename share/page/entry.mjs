@@ -11,6 +11,7 @@ export class Entry {
     #history = [];
     #at = 0;
     #draft = '';
+    #listed = null;         // what stood before the cursor when names were told
 
     /** `keys` are characters by their key; `known` gives the names to complete; `enter` is called with the lines that are typed, and `say` with what
      * is to be told. */
@@ -116,12 +117,14 @@ export class Entry {
         this.#line.setSelectionRange(this.#line.value.length, this.#line.value.length);
     }
 
-    /** Completes the name before the cursor, and tells which there are where there are more. Returns whether there is one. */
+    /** Completes the name before the cursor, and tells which there are where there are more. Returns whether that did anything: where not, the Tab key
+     * leaves the line. */
     #complete() {
-        const { rest, found } = completion(this.#line.value.slice(0, this.#line.selectionStart), this.known());
-        if (!found.length) return false;
+        const before = this.#line.value.slice(0, this.#line.selectionStart), { rest, found } = completion(before, this.known());
+        if (!found.length || !rest && (found.length === 1 || this.#listed === before)) return false;
         this.put(rest);
         if (found.length > 1) this.say(found.join('  '));
+        this.#listed = before + rest;
         return true;
     }
 }

@@ -18,6 +18,7 @@ export class Session {
     #patience = 0;
     #questions = new Map();
     #waiting = [];          // who waits for the file of the state that stands
+    #isOpen = false;
     isRunning = false;
     next = 0;
 
@@ -42,10 +43,16 @@ export class Session {
         this.#worker.postMessage({ what: 'begin', module: this.module, bytes: this.#file, pending: this.#open });
     }
 
-    /** Gives up the worker and begins another one from the file that was made last. */
+    /** Gives up the worker and begins another one from the file that was made last, if one could be opened before. */
     #die(why) {
         this.#worker.terminate();
         clearTimeout(this.#patience);
+        if (!this.#isOpen) {
+            this.store = null;
+            this.tell.unkept(`the machine can't begin with this workspace, which stays as it is (${why})`);
+            return;
+        }
+        this.#isOpen = false;
         this.tell.note(`The machine was begun again from the workspace that was kept last: ${why}.`);
         const undone = this.#undone();
         if (undone.length) this.tell.undone('Lines that were typed since are not done.', undone);
@@ -145,6 +152,7 @@ export class Session {
     }
 
     _opened({ number, next }) {
+        this.#isOpen = true;
         this.next = next;
         if (number) {
             // What is kept stays as it is.

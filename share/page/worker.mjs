@@ -151,8 +151,8 @@ export function work(port) {
     }
 
     const answers = {
-        begin({ module, bytes, pending }) {
-            machine = new Machine(module);
+        begin({ module, bytes, pending, most }) {
+            machine = new Machine(module, most);
             open(bytes, pending);
         },
         lines({ lines: more }) {

@@ -32,9 +32,9 @@ class Told {
     }
 }
 
-function begun(pending = []) {
+function begun(pending = [], most) {
     const told = new Told();
-    told.send({ what: 'begin', module: moduleOf(process.env.MODULE), bytes: new Uint8Array(), pending });
+    told.send({ what: 'begin', module: moduleOf(process.env.MODULE), bytes: new Uint8Array(), pending, most });
     return told;
 }
 
@@ -68,6 +68,14 @@ test('an interrupt ends what runs, and gives back the lines that were to follow'
     assert.deepStrictEqual((await told.until('left')).lines, ['A←1', 'B←2']);
 });
 
+test('where memory is refused the line is told by its number, and the next one is done', async () => {
+    const told = begun([], 6n << 20n);
+    told.send({ what: 'lines', lines: ['⍳1000000', '2+3'] });
+    await told.until('ended', 2);
+    assert.deepStrictEqual(told.messages.filter(it => it.what === 'ended').map(it => it.number), [8, 0]);
+    assert.ok(told.written().endsWith('5\n'));
+});
+
 test('a worker that dies says so once, and answers nothing more', () => {
     const told = new Told();
     told.send({ what: 'listing', name: 'F', question: 1 });
@@ -95,6 +103,7 @@ function stood({ notes, put } = {}) {
 test('where the worker dies, its lines and those that waited are told, and another begins from the last file', async () => {
     const { seen, session, say } = stood();
     const file = new Uint8Array([1]);
+    say({ what: 'opened', number: 0, next: 0 });
     say({ what: 'saved', number: 0, bytes: file, calls: [] });
     session.type(['A', 'B', 'C']);
     say({ what: 'typed', line: 'A', number: 0 });
@@ -106,6 +115,12 @@ test('where the worker dies, its lines and those that waited are told, and anoth
     assert.strictEqual(seen.workers[1].sent[0].bytes, file);
     await wait(100);
     assert.deepStrictEqual(seen.puts.at(-1)[0].since, []);
+});
+
+test('where the machine never begins no other one is tried, and what is kept stays', () => {
+    const { seen, session, say } = stood();
+    say({ what: 'died', why: 'a trap' });
+    assert.deepStrictEqual([seen.workers.length, seen.unkept.length, session.store], [1, 1, null]);
 });
 
 test('lines that were typed since the file was made are told when it is opened again', async () => {
