@@ -1,6 +1,6 @@
 /** The page: what stands in it, and what its buttons and keys do. */
 import { CONTENT } from './content.mjs';
-import { Entry } from './entry.mjs';
+import { Entry, typeByKeys } from './entry.mjs';
 import { Guide } from './guide.mjs';
 import { Machine } from './machine.mjs';
 import { FunctionWindow, make, showFunctions, showLevels, showVariables } from './panels.mjs';
@@ -38,13 +38,16 @@ class Page {
         // What is pointed at is shown; what is told is read aloud too.
         this.show = text => { it('hint').textContent = text; };
         this.say = text => { it('hint').textContent = it('told').textContent = text; };
+        const keys = new Map(CONTENT.keys);
         this.entry = new Entry({
-            line: it('line'), label: it('prompt'), form: it('form'), keys: new Map(CONTENT.keys), known: () => this.#words,
+            line: it('line'), label: it('prompt'), form: it('form'), keys, known: () => this.#words,
             enter: lines => this.type(lines), say: this.say,
         });
         this.transcript = new Transcript(it('transcript'), line => this.entry.set(line));
         this.window = new FunctionWindow(it('function'), lines => this.typeAlone(lines));
         this.guide = new Guide({ place: it('guide'), type: lines => this.type(lines), put: line => this.entry.set(line), moved: () => this.session?.keepSoon() });
+        typeByKeys(this.window.text, keys);
+        showBar(it('function').querySelector('.bar'), CONTENT, { put: text => this.window.put(text), say: this.show });
         showBar(it('bar'), CONTENT, { put: text => this.entry.put(text), say: this.show });
         this.#menus();
         this.#buttons();
@@ -62,6 +65,7 @@ class Page {
         }
         if (this.store && !await lock(this.name, () => this.#begin())) {
             it('state').textContent = 'Open elsewhere';
+            it('line').disabled = true;
             this.banner('This workspace is open in another tab. It opens here when that is closed.', ['Work on a copy', () => this.#copy()]);
             this.module = await module;
             return;
@@ -73,6 +77,7 @@ class Page {
     async #begin() {
         const { file, notes } = await this.store?.get(this.name) ?? {};
         if (this.store) this.banner('');
+        it('line').disabled = false;
         this.transcript.clear();
         this.transcript.restore(notes?.transcript ?? []);
         if (!notes) this.transcript.note(WELCOME);

@@ -3,11 +3,31 @@ import { completion, pasted, prompt } from './text.mjs';
 
 const REMEMBERED = 500;     // lines of the history
 
+/** Lets a backquote and a key type a character of the language in a field. It goes by what stands there, since not all keyboards tell their keys. */
+export function typeByKeys(field, keys) {
+    let armed = -1;         // where a backquote waits for its key
+    field.addEventListener('input', ({ data }) => {
+        const at = field.selectionStart, before = field.value.slice(0, at), key = before.at(-1);
+        if (armed === at - 1 && before.at(-2) === '`' && keys.has(key)) {
+            field.setRangeText(keys.get(key), at - 2, at, 'end');
+            armed = -1;
+        } else {
+            armed = data && key === '`' ? at : -1;
+        }
+    });
+    field.addEventListener('keydown', event => {
+        if (event.key === 'Escape') armed = -1;
+        if (event.key !== 'Dead' || event.code !== 'Backquote') return;
+        // On a keyboard whose backquote waits for a letter to stand above.
+        event.preventDefault();
+        field.setRangeText('`', field.selectionStart, field.selectionEnd, 'end');
+        armed = field.selectionStart;
+    });
+}
+
 export class Entry {
     #line;
     #prompt;
-    #keys;
-    #armed = -1;
     #history = [];
     #at = 0;
     #draft = '';
@@ -18,7 +38,6 @@ export class Entry {
     constructor({ line, label, form, keys, known, enter, say }) {
         this.#line = line;
         this.#prompt = label;
-        this.#keys = keys;
         this.known = known;
         this.say = say;
         form.addEventListener('submit', event => {
@@ -28,7 +47,7 @@ export class Entry {
             enter([typed]);
         });
         line.addEventListener('keydown', event => this.#key(event));
-        line.addEventListener('input', event => this.#typed(event));
+        typeByKeys(line, keys);
         line.addEventListener('paste', event => {
             const { lines, last } = pasted(event.clipboardData.getData('text'));
             if (!lines.length) return;
@@ -48,13 +67,11 @@ export class Entry {
     /** Puts text where the cursor is. */
     put(text) {
         this.#line.setRangeText(text, this.#line.selectionStart, this.#line.selectionEnd, 'end');
-        this.#armed = -1;
         this.focus();
     }
 
     set(text) {
         this.#line.value = text;
-        this.#armed = -1;
         this.focus();
     }
 
@@ -89,24 +106,6 @@ export class Entry {
             event.preventDefault();
         } else if (event.key === 'Tab' && !event.shiftKey) {
             if (this.#complete()) event.preventDefault();
-        } else if (event.key === 'Escape') {
-            this.#armed = -1;
-        } else if (event.key === 'Dead' && event.code === 'Backquote') {
-            // On a keyboard whose backquote waits for a letter to stand above.
-            event.preventDefault();
-            this.put('`');
-            this.#armed = this.#line.selectionStart;
-        }
-    }
-
-    /** A character was typed: behind a backquote it becomes that of its key. By what stands in the line, since not all keyboards tell their keys. */
-    #typed({ data }) {
-        const at = this.#line.selectionStart, before = this.#line.value.slice(0, at), key = before.at(-1);
-        if (this.#armed === at - 1 && before.at(-2) === '`' && this.#keys.has(key)) {
-            this.#line.setRangeText(this.#keys.get(key), at - 2, at, 'end');
-            this.#armed = -1;
-        } else {
-            this.#armed = data && key === '`' ? at : -1;
         }
     }
 

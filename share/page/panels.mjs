@@ -68,6 +68,12 @@ export class FunctionWindow {
         return this.#text;
     }
 
+    /** Puts text where the cursor is. */
+    put(text) {
+        this.#text.setRangeText(text, this.#text.selectionStart, this.#text.selectionEnd, 'end');
+        this.#text.focus();
+    }
+
     /** Shows a function by its header and lines. */
     open(listing) {
         this.#why.textContent = '';
