@@ -1,0 +1,109 @@
+"""What the page shows of this repository: the keys, an example of each character, the tutorial and the sample workspaces."""
+import json
+import re
+from pathlib import Path
+from typing import Any
+
+from modules import TOP, script
+
+SHARE = Path(TOP) / "share"
+PLAIN = ("```sh", "```")
+# What the documents say of a terminal, and what the page says in its place.
+OF_A_TERMINAL = re.compile(r" `bin/apl-terminal [^`]*` opens it[^.]*\.| Start `bin/apl-terminal` .*?;(?= in this text)")
+TYPING = """\
+A character of the language is typed by a backquote and a key: `` `- `` is `×`, `` `i `` is `⍳`, `` `r `` is `⍴`, `` `[ `` is `←`, `` `2 `` is `¯`, \
+`` `g `` is `∇`, `` `l `` is `⎕`. The bar above the session has them all, and tells the key of each. The arrow keys bring back earlier lines, Tab \
+completes names. A click on a line of this page takes it to be typed, and the button below types all lines of a step."""
+# A line has a bound of steps there, and none here.
+BOUND = "Each typed line is given a million steps. What takes more is interrupted, and is suspended as after a fault."
+NO_BOUND = "A line that doesn't end is ended by the button Interrupt, and is suspended as after a fault. The lines behind it are then offered again."
+LEFT_OUT = ("Keeping it for another day", "What comes next")
+
+
+def keys() -> list[tuple[str, str, str]]:
+    """Returns the keys behind the backquote: each with its character and what that is."""
+    lines = (SHARE / "keys.txt").read_text(encoding="utf-8").splitlines()
+    found = [line.split(" ", 2) for line in lines if line[1:2] == " "]
+    return [(key, character, meaning) for key, character, meaning in found]
+
+
+def examples() -> dict[str, tuple[str, str]]:
+    """Returns an example by its character: what is typed, and what that gives."""
+    lines = (SHARE / "page/examples.txt").read_text(encoding="utf-8").splitlines()
+    found = [line.split("\t") for line in lines if "\t" in line]
+    return {character: (typed, answer) for character, typed, answer in found}
+
+
+def typed_lines(lines: list[str]) -> list[dict[str, Any]]:
+    """Returns the lines of a session as a document has them, each with whether it is typed, and then without its six blanks."""
+    check = script(f"{TOP}/bin/check-docs")
+    found: list[dict[str, Any]] = []
+    for entry in check.entries_of([("", line) for line in lines]):
+        found += [{"typed": True, "text": it} for it in entry.typed]
+        found += [{"typed": False, "text": it} for it in entry.answer]
+    return found
+
+
+def block(lines: list[str]) -> dict[str, Any]:
+    """Returns a block of a page: a session, another listing, a table, or words."""
+    if lines[0].startswith("```apl"):
+        return {"kind": "apl", "lines": typed_lines(lines[1:-1])}
+    if lines[0] in PLAIN:
+        return {"kind": "plain", "lines": lines[1:-1]}
+    return {"kind": "table" if lines[0].startswith("|") else "text", "lines": lines}
+
+
+def blocks(lines: list[str]) -> list[dict[str, Any]]:
+    """Returns the blocks of a step of a page."""
+    found: list[dict[str, Any]] = []
+    taken: list[str] = []
+    fenced = False
+    for line in [*lines, ""]:
+        fence = line.startswith("```")
+        if taken and not fenced and (not line or fence):
+            found.append(block(taken))
+            taken = []
+        if line or fenced:
+            taken.append(line)
+        if fence and fenced:
+            found.append(block(taken))
+            taken = []
+        fenced ^= fence
+    return found
+
+
+def page(name: str, path: Path, workspace: str | None) -> dict[str, Any]:
+    """Returns a page whose steps begin at its headings, with the workspace that it is of."""
+    steps: list[dict[str, Any]] = []
+    lines: list[str] = []
+    title, *rest = path.read_text(encoding="utf-8").splitlines()
+    heading = title = title.removeprefix("# ")
+    for line in [*rest, "## "]:
+        if not line.startswith("## "):
+            line = OF_A_TERMINAL.sub("", line).replace(". in this text", ". In this text").replace(BOUND, NO_BOUND)
+            lines.append(TYPING if line.startswith("APL's characters are typed by") else line)
+            continue
+        if heading not in LEFT_OUT:
+            steps.append({"title": heading, "blocks": blocks(lines)})
+        heading, lines = line[3:], []
+    return {"name": name, "title": title, "workspace": workspace, "steps": steps}
+
+
+def content() -> dict[str, Any]:
+    """Returns all that the page shows of the repository."""
+    pages = [page("tutorial", Path(TOP) / "docs/TUTORIAL.md", None)]
+    for path in sorted((SHARE / "workspaces").glob("*.md")):
+        pages.append(page(path.stem, path, path.with_suffix(".json").read_text(encoding="utf-8")))
+    found = keys()
+    return {
+        "keys": [(key, character) for key, character, _ in found],
+        "meanings": {character: meaning for _, character, meaning in found},
+        "examples": examples(),
+        "pages": pages,
+    }
+
+
+def as_module() -> str:
+    """Returns the content as a module of the page."""
+    text = json.dumps(content(), ensure_ascii=False, separators=(",", ":")).replace("<", "\\u003c")
+    return f"/** What the page shows of this repository, made by bin/build-page. */\nexport const CONTENT = {text};\n"
