@@ -121,7 +121,10 @@ class Page {
     }
 
     type(lines) {
-        if (!this.session) return;
+        if (!this.session) {
+            this.entry.set(lines.join(''));
+            return;
+        }
         // So that the browser doesn't clear away what it keeps when room is short.
         this.#lasting ??= navigator.storage?.persist?.().catch(() => false) ?? true;
         for (const line of lines) this.entry.remember(line);
