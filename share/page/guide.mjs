@@ -49,11 +49,19 @@ export class Guide {
         this.moved();
     }
 
-    #go(by) {
-        this.#step += by;
+    #go(step) {
+        this.#step = step;
         this.#show();
         this.moved();
         this.#place.querySelector('h2').focus();
+    }
+
+    /** The steps to choose from. */
+    #choice(steps) {
+        const choice = make('select', { 'aria-label': 'Step' }, ...steps.map((step, i) => make('option', { value: i }, `${i + 1} · ${step.title}`)));
+        choice.value = this.#step;
+        choice.onchange = () => this.#go(Number(choice.value));
+        return choice;
     }
 
     #block({ kind, lines }) {
@@ -72,11 +80,11 @@ export class Guide {
         const press = (text, isOff, onclick) => make('button', { type: 'button', disabled: isOff, onclick }, text);
         this.#place.hidden = false;
         this.#place.replaceChildren(
-            make('header', null, make('span', null, `${title} · ${this.#step + 1} of ${last + 1}`), press('Close', false, () => this.close())),
+            make('header', null, make('span', null, title), this.#choice(steps), press('Close', false, () => this.close())),
             make('h2', { tabIndex: -1 }, step.title),
             ...step.blocks.map(it => this.#block(it)),
-            make('footer', null, press('Back', this.#step === 0, () => this.#go(-1)), press('Type these lines', !typed.length, () => this.type(typed)),
-                press('Next', this.#step === last, () => this.#go(1))));
+            make('footer', null, press('Back', this.#step === 0, () => this.#go(this.#step - 1)), press('Type these lines', !typed.length, () => this.type(typed)),
+                press('Next', this.#step === last, () => this.#go(this.#step + 1))));
         this.#place.scrollTop = 0;
     }
 }
