@@ -1,5 +1,5 @@
 -- Which state a session begins with, and that a machine comes to it and to all after it.
-use Rattle.std.proofs.Common.{◌≡◌, ℕ, ◌<◌, List, [], ◌∷◌, Option, None, sym, subst}
+use Rattle.std.proofs.Common.{◌≡◌, ℕ, ◌<◌, List, [], ◌∷◌, None, sym, subst}
 use Rattle.std.specs.Prelude.{Result, Ok, Err, OnErr, OnOk}
 use Rattle.apl_machine_state.specs.State.{State, interrupt, steps}
 use Rattle.apl_session.specs.Defining.{closed}

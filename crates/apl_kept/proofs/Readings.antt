@@ -2,7 +2,6 @@
 use Rattle.std.proofs.Common.{◌≡◌, ◌≢◌, List, [], ◌∷◌, Option, Some, None, refl, sym, ap, subst}
 use Rattle.std.specs.Option.{option_or}
 use Rattle.apl_symbols.specs.declared.class.Class.TheVariants.{Variable}
-use Rattle.apl_arrays.specs.Cells.{Items, Numbers, Characters}
 use Rattle.apl_defn.specs.Definitions.{Text, Definition, class_by}
 use Rattle.apl_names.specs.declared.binding.Binding.{Binding}
 use Rattle.apl_names.specs.declared.binding.Binding.TheVariants.{Unset, Label, Value, Function}
