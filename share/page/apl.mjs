@@ -45,7 +45,10 @@ class Page {
         });
         this.transcript = new Transcript(it('transcript'), line => this.entry.set(line));
         this.window = new FunctionWindow(it('function'), lines => this.typeAlone(lines));
-        this.guide = new Guide({ place: it('guide'), type: lines => this.type(lines), put: line => this.entry.set(line), moved: () => this.session?.keepSoon() });
+        this.guide = new Guide({
+            place: it('guide'), type: lines => this.type(lines), put: line => this.entry.set(line), anew: (page, step) => this.begin(page, step),
+            moved: () => this.session?.keepSoon(),
+        });
         typeByKeys(this.window.text, keys);
         showBar(it('function').querySelector('.bar'), CONTENT, { put: text => this.window.put(text), say: this.show });
         showBar(it('bar'), CONTENT, { put: text => this.entry.put(text), say: this.show });
@@ -217,7 +220,6 @@ class Page {
     /** Opens a guide's workspace, which is made where it isn't kept yet, and the guide beside it. */
     async learn(page) {
         const { notes } = await this.store?.get(page.name) ?? {};
-        const file = page.workspace ? encoder.encode(page.workspace) : new Uint8Array();
         if (notes && page.name !== this.name) {
             sessionStorage.setItem('guide', page.name);
             await this.go(page.name);
@@ -225,14 +227,19 @@ class Page {
             this.guide.open(page);
             this.session.keepSoon();
         } else {
-            await this.make(page.name, file, { page: page.name, step: 0 });
+            await this.begin(page, 0);
         }
+    }
+
+    /** Makes a workspace of a guide, as it was, with the guide at a step beside it. */
+    begin(page, step) {
+        return this.make(page.name, page.workspace ? encoder.encode(page.workspace) : new Uint8Array(), { page: page.name, step });
     }
 
     /** Makes a workspace of this name, or of one that is free, and goes there. */
     async make(name, file, guide = null) {
         if (!this.store) {
-            this.session = null;
+            this.session?.end();
             this.banner('');
             return this.#restart(file, guide);
         }
@@ -275,7 +282,7 @@ class Page {
 
     async #delete() {
         if (!this.store || !confirm(`Delete the workspace ${this.name}? What it holds can't be had again.`)) return;
-        this.session.store = null;
+        this.session?.end();
         await this.store.remove(this.name);
         if (this.name === FIRST) location.reload();
         else this.#to(FIRST);

@@ -23,11 +23,13 @@ export class Guide {
     #page = null;
     #step = 0;
 
-    /** `type` is called with lines to be typed, `put` with one to be laid into the line, and `moved` when another step is shown. */
-    constructor({ place, type, put, moved }) {
+    /** `type` is called with lines to be typed, `put` with one to be laid into the line, `anew` with a page and a step that begins with the page's
+     * workspace as it was, and `moved` when another step is shown. */
+    constructor({ place, type, put, anew, moved }) {
         this.#place = place;
         this.type = type;
         this.put = put;
+        this.anew = anew;
         this.moved = moved;
     }
 
@@ -64,6 +66,12 @@ export class Guide {
         return choice;
     }
 
+    /** Words and a button before lines that begin with the page's workspace as it was. */
+    #beginning() {
+        return make('p', null, 'This begins with the workspace as it was. ',
+            make('button', { type: 'button', onclick: () => this.anew(this.#page, this.#step) }, 'Open it anew'));
+    }
+
     #block({ kind, lines }) {
         if (kind === 'text') return make('p', null, ...worded(lines.join(' ')));
         if (kind === 'table') return table(lines);
@@ -82,7 +90,7 @@ export class Guide {
         this.#place.replaceChildren(
             make('header', null, make('span', null, title), this.#choice(steps), press('Close', false, () => this.close())),
             make('h2', { tabIndex: -1 }, step.title),
-            ...step.blocks.map(it => this.#block(it)),
+            ...step.blocks.flatMap(it => it.anew ? [this.#beginning(), this.#block(it)] : [this.#block(it)]),
             make('footer', null, press('Back', this.#step === 0, () => this.#go(this.#step - 1)), press('Type these lines', !typed.length, () => this.type(typed)),
                 press('Next', this.#step === last, () => this.#go(this.#step + 1))));
         this.#place.scrollTop = 0;
