@@ -60,6 +60,7 @@ class Page {
 
     /** Opens the workspace that the address names, where no other page has it. `module` is a promise of the compiled module. */
     async open(module) {
+        this.module = module;
         try {
             this.store = await Store.open();
         } catch (error) {
@@ -70,14 +71,13 @@ class Page {
             it('state').textContent = 'Open elsewhere';
             it('line').disabled = true;
             this.banner('This workspace is open in another tab. It opens here when that is closed.', ['Work on a copy', () => this.#copy()]);
-            this.module = await module;
-            return;
+        } else {
+            await this.#begin();
         }
-        this.module = await module;
-        await this.#begin();
     }
 
     async #begin() {
+        const module = await this.module;
         const { file, notes } = await this.store?.get(this.name) ?? {};
         if (this.store) this.banner('');
         it('line').disabled = false;
@@ -89,7 +89,7 @@ class Page {
         sessionStorage.removeItem('guide');
         this.#guided(wanted);
         this.session = new Session({
-            begin: () => new Worker(this.source), module: this.module, store: this.store, name: this.name, file, notes, tell: this.#told(),
+            begin: () => new Worker(this.source), module, store: this.store, name: this.name, file, notes, tell: this.#told(),
             noted: () => ({ transcript: this.transcript.last(), history: this.entry.history, guide: this.guide.at }),
         });
     }
@@ -252,11 +252,12 @@ class Page {
     }
 
     /** Where nothing is kept: begins with this file in the page that stands. */
-    #restart(file, guide) {
+    async #restart(file, guide) {
+        const module = await this.module;
         this.transcript.clear();
         this.#guided(guide);
         this.session = new Session({
-            begin: () => new Worker(this.source), module: this.module, store: null, name: this.name, file, tell: this.#told(), noted: () => ({}),
+            begin: () => new Worker(this.source), module, store: null, name: this.name, file, tell: this.#told(), noted: () => ({}),
         });
     }
 
@@ -300,7 +301,7 @@ class Page {
         const bytes = new Uint8Array(await file.arrayBuffer());
         let number;
         try {
-            number = new Machine(this.module).open(bytes);
+            number = new Machine(await this.module).open(bytes);
         } catch {
             number = 8;
         }
