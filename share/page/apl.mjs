@@ -240,7 +240,6 @@ class Page {
     async make(name, file, guide = null) {
         if (!this.store) {
             this.session?.end();
-            this.banner('');
             return this.#restart(file, guide);
         }
         const taken = await this.store.names();
