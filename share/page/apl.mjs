@@ -45,7 +45,10 @@ class Page {
         });
         this.transcript = new Transcript(it('transcript'), line => this.entry.set(line));
         this.window = new FunctionWindow(it('function'), lines => this.typeAlone(lines));
-        this.guide = new Guide({ place: it('guide'), type: lines => this.type(lines), put: line => this.entry.set(line), moved: () => this.session?.keepSoon() });
+        this.guide = new Guide({
+            place: it('guide'), type: lines => this.type(lines), put: line => this.entry.set(line), anew: (page, step) => this.begin(page, step),
+            moved: () => this.session?.keepSoon(),
+        });
         typeByKeys(this.window.text, keys);
         showBar(it('function').querySelector('.bar'), CONTENT, { put: text => this.window.put(text), say: this.show });
         showBar(it('bar'), CONTENT, { put: text => this.entry.put(text), say: this.show });
@@ -57,6 +60,7 @@ class Page {
 
     /** Opens the workspace that the address names, where no other page has it. `module` is a promise of the compiled module. */
     async open(module) {
+        this.module = module;
         try {
             this.store = await Store.open();
         } catch (error) {
@@ -67,14 +71,13 @@ class Page {
             it('state').textContent = 'Open elsewhere';
             it('line').disabled = true;
             this.banner('This workspace is open in another tab. It opens here when that is closed.', ['Work on a copy', () => this.#copy()]);
-            this.module = await module;
-            return;
+        } else {
+            await this.#begin();
         }
-        this.module = await module;
-        await this.#begin();
     }
 
     async #begin() {
+        const module = await this.module;
         const { file, notes } = await this.store?.get(this.name) ?? {};
         if (this.store) this.banner('');
         it('line').disabled = false;
@@ -86,7 +89,7 @@ class Page {
         sessionStorage.removeItem('guide');
         this.#guided(wanted);
         this.session = new Session({
-            begin: () => new Worker(this.source), module: this.module, store: this.store, name: this.name, file, notes, tell: this.#told(),
+            begin: () => new Worker(this.source), module, store: this.store, name: this.name, file, notes, tell: this.#told(),
             noted: () => ({ transcript: this.transcript.last(), history: this.entry.history, guide: this.guide.at }),
         });
     }
@@ -121,7 +124,10 @@ class Page {
     }
 
     type(lines) {
-        if (!this.session) return;
+        if (!this.session) {
+            this.entry.set(lines.join(''));
+            return;
+        }
         // So that the browser doesn't clear away what it keeps when room is short.
         this.#lasting ??= navigator.storage?.persist?.().catch(() => false) ?? true;
         for (const line of lines) this.entry.remember(line);
@@ -214,7 +220,6 @@ class Page {
     /** Opens a guide's workspace, which is made where it isn't kept yet, and the guide beside it. */
     async learn(page) {
         const { notes } = await this.store?.get(page.name) ?? {};
-        const file = page.workspace ? encoder.encode(page.workspace) : new Uint8Array();
         if (notes && page.name !== this.name) {
             sessionStorage.setItem('guide', page.name);
             await this.go(page.name);
@@ -222,15 +227,19 @@ class Page {
             this.guide.open(page);
             this.session.keepSoon();
         } else {
-            await this.make(page.name, file, { page: page.name, step: 0 });
+            await this.begin(page, 0);
         }
+    }
+
+    /** Makes a workspace of a guide, as it was, with the guide at a step beside it. */
+    begin(page, step) {
+        return this.make(page.name, page.workspace ? encoder.encode(page.workspace) : new Uint8Array(), { page: page.name, step });
     }
 
     /** Makes a workspace of this name, or of one that is free, and goes there. */
     async make(name, file, guide = null) {
         if (!this.store) {
-            this.session = null;
-            this.banner('');
+            this.session?.end();
             return this.#restart(file, guide);
         }
         const taken = await this.store.names();
@@ -242,11 +251,12 @@ class Page {
     }
 
     /** Where nothing is kept: begins with this file in the page that stands. */
-    #restart(file, guide) {
+    async #restart(file, guide) {
+        const module = await this.module;
         this.transcript.clear();
         this.#guided(guide);
         this.session = new Session({
-            begin: () => new Worker(this.source), module: this.module, store: null, name: this.name, file, tell: this.#told(), noted: () => ({}),
+            begin: () => new Worker(this.source), module, store: null, name: this.name, file, tell: this.#told(), noted: () => ({}),
         });
     }
 
@@ -272,7 +282,7 @@ class Page {
 
     async #delete() {
         if (!this.store || !confirm(`Delete the workspace ${this.name}? What it holds can't be had again.`)) return;
-        this.session.store = null;
+        this.session?.end();
         await this.store.remove(this.name);
         if (this.name === FIRST) location.reload();
         else this.#to(FIRST);
@@ -290,7 +300,7 @@ class Page {
         const bytes = new Uint8Array(await file.arrayBuffer());
         let number;
         try {
-            number = new Machine(this.module).open(bytes);
+            number = new Machine(await this.module).open(bytes);
         } catch {
             number = 8;
         }

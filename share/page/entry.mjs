@@ -81,10 +81,6 @@ export class Entry {
         this.#line.setAttribute('aria-label', number ? `Line ${number} of the definition` : 'A line of APL');
     }
 
-    isEmpty() {
-        return this.#line.value === '';
-    }
-
     get history() {
         return this.#history;
     }

@@ -23,11 +23,13 @@ export class Guide {
     #page = null;
     #step = 0;
 
-    /** `type` is called with lines to be typed, `put` with one to be laid into the line, and `moved` when another step is shown. */
-    constructor({ place, type, put, moved }) {
+    /** `type` is called with lines to be typed, `put` with one to be laid into the line, `anew` with a page and a step that begins with the page's
+     * workspace as it was, and `moved` when another step is shown. */
+    constructor({ place, type, put, anew, moved }) {
         this.#place = place;
         this.type = type;
         this.put = put;
+        this.anew = anew;
         this.moved = moved;
     }
 
@@ -49,11 +51,25 @@ export class Guide {
         this.moved();
     }
 
-    #go(by) {
-        this.#step += by;
+    #go(step) {
+        this.#step = step;
         this.#show();
         this.moved();
         this.#place.querySelector('h2').focus();
+    }
+
+    /** The steps to choose from. */
+    #choice(steps) {
+        const choice = make('select', { 'aria-label': 'Step' }, ...steps.map((step, i) => make('option', { value: i }, `${i + 1} · ${step.title}`)));
+        choice.value = this.#step;
+        choice.onchange = () => this.#go(Number(choice.value));
+        return choice;
+    }
+
+    /** Words and a button before lines that begin with the page's workspace as it was. */
+    #beginning() {
+        return make('p', null, 'This begins with the workspace as it was. ',
+            make('button', { type: 'button', onclick: () => this.anew(this.#page, this.#step) }, 'Open it anew'));
     }
 
     #block({ kind, lines }) {
@@ -72,11 +88,11 @@ export class Guide {
         const press = (text, isOff, onclick) => make('button', { type: 'button', disabled: isOff, onclick }, text);
         this.#place.hidden = false;
         this.#place.replaceChildren(
-            make('header', null, make('span', null, `${title} · ${this.#step + 1} of ${last + 1}`), press('Close', false, () => this.close())),
+            make('header', null, make('span', null, title), this.#choice(steps), press('Close', false, () => this.close())),
             make('h2', { tabIndex: -1 }, step.title),
-            ...step.blocks.map(it => this.#block(it)),
-            make('footer', null, press('Back', this.#step === 0, () => this.#go(-1)), press('Type these lines', !typed.length, () => this.type(typed)),
-                press('Next', this.#step === last, () => this.#go(1))));
+            ...step.blocks.flatMap(it => it.anew ? [this.#beginning(), this.#block(it)] : [this.#block(it)]),
+            make('footer', null, press('Back', this.#step === 0, () => this.#go(this.#step - 1)), press('Type these lines', !typed.length, () => this.type(typed)),
+                press('Next', this.#step === last, () => this.#go(this.#step + 1))));
         this.#place.scrollTop = 0;
     }
 }

@@ -117,6 +117,12 @@ export class Session {
         return this.#file;
     }
 
+    /** Ends the session, of which nothing more is kept. */
+    end() {
+        this.store = null;
+        this.#worker.terminate();
+    }
+
     /** Keeps all that stands now. */
     async flush() {
         await this.file();

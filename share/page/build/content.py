@@ -45,9 +45,9 @@ def typed_lines(lines: list[str]) -> list[dict[str, Any]]:
 
 
 def block(lines: list[str]) -> dict[str, Any]:
-    """Returns a block of a page: a session, another listing, a table, or words."""
+    """Returns a block of a page: a session, which may begin anew with the page's workspace, another listing, a table, or words."""
     if lines[0].startswith("```apl"):
-        return {"kind": "apl", "lines": typed_lines(lines[1:-1])}
+        return {"kind": "apl", "anew": lines[0] == "```apl", "lines": typed_lines(lines[1:-1])}
     if lines[0] in PLAIN:
         return {"kind": "plain", "lines": lines[1:-1]}
     return {"kind": "table" if lines[0].startswith("|") else "text", "lines": lines}
@@ -72,6 +72,20 @@ def blocks(lines: list[str]) -> list[dict[str, Any]]:
     return found
 
 
+def steps_of(title: str, found: list[dict[str, Any]]) -> list[dict[str, Any]]:
+    """Returns the steps of a heading's blocks: a second session that begins anew is a step of its own, with the words before it."""
+    parts: list[list[dict[str, Any]]] = [[]]
+    for it in found:
+        last = parts[-1]
+        if it.get("anew") and any(before["kind"] == "apl" for before in last):
+            words: list[dict[str, Any]] = []
+            while last[-1]["kind"] != "apl":
+                words.insert(0, last.pop())
+            parts.append(words)
+        parts[-1].append(it)
+    return [{"title": f"{title} ({n})" if n > 1 else title, "blocks": part} for n, part in enumerate(parts, 1)]
+
+
 def page(name: str, path: Path, workspace: str | None) -> dict[str, Any]:
     """Returns a page whose steps begin at its headings, with the workspace that it is of."""
     steps: list[dict[str, Any]] = []
@@ -84,8 +98,10 @@ def page(name: str, path: Path, workspace: str | None) -> dict[str, Any]:
             lines.append(TYPING if line.startswith("APL's characters are typed by") else line)
             continue
         if heading not in LEFT_OUT:
-            steps.append({"title": heading, "blocks": blocks(lines)})
+            steps += steps_of(heading, blocks(lines))
         heading, lines = line[3:], []
+    sessions = [it for step in steps for it in step["blocks"] if it["kind"] == "apl"]
+    sessions[0]["anew"] = False
     return {"name": name, "title": title, "workspace": workspace, "steps": steps}
 
 

@@ -60,7 +60,7 @@ def proved(name: str, kept: str, room: str) -> bool:
     crates: Any = importlib.import_module("crates")
     rt = crates.load()
     crate = crates.listed(rt)[name]
-    if crates.prove(rt, crate.below()):
+    if crates.prove(rt, crate.below(), lambda it, stood, took: stood or print(f"build-page: {it.name} proved in {took:.0f} s", flush=True)):
         return False
     setattr(subprocess, "Popen", Begun)
     try:

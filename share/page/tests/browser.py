@@ -122,7 +122,12 @@ class Tab:
     def until(self, code: str, seconds: float = SECONDS) -> None:
         """Waits until an expression is true; while a page is left and another one opened, it may have no value."""
         end = time.monotonic() + seconds
-        while not self.run(f"(() => {{ try {{ return !!({code}); }} catch {{ return false; }} }})()"):
+        while True:
+            try:
+                if self.run(f"(() => {{ try {{ return !!({code}); }} catch {{ return false; }} }})()"):
+                    return
+            except RuntimeError:
+                pass
             if time.monotonic() > end:
                 raise TimeoutError(f"{code}\n{self.run('document.body?.innerText')}")
             time.sleep(0.01)

@@ -1,4 +1,5 @@
-/** Tries the module: what it gives to a host, its limits, want of memory, the allocator. MODULE names its file. */
+/** Tries the module: what it gives to a host, its limits, want of memory, the guides' lines, the allocator. MODULE names its file, and CONTENT that
+ * of what the page shows. */
 import assert from 'node:assert';
 import fs from 'node:fs';
 import test from 'node:test';
@@ -114,6 +115,22 @@ test('the examples of the language bar are right', () => {
         const [, example, answer] = line.split('\t');
         assert.strictEqual(typed(opened(), example), answer + '\n', line);
     }
+});
+
+test('the lines of the guides are answered as they are shown', () => {
+    let count = 0;
+    for (const { workspace, steps } of JSON.parse(fs.readFileSync(process.env.CONTENT)).pages) {
+        const begin = () => opened(Buffer.from(workspace ?? ''));
+        let machine = begin();
+        for (const { anew, lines } of steps.flatMap(it => it.blocks).filter(it => it.kind === 'apl')) {
+            if (anew) machine = begin();
+            const answers = lines.filter(it => !it.typed).map(it => it.text + '\n').join('');
+            const those = lines.filter(it => it.typed).map(it => it.text);
+            assert.strictEqual(typed(machine, ...those), answers, those.join('\n'));
+            count += those.length;
+        }
+    }
+    assert.ok(count > 200);
 });
 
 test('each sample workspace opens', () => {

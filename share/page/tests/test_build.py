@@ -111,6 +111,8 @@ class Assembling(unittest.TestCase):
         typed = [line["text"] for step in pages["tutorial"]["steps"] for block in step["blocks"] if block["kind"] == "apl" for line in block["lines"] if line["typed"]]
         self.assertEqual(typed[:2], ["2+3×4", "2×3+4"])
         self.assertIn("∇Z←MEAN V", typed)
+        anew = [step["title"] for it in pages.values() for step in it["steps"] for block in step["blocks"] if block.get("anew")]
+        self.assertEqual(anew, ["Mending", "Mending (2)"])
         self.assertNotIn("apl-terminal", str(pages))
         self.assertNotIn("million steps", str(pages))
         self.assertIn("the button Interrupt", str(pages["tutorial"]))

@@ -157,6 +157,15 @@ def guide(trial: Trial) -> str:
     tab.run("[...document.querySelectorAll('#guide footer button')].find(it => it.textContent === 'Next').click()")
     tab.run("[...document.querySelectorAll('#guide footer button')].find(it => it.textContent === 'Type these lines').click()")
     tab.until("document.getElementById('transcript').textContent.includes('      )SI\\nLESS[3] *\\nITEM[2]\\nBILL[4]\\n')")
+    tab.run("document.querySelector('#guide select').value = '2'; document.querySelector('#guide select').dispatchEvent(new Event('change'))")
+    same(tab.run("document.querySelector('#guide h2').textContent"), "Going on")
+    tab.run("[...document.querySelectorAll('#guide footer button')].find(it => it.textContent === 'Next').click()")
+    tab.run("[...document.querySelectorAll('#guide button')].find(it => it.textContent === 'Open it anew').click()")
+    tab.until("document.getElementById('name').textContent === 'stepper-2'")
+    tab.settled()
+    tab.until("document.querySelector('#guide h2')?.textContent === 'Mending'")
+    tab.run("[...document.querySelectorAll('#guide footer button')].find(it => it.textContent === 'Type these lines').click()")
+    tab.until("document.getElementById('transcript').textContent.includes('TO PAY: 3400\\n')")
     tab.close()
     return ""
 
