@@ -39,6 +39,12 @@ def has(text: str, part: str) -> None:
         raise AssertionError(f"there is no {part!r} in {text!r}")
 
 
+def in_time(seconds: float, most: float) -> None:
+    """Fails where something took too long, unless UNTIMED is set, as on a machine that does other work."""
+    if seconds >= most and not os.environ.get("UNTIMED"):
+        raise AssertionError(f"it took {seconds * 1000:.1f} ms")
+
+
 def saved(tab: Tab) -> None:
     """Waits until what stands is kept."""
     tab.until("document.getElementById('kept').textContent.startsWith('Kept')")
