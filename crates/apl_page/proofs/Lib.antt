@@ -1,3 +1,4 @@
+pub mod Dues
 pub mod Fronts
 pub mod Numbers
 pub mod Opening
