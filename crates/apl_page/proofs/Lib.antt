@@ -1,4 +1,2 @@
 pub mod Dues
-pub mod Fronts
-pub mod Numbers
 pub mod Opening

@@ -1,5 +1,5 @@
 //! A session with what it has written and nobody has taken.
-ghost use Rattle.std.specs.Prelude.{◌≡◌, [], ◌++◌, drop, length, map, min, take, IfErr, IfOk, MatchResult, OnErr, OnOk};
+ghost use Rattle.std.specs.Prelude.{◌≡◌, ◌≤◌, [], drop, length, min, take, IfErr, IfOk, MatchResult, OnErr, OnOk};
 ghost use Rattle.apl_machine_state.specs.State.{State};
 ghost use Rattle.apl_kept.specs.Keeping.{BeginsWith};
 ghost use Rattle.apl_workspace.specs.Refusals.{IsUnloaded};
