@@ -1,3 +1,2 @@
-pub mod Fronts
-pub mod Numbers
+pub mod Dues
 pub mod Opening

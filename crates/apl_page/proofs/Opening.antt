@@ -11,9 +11,11 @@ use Rattle.apl_page.specs.Places.{Keeping, Opens, begun}
 
 pub opens : (workspace : List ℕ) (page : Keeping) (old : Option Keeping) → BeginsWith workspace page.state → page.unsaid ≡ [] → ((s : State) → BeginsWith workspace s → page ≡ begun s)
     → Opens workspace 0 old (Some page)
-opens workspace page old begins quiet complete =
-    (Ok page.state, record { opened = begins; refused = tt; complete = λ s h. ap (λ (k : Keeping). k.state) (complete s h) },
-     (refl, ap (λ (unsaid : List ℕ). Some (record { state = page.state; unsaid = unsaid })) quiet))
+opens workspace page old begins quiet complete = (
+  Ok page.state,
+  record { opened = begins; refused = tt; complete = λ s h. ap (λ (k : Keeping). k.state) (complete s h) },
+  (refl, ap (λ (unsaid : List ℕ). Some (record { state = page.state; unsaid = unsaid })) quiet),
+)
 
 pub refuses : (workspace : List ℕ) (e : LoadError) (number : ℕ) (place : Option Keeping) → IsUnloaded workspace e → ((s : State) → BeginsWith workspace s → e ≡ load.Memory)
     → number ≡ load_number e → Opens workspace number place place

@@ -20,7 +20,7 @@ begun s = record { state = s; unsaid = [] }
 
 -- what the state becomes where a session stands
 abbrev pub at : Option Keeping → (State → State) → Option Keeping
-at place f = option_map (λ k. record k { state = f k.state }) place
+at place f = option_map (λ (k : Keeping). record k { state = f k.state }) place
 
 abbrev pub is_idle_at : Option Keeping → Bool
 is_idle_at None = true

@@ -1,8 +1,8 @@
 -- The texts that calls give of a session.
-use Rattle.std.specs.Prelude.{ℕ, decimal, List, ◌∷◌, ◌++◌, map, Option, Some, None, Result, Ok, Err}
+use Rattle.std.specs.Prelude.{ℕ, decimal, List, ◌∷◌, ◌++◌, map, Option, Some, None, option_map, Result, Ok, Err}
 use Rattle.std.specs.List.{flat_map}
 use Rattle.apl_charset.specs.Decoding.{decoded}
-use Rattle.apl_defn.specs.Definitions.{Text, Definition}
+use Rattle.apl_defn.specs.Definitions.{Text}
 use Rattle.apl_machine_state.specs.Objects.{levels}
 use Rattle.apl_machine_state.specs.State.{State}
 use Rattle.apl_session.specs.Commands.{shown_level}
@@ -13,7 +13,7 @@ use Rattle.apl_kept.specs.declared.names.Reading.TheVariants as reading
 use Rattle.apl_page.specs.Places.{Keeping}
 use Rattle.apl_page.specs.Spelling.{spelled}
 use Rattle.apl_page.specs.declared.refusal.Refusal.{Refusal}
-use Rattle.apl_page.specs.declared.refusal.Refusal.TheVariants.{NoSession, NoFunction}
+use Rattle.apl_page.specs.declared.refusal.Refusal.TheVariants.{NoFunction}
 
 -- a variable: its name, a letter, and the length of each axis
 abbrev pub variable_line : Text → ℕ → List ℕ → Text
@@ -29,24 +29,23 @@ line_by name reading.Unset = name
 abbrev pub name_line : Named → Text
 name_line n = line_by n.name n.reading
 
--- what is due of the session at a place, or why nothing is
-abbrev pub names_due : Option Keeping → Result (List ℕ) Refusal
-names_due None = Err NoSession
-names_due (Some k) = Ok (spelled (map name_line (names_of k.state)))
+-- the names, and the standing calls, of a session
+abbrev pub names_bytes : Keeping → List ℕ
+names_bytes k = spelled (map name_line (names_of k.state))
 
-abbrev pub levels_due : Option Keeping → Result (List ℕ) Refusal
-levels_due None = Err NoSession
-levels_due (Some k) = Ok (spelled (map shown_level (levels k.state.contexts)))
+abbrev pub levels_bytes : Keeping → List ℕ
+levels_bytes k = spelled (map shown_level (levels k.state.contexts))
 
--- the function of a word in UTF-8
-abbrev pub function_by : State → Option Text → Option Definition
-function_by s None = None
-function_by s (Some word) = function_named s word
+-- the source of the function of a word, if there is one
+abbrev pub source_bytes : Keeping → Option Text → Option (List ℕ)
+source_bytes k None = None
+source_bytes k (Some word) = option_map (λ d. spelled (source_of d)) (function_named k.state word)
 
-abbrev pub source_due : Option Definition → Result (List ℕ) Refusal
-source_due None = Err NoFunction
-source_due (Some d) = Ok (spelled (source_of d))
+-- what is due, if it is found
+abbrev pub found_due : Option (List ℕ) → Result (List ℕ) Refusal
+found_due None = Err NoFunction
+found_due (Some bytes) = Ok bytes
 
-abbrev pub listing_due : Option Keeping → List ℕ → Result (List ℕ) Refusal
-listing_due None word = Err NoSession
-listing_due (Some k) word = source_due (function_by k.state (decoded word))
+-- the source of the function of a name in UTF-8
+abbrev pub listing_due : Keeping → List ℕ → Result (List ℕ) Refusal
+listing_due k name = found_due (source_bytes k (decoded name))

@@ -3,12 +3,12 @@
 //! too small, those of [`apl_kept::KeptError`], 17 where no session stands, 18 where there is no such function.
 #![tactic(auto)]
 
-ghost use Rattle.std.specs.Prelude.{◌≡◌, ◌≢◌, ◌⊎◌, ◌<◌, ℕ, length, nat_min, take, Some, None};
+ghost use Rattle.std.specs.Prelude.{◌≡◌, ◌≢◌, ◌⊎◌, ◌<◌, ℕ, length, min, take, Some, None, Ok};
 ghost use Rattle.apl_machine_state.specs.State.{interrupt, steps};
 ghost use Rattle.apl_session.specs.Events.{typed};
-ghost use Rattle.apl_page.specs.Answers.{Reads, ReadsFile, laid};
+ghost use Rattle.apl_page.specs.Answers.{IsDue, IsFile, Reads, laid};
 ghost use Rattle.apl_page.specs.Places.{IsNumber, Opens, at, gathered, is_idle_at, line_number, next_line_at, session_number, taken, unsaid_at};
-ghost use Rattle.apl_page.specs.Texts.{levels_due, listing_due, names_due};
+ghost use Rattle.apl_page.specs.Texts.{levels_bytes, listing_due, names_bytes};
 
 mod giving;
 mod page;
@@ -21,6 +21,9 @@ use crate::page::{Page, open_page};
 use crate::refusal::Refusal;
 use crate::texts::{file_text, levels_text, listing_text, names_text};
 use std::alloc::Global;
+
+/// The number of a call where no session stands.
+const NO_SESSION: u32 = 17;
 
 /// A session on a workspace's file, or on a clear one where no bytes are given, in the place of the one that stands there. With another
 /// number than 0 the place is as before.
@@ -45,7 +48,7 @@ pub fn page_type(place: &mut Option<Page>, line: &[u8]) -> u32
     ensures left { result ≢ 0 → place.new ≡ place.old }
 {
     let Some(page) = place else {
-        return Refusal::NoSession.number();
+        return NO_SESSION;
     };
     match page.kept.type_line(line) {
         Ok(()) => 0,
@@ -62,7 +65,7 @@ pub fn page_advance(place: &mut Option<Page>, count: u64) -> u32
     ensures none { result ≡ 17 → place.new ≡ place.old }
 {
     let Some(page) = place else {
-        return Refusal::NoSession.number();
+        return NO_SESSION;
     };
     match page.kept.advance(count) {
         Ok(_) => 0,
@@ -78,7 +81,7 @@ pub fn page_interrupt(place: &mut Option<Page>) -> u32
     ensures left { result ≢ 0 → place.new ≡ place.old }
 {
     let Some(page) = place else {
-        return Refusal::NoSession.number();
+        return NO_SESSION;
     };
     match page.kept.interrupt() {
         Ok(()) => 0,
@@ -117,7 +120,7 @@ pub fn page_gather(place: &mut Option<Page>, size: &mut usize) -> u32
     ensures left { result ≢ 0 → (place.new ≡ place.old) × (size.new ≡ size.old) }
 {
     let Some(page) = place else {
-        return Refusal::NoSession.number();
+        return NO_SESSION;
     };
     match page.gather() {
         Ok(waiting) => {
@@ -131,7 +134,7 @@ pub fn page_gather(place: &mut Option<Page>, size: &mut usize) -> u32
 /// Lays as many of the waiting bytes as a buffer holds at its front, keeps the others, and tells how many lie there.
 #[inline(never)]
 pub fn page_take(place: &mut Option<Page>, buffer: &mut [u8]) -> usize
-    ensures count { result ≡ nat_min (length (unsaid_at place.old)) (length buffer.old) }
+    ensures count { result ≡ min (length (unsaid_at place.old)) (length buffer.old) }
     ensures laid { buffer.new ≡ laid (take result (unsaid_at place.old)) buffer.old }
     ensures rest { place.new ≡ taken result place.old }
 {
@@ -144,9 +147,12 @@ pub fn page_take(place: &mut Option<Page>, buffer: &mut [u8]) -> usize
 /// Lays the file of the workspace at the front of a buffer, if that has room, and tells its length.
 #[inline(never)]
 pub fn page_save(place: &Option<Page>, buffer: &mut [u8], size: &mut usize) -> u32
-    ensures { ReadsFile place.now result buffer.old buffer.new size.old size.new }
+    ensures { Reads IsFile place.now result buffer.old buffer.new size.old size.new }
 {
-    give(file_text(place), buffer, size)
+    match place {
+        Some(page) => give(file_text(page), buffer, size),
+        None => NO_SESSION,
+    }
 }
 
 /// Lays the global names, ascending, at the front of a buffer, if that has room, and tells their length. Each has a line by what a
@@ -154,25 +160,34 @@ pub fn page_save(place: &Option<Page>, buffer: &mut [u8], size: &mut usize) -> u
 /// numbers and `C` where it holds characters, and behind a blank the length of each axis; a name alone where it is unset or a label.
 #[inline(never)]
 pub fn page_names(place: &Option<Page>, buffer: &mut [u8], size: &mut usize) -> u32
-    ensures { Reads (names_due place.now) result buffer.old buffer.new size.old size.new }
+    ensures { Reads (λ k outcome. IsDue (Ok (names_bytes k)) outcome) place.now result buffer.old buffer.new size.old size.new }
 {
-    give(names_text(place), buffer, size)
+    match place {
+        Some(page) => give(names_text(page), buffer, size),
+        None => NO_SESSION,
+    }
 }
 
 /// Lays the standing calls, newest first, as `)SI` shows them, at the front of a buffer, if that has room, and tells their length.
 #[inline(never)]
 pub fn page_levels(place: &Option<Page>, buffer: &mut [u8], size: &mut usize) -> u32
-    ensures { Reads (levels_due place.now) result buffer.old buffer.new size.old size.new }
+    ensures { Reads (λ k outcome. IsDue (Ok (levels_bytes k)) outcome) place.now result buffer.old buffer.new size.old size.new }
 {
-    give(levels_text(place), buffer, size)
+    match place {
+        Some(page) => give(levels_text(page), buffer, size),
+        None => NO_SESSION,
+    }
 }
 
 /// Lays the header and the lines of the global function of a name at the front of a buffer, if that has room, and tells their length.
 #[inline(never)]
 pub fn page_listing(place: &Option<Page>, name: &[u8], buffer: &mut [u8], size: &mut usize) -> u32
-    ensures { Reads (listing_due place.now name.now) result buffer.old buffer.new size.old size.new }
+    ensures { Reads (λ k outcome. IsDue (listing_due k name.now) outcome) place.now result buffer.old buffer.new size.old size.new }
 {
-    give(listing_text(place, name), buffer, size)
+    match place {
+        Some(page) => give(listing_text(page, name), buffer, size),
+        None => NO_SESSION,
+    }
 }
 
 /// A session through these calls.

@@ -1,5 +1,5 @@
 //! A session with what it has written and nobody has taken.
-ghost use Rattle.std.specs.Prelude.{◌≡◌, [], ◌++◌, drop, length, map, nat_min, take, IfErr, IfOk, MatchResult, OnErr, OnOk};
+ghost use Rattle.std.specs.Prelude.{◌≡◌, ◌≤◌, [], drop, length, min, take, IfErr, IfOk, MatchResult, OnErr, OnOk};
 ghost use Rattle.apl_machine_state.specs.State.{State};
 ghost use Rattle.apl_kept.specs.Keeping.{BeginsWith};
 ghost use Rattle.apl_workspace.specs.Refusals.{IsUnloaded};
@@ -60,7 +60,7 @@ impl Page {
 
     /// Lays as many of the waiting bytes as a buffer holds at its front, keeps the others, and tells how many lie there.
     pub(crate) fn take(&mut self, buffer: &mut [u8]) -> usize
-        ensures count { result ≡ nat_min (length self.old.unsaid) (length buffer.old) }
+        ensures count { result ≡ min (length self.old.unsaid) (length buffer.old) }
         ensures laid { buffer.new ≡ laid (take result self.old.unsaid) buffer.old }
         ensures rest { self.new ≡ without_front result self.old }
     {

@@ -1,9 +1,10 @@
 //! The texts that a call gives of a session.
-ghost use Rattle.std.specs.Prelude.{◌≡◌, ◌++◌, ◌∷◌, decimal, map, OnOk, IfOk};
+ghost use Rattle.std.specs.Prelude.{◌≡◌, ◌++◌, ◌∷◌, decimal, map, OnOk, IfOk, MatchResult, Some, Ok, Err};
 ghost use Rattle.std.specs.List.{flat_map};
 ghost use Rattle.apl_session.specs.Commands.{shown_level};
 ghost use Rattle.apl_page.specs.Answers.{IsDue, IsFile};
-ghost use Rattle.apl_page.specs.Texts.{levels_due, listing_due, name_line, names_due, variable_line};
+ghost use Rattle.apl_page.specs.Texts.{found_due, levels_bytes, listing_due, name_line, names_bytes, source_bytes, variable_line};
+ghost use Rattle.apl_page.specs.declared.refusal.Refusal.TheVariants as refusal;
 
 use crate::page::Page;
 use crate::refusal::Refusal;
@@ -104,55 +105,84 @@ fn level_lines(alloc: Global, levels: &[Level]) -> Result<Vec<Text>, AllocError>
     Ok(lines)
 }
 
-/// The names of a session, spelled.
-pub(crate) fn names_text(place: &Option<Page>) -> Result<Bytes, Refusal>
-    ensures { IsDue (names_due place.now) result }
+/// Bytes, unless memory has run out.
+fn or_memory(bytes: Result<Bytes, AllocError>) -> Result<Bytes, Refusal>
+    ensures { MatchResult bytes (λ b. result ≡ Ok b) (λ _. result ≡ Err refusal.Memory) }
 {
-    let Some(page) = place else {
-        return Err(Refusal::NoSession);
-    };
+    match bytes {
+        Ok(bytes) => Ok(bytes),
+        Err(_) => Err(Refusal::Memory),
+    }
+}
+
+/// The names of a session, spelled.
+fn names_bytes(page: &Page) -> Result<Bytes, AllocError>
+    ensures { IfOk result (λ b. b ≡ names_bytes page.now) }
+{
     let names = page.kept.names()?;
     let lines = name_lines(page.alloc, &names)?;
     Ok(Bytes::new(spelled(page.alloc, &lines)?))
 }
 
-/// The standing calls of a session, spelled.
-pub(crate) fn levels_text(place: &Option<Page>) -> Result<Bytes, Refusal>
-    ensures { IsDue (levels_due place.now) result }
+/// The names of a session, spelled.
+pub(crate) fn names_text(page: &Page) -> Result<Bytes, Refusal>
+    ensures { IsDue (Ok (names_bytes page.now)) result }
 {
-    let Some(page) = place else {
-        return Err(Refusal::NoSession);
-    };
+    or_memory(names_bytes(page))
+}
+
+/// The standing calls of a session, spelled.
+fn levels_bytes(page: &Page) -> Result<Bytes, AllocError>
+    ensures { IfOk result (λ b. b ≡ levels_bytes page.now) }
+{
     let levels = page.kept.levels()?;
     let lines = level_lines(page.alloc, &levels)?;
     Ok(Bytes::new(spelled(page.alloc, &lines)?))
 }
 
-/// The function of a name in UTF-8, spelled.
-pub(crate) fn listing_text(place: &Option<Page>, name: &[u8]) -> Result<Bytes, Refusal>
-    ensures { IsDue (listing_due place.now name.now) result }
+/// The standing calls of a session, spelled.
+pub(crate) fn levels_text(page: &Page) -> Result<Bytes, Refusal>
+    ensures { IsDue (Ok (levels_bytes page.now)) result }
 {
-    let Some(page) = place else {
-        return Err(Refusal::NoSession);
+    or_memory(levels_bytes(page))
+}
+
+/// The source of the function of a word, spelled, if it names one.
+fn source_bytes(page: &Page, word: &[Ch]) -> Result<Option<Bytes>, AllocError>
+    ensures { IfOk result (λ found. found ≡ source_bytes page.now (Some word.now)) }
+{
+    let Some(lines) = page.kept.listing(word)? else {
+        return Ok(None);
     };
-    let word = match decode_line(page.alloc, name) {
-        Ok(word) => word,
-        Err(CharFault::Memory) => return Err(Refusal::Memory),
-        Err(_) => return Err(Refusal::NoFunction),
-    };
-    let Some(lines) = page.kept.listing(&word)? else {
-        return Err(Refusal::NoFunction);
-    };
-    Ok(Bytes::new(spelled(page.alloc, &lines)?))
+    Ok(Some(Bytes::new(spelled(page.alloc, &lines)?)))
+}
+
+/// The source of the function of a word, spelled.
+fn source_text(page: &Page, word: &[Ch]) -> Result<Bytes, Refusal>
+    ensures { IsDue (found_due (source_bytes page.now (Some word.now))) result }
+{
+    match source_bytes(page, word) {
+        Ok(Some(bytes)) => Ok(bytes),
+        Ok(None) => Err(Refusal::NoFunction),
+        Err(_) => Err(Refusal::Memory),
+    }
+}
+
+/// The source of the function of a name in UTF-8, spelled.
+pub(crate) fn listing_text(page: &Page, name: &[u8]) -> Result<Bytes, Refusal>
+    ensures { IsDue (listing_due page.now name.now) result }
+{
+    match decode_line(page.alloc, name) {
+        Ok(word) => source_text(page, &word),
+        Err(CharFault::Memory) => Err(Refusal::Memory),
+        Err(_) => Err(Refusal::NoFunction),
+    }
 }
 
 /// The file of a session's workspace.
-pub(crate) fn file_text(place: &Option<Page>) -> Result<Bytes, Refusal>
-    ensures { IsFile place.now result }
+pub(crate) fn file_text(page: &Page) -> Result<Bytes, Refusal>
+    ensures { IsFile page.now result }
 {
-    let Some(page) = place else {
-        return Err(Refusal::NoSession);
-    };
     match page.kept.save() {
         Ok(bytes) => Ok(Bytes::new(bytes)),
         Err(KeptError::Running) => Err(Refusal::Running),
