@@ -24,7 +24,8 @@ def load():
     module = importlib.util.module_from_spec(importlib.util.spec_from_loader("rt", loader))
     sys.modules["rt"] = module
     loader.exec_module(module)
-    # rt works out the sum of a crate's files anew for each way down to it, of which some crates here have 200,000: minutes each
+    # rt goes down each way from a crate to find those below it, and for the sum of its files; some crates here have 200,000 ways: minutes each
+    module.rtlib.Crate.below = functools.cache(module.rtlib.Crate.below)
     module.rtlib.Crate.stamp = functools.cache(module.rtlib.Crate.stamp)
     # its first call sets a signal's handler, which only the main thread may
     module.rtlib.guarded()
