@@ -1,5 +1,0 @@
-pub mod Refusals
-pub mod Requests
-pub mod Trees
-pub mod Answers
-pub mod Serving
