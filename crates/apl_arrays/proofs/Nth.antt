@@ -2,13 +2,15 @@
 use Rattle.std.proofs.Common.{◌≡◌, ℕ, zero, suc, ◌+◌, ◌*◌, ◌/◌, ◌%◌, ◌<◌, ◌≤◌, true, List, [], ◌∷◌, length, get_or, drop, refl, ap, sym, ◌∙◌, arith, Some, None}
 use Rattle.std.specs.Prelude.{slice_get}
 use Rattle.std.proofs.Math.Nat.{div-lt_iff_lt-mul, mod-lt, div-add-mod, mul-div_cancel_left}
+use Rattle.std.proofs.lemmas.List.{drop-map}
 use Rattle.std.proofs.lemmas.Option.{slice_get_past, slice_get_within}
 use Rattle.apl_arrays.specs.declared.axis.Axis.{Axis}
 use Rattle.apl_arrays.specs.declared.cell.Cell.{Cell}
+use Rattle.apl_arrays.specs.declared.cell.Cell.TheVariants.{Num, Char}
 use Rattle.apl_arrays.proofs.Places.{small_size}
 use Rattle.apl_arrays.specs.Index.{size_of, is_within, position_in}
-use Rattle.apl_arrays.specs.Cells.{Items, cells_of}
-use Rattle.apl_arrays.specs.Nth.{index_at}
+use Rattle.apl_arrays.specs.Cells.{Items, Numbers, Characters, cells_of}
+use Rattle.apl_arrays.specs.Nth.{index_at, without}
 use Rattle.apl_arrays.specs.Strides.{lengths, step_at, place_at, seen, IsView}
 use Rattle.apl_arrays.proofs.Order.{within_cons}
 use Rattle.apl_arrays.proofs.Steps.{rest_at, no_axis}
@@ -75,6 +77,16 @@ drop_last [] zero e = refl
 drop_last [] (suc k) e = refl
 drop_last (y ∷ ys) zero e = absurd (cc)
 drop_last (y ∷ ys) (suc k) e = drop_last ys k e
+
+pub cells_without : (nth : ℕ) (items : Items) → cells_of (without nth items) ≡ drop nth (cells_of items)
+cells_without nth (Numbers zs) = sym (drop-map Num nth zs)
+cells_without nth (Characters cs) = sym (drop-map Char nth cs)
+
+pub next_left : (items : Items) (nth : ℕ) (x : Cell) → slice_get (cells_of items) nth ≡ Some x → cells_of (without nth items) ≡ x ∷ cells_of (without (nth + 1) items)
+next_left items nth x e = cells_without nth items ∙ drop_first (cells_of items) nth x e ∙ ap (λ xs. x ∷ xs) (sym (cells_without (nth + 1) items))
+
+pub none_left : (items : Items) (nth : ℕ) → slice_get (cells_of items) nth ≡ None → cells_of (without nth items) ≡ []
+none_left items nth e = cells_without nth items ∙ drop_last (cells_of items) nth e
 
 -- beyond the last element there is none
 pub none_beyond : (items : Items) (p : ℕ) (xs : List Axis) (count nth : ℕ) → count ≡ size_of (lengths xs) → count ≤ nth → slice_get (cells_of (seen items p xs)) nth ≡ None

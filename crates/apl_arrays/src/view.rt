@@ -38,7 +38,7 @@ impl<'a> Model for View<'a> {
 }
 
 impl<'a> View<'a> {
-    ghost use Rattle.apl_arrays.specs.Cells.{IsArray, cells_of, cell_at};
+    ghost use Rattle.apl_arrays.specs.Cells.{IsArray, cell_at};
     ghost use Rattle.apl_arrays.specs.Strides.{Shows};
     ghost use Rattle.apl_arrays.specs.Views.{reversed, cut, turned};
     ghost use Rattle.apl_arrays.specs.Kinds.{are_numbers};
@@ -148,7 +148,7 @@ impl<'a> View<'a> {
 
     /// The elements in row-major order, one after another.
     pub fn iter(&self) -> ViewElements<'_>
-        ensures { result ≡ cells_of self.now.items }
+        ensures { result ≡ self.now.items }
     {
         let shape = self.shape();
         ViewElements::new(self.strided(), size(shape.as_slice()))

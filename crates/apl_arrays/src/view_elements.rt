@@ -19,10 +19,10 @@ pub struct ViewElements<'v> {
 }
 
 impl<'v> Model for ViewElements<'v> {
-    ghost use Rattle.std.specs.Prelude.{◌≡◌, List};
-    ghost use Rattle.apl_arrays.specs.declared.cell.Cell.{Cell};
+    ghost use Rattle.std.specs.Prelude.{◌≡◌};
+    ghost use Rattle.apl_arrays.specs.Cells.{Items};
 
-    ghost Value = { List Cell };
+    ghost Value = { Items };
 
     ghost use Rattle.apl_arrays.specs.Nth.{left_after};
     ghost use Rattle.apl_arrays.specs.Index.{size_of};
@@ -53,7 +53,7 @@ impl<'v> ViewElements<'v> {
     pub(crate) fn new(strided: Strided<'v>, count: usize) -> ViewElements<'v>
         requires steps { IsView (listed strided.items) strided.offset strided.axes.now }
         requires whole { count ≡ size_of (lengths strided.axes.now) }
-        ensures { result ≡ cells_of (seen (listed strided.entry.items) strided.entry.offset strided.entry.axes.now) }
+        ensures { result ≡ seen (listed strided.entry.items) strided.entry.offset strided.entry.axes.now }
     {
         ViewElements {
             strided,
@@ -68,9 +68,9 @@ impl<'v> Iterator for ViewElements<'v> {
 
     ghost use Rattle.std.specs.Iterator.{YieldsFirst, item_count};
 
-    ghost next_gives = { YieldsFirst (λ left. left) };
+    ghost next_gives = { YieldsFirst cells_of };
 
-    ghost remaining = { item_count (λ left. left) };
+    ghost remaining = { item_count cells_of };
 
     fn next(&mut self) -> Option<Cell> {
         let cell = nth_cell(&self.strided, self.count, self.given)?;
