@@ -1,15 +1,16 @@
 -- What slots of one number each pick.
-use Rattle.std.proofs.Common.{zero, suc, ◌≡◌, ℕ, ℤ, pos, ◌+◌, ◌*◌, ◌<◌, ◌≤◌, ◌&&◌, Bool, true, false, nat_lt, cond, List, [], ◌∷◌, map, set, length, get_or, drop, refl, ap, sym, ◌∙◌, arith, rules, subst, Option, None, Some, Result, Ok, Err}
-use Rattle.std.specs.Prelude.{slice_get, slice_set, FitsSigned, IsOk, IsSome, IsTrue, MatchBool, MatchOption}
+use Rattle.std.proofs.Common.{zero, suc, ◌≡◌, ℕ, ℤ, pos, negsuc, ◌+◌, ◌-◌, ◌*◌, ◌<◌, ◌≤◌, ◌&&◌, Bool, true, false, nat_le, nat_lt, cond, List, [], ◌∷◌, map, set, length, get_or, drop, refl, ap, sym, ◌∙◌, arith, rules, subst, Option, None, Some, Result, Ok, Err}
+use Rattle.std.specs.Prelude.{slice_get, slice_set, FitsSigned, IsSome, IsTrue, MatchBool, MatchOption}
 use Rattle.std.specs.Int.{w64}
-use Rattle.std.specs.Option.{option_and_then}
+use Rattle.std.specs.List.{list_all}
+use Rattle.std.specs.Option.{is_some, option_and_then}
 use Rattle.std.specs.Result.{result_ok}
 use Rattle.std.proofs.lemmas.Bool.{eq-eqb, lt-ltb, ne_eqb}
 use Rattle.std.proofs.lemmas.List.{length-map}
 use Rattle.std.proofs.lemmas.List.Elements.{All-nil, All-cons, All-get_or}
 use Rattle.std.proofs.Math.ListN.{length-set}
 use Rattle.apl_faults.specs.declared.fault.Fault.{Fault}
-use Rattle.apl_faults.specs.declared.fault.Fault.TheVariants.{Rank}
+use Rattle.apl_faults.specs.declared.fault.Fault.TheVariants.{Index, Rank}
 use Rattle.apl_arrays.specs.declared.cell.Cell.{Cell}
 use Rattle.apl_arrays.specs.declared.cell.Cell.TheVariants.{Num, Char}
 use Rattle.apl_arrays.specs.declared.stop.Stop.{Stop}
@@ -27,7 +28,7 @@ use Rattle.apl_arrays.proofs.Places.{both, position_in-lt, rest_of, within_head}
 use Rattle.apl_select.specs.Assignment.{assigned, assigned_at, typed, written}
 use Rattle.apl_select.specs.Indexing.{AreNumbers, Places, all_picked, indexed, joined_shape, led_to, picked_by, place_numbered}
 use Rattle.apl_select.specs.inside.Reached.{led, AreOnAxes}
-use Rattle.apl_select.specs.inside.Single.{counted_by, placed, one_each, PicksNone, PicksPlace}
+use Rattle.apl_select.specs.inside.Single.{counted_by, fault_of_numbers, holds_number, placed, one_each, PicksNone, PicksPlace}
 use Rattle.apl_select.specs.inside.Written.{overwritten, put_all, put_items}
 use Rattle.apl_select.proofs.Lists.{rest_from}
 use Rattle.apl_select.proofs.Picking.{numbered_below}
@@ -70,45 +71,42 @@ placed_none origin rows shape slots k d h g e =
     ∙ ap (λ (l : List (Option Arr)). placed origin rows (get_or shape k 0 ∷ drop (k + 1) shape) l) (rest_from slots k d g)
     ∙ ap (option_and_then (λ j. placed origin (rows * get_or shape k 0 + j) (drop (k + 1) shape) (drop (k + 1) slots))) e
 
--- a number that counts no place is at fault
-counts_none : (n origin : ℕ) (a : Arr) → IsSome (number_of_scalar a) → counted_by n origin (Some a) ≡ None → (e : Fault) × (picked_by n origin (Some a) ≡ Err e)
+-- a number that counts no place is an index fault
+index_fault : (n origin : ℕ) (z : ℤ) (x : Fault) → place_numbered n origin z ≡ Err x → x ≡ Index
+index_fault n origin (pos z) x e = at (nat_le origin z && nat_lt (z - origin) n) e
+  where
+    at : (b : Bool) → cond b (Ok (z - origin)) (Err Index) ≡ Err x → x ≡ Index
+    at true e = absurd (cc)
+    at false e = cc
+index_fault n origin (negsuc z) x e = cc
+
+counts_none : (n origin : ℕ) (a : Arr) → IsSome (number_of_scalar a) → counted_by n origin (Some a) ≡ None → picked_by n origin (Some a) ≡ Err Index
 counts_none n origin a some e = by (number_of_scalar a) (λ z h. number_alone a z h) some e
   where
-    at : (z : ℤ) (r : Result ℕ Fault) → place_numbered n origin z ≡ r → result_ok r ≡ None → a ≡ single (Num z) → (e : Fault) × (picked_by n origin (Some a) ≡ Err e)
+    at : (z : ℤ) (r : Result ℕ Fault) → place_numbered n origin z ≡ r → result_ok r ≡ None → a ≡ single (Num z) → picked_by n origin (Some a) ≡ Err Index
     at z (Ok j) h e s = absurd (cc)
-    at z (Err x) h e s = (
-      x,
-      ap (λ (b : Arr). picked_by n origin (Some b)) s
-          ∙ ap (λ (r : Result ℕ Fault). ok_map (λ ps. record { shape = []; places = ps }) (and_then r (λ y. ok_map (λ ys. y ∷ ys) (Ok [])))) h,
-    )
+    at z (Err x) h e s =
+        ap (λ (b : Arr). picked_by n origin (Some b)) s
+        ∙ ap (λ (r : Result ℕ Fault). ok_map (λ ps. record { shape = []; places = ps }) (and_then r (λ y. ok_map (λ ys. y ∷ ys) (Ok [])))) (h ∙ ap (λ (f : Fault). Err f) (index_fault n origin z x h))
 
-    by : (o : Option ℤ) → ((z : ℤ) → o ≡ Some z → a ≡ single (Num z)) → IsSome o → option_and_then (λ z. result_ok (place_numbered n origin z)) o ≡ None →
-        (e : Fault) × (picked_by n origin (Some a) ≡ Err e)
+    by : (o : Option ℤ) → ((z : ℤ) → o ≡ Some z → a ≡ single (Num z)) → IsSome o → option_and_then (λ z. result_ok (place_numbered n origin z)) o ≡ None → picked_by n origin (Some a) ≡ Err Index
     by None s some e = absurd (cc)
     by (Some z) s some e = at z (place_numbered n origin z) refl e (s z refl)
 
 -- numbers that lead to no place are at fault
 none_picks : (origin rows : ℕ) (shape : List ℕ) (slots : List (Option Arr)) → length slots ≡ length shape → AreNumbers slots → placed origin rows shape slots ≡ None →
-    (e : Fault) × (all_picked shape origin slots ≡ Err e)
+    all_picked shape origin slots ≡ Err Index
 none_picks origin rows [] slots l f e = absurd (cc)
 none_picks origin rows (n ∷ ns) [] l f e = absurd (omega arith)
 none_picks origin rows (n ∷ ns) (None ∷ slots) l f e = absurd f
 none_picks origin rows (n ∷ ns) (Some a ∷ slots) l f e = at (counted_by n origin (Some a)) refl (λ k h. none_picks origin (rows * n + k) ns slots (omega arith) f.1 h) e
   where
-    at : (o : Option ℕ) → counted_by n origin (Some a) ≡ o → ((k : ℕ) → placed origin (rows * n + k) ns slots ≡ None → (e : Fault) × (all_picked ns origin slots ≡ Err e)) →
-        option_and_then (λ k. placed origin (rows * n + k) ns slots) o ≡ None → (e : Fault) × (all_picked (n ∷ ns) origin (Some a ∷ slots) ≡ Err e)
-    at None h g e =
-        let p = counts_none n origin a f.0 h in (
-          p.0,
-          ap (λ (r : Result Places Fault). and_then r (λ p. ok_map (λ ps. p ∷ ps) (all_picked ns origin slots))) p.1,
-        )
+    at : (o : Option ℕ) → counted_by n origin (Some a) ≡ o → ((k : ℕ) → placed origin (rows * n + k) ns slots ≡ None → all_picked ns origin slots ≡ Err Index) →
+        option_and_then (λ k. placed origin (rows * n + k) ns slots) o ≡ None → all_picked (n ∷ ns) origin (Some a ∷ slots) ≡ Err Index
+    at None h g e = ap (λ (r : Result Places Fault). and_then r (λ p. ok_map (λ ps. p ∷ ps) (all_picked ns origin slots))) (counts_none n origin a f.0 h)
     at (Some k) h g e =
-        let one = counts_picks n origin (Some a) k h in
-        let rest = g k e in (
-          rest.0,
-          ap (λ (r : Result Places Fault). and_then r (λ p. ok_map (λ ps. p ∷ ps) (all_picked ns origin slots))) one.0
-              ∙ ap (λ (r : Result (List Places) Fault). ok_map (λ ps. record { shape = []; places = k ∷ [] } ∷ ps) r) rest.1,
-        )
+        ap (λ (r : Result Places Fault). and_then r (λ p. ok_map (λ ps. p ∷ ps) (all_picked ns origin slots))) (counts_picks n origin (Some a) k h).0
+        ∙ ap (λ (r : Result (List Places) Fault). ok_map (λ ps. record { shape = []; places = k ∷ [] } ∷ ps) r) (g k e)
 
 -- what slots of one number each pick, and where it lies
 pub record PicksOneEach (origin rows : ℕ) (shape : List ℕ) (slots : List (Option Arr)) (place : ℕ) : Type 0 where
@@ -158,7 +156,8 @@ picks_place a origin slots shape place l s e =
 picks_none : (a : Arr) (origin : ℕ) (slots : List (Option Arr)) (shape : List ℕ) → length slots ≡ length a.shape → shape ≡ a.shape → placed origin 0 shape slots ≡ None → PicksNone a origin slots
 picks_none a origin slots shape l s e f =
     let p = none_picks origin 0 a.shape slots l f (ap (λ (z : List ℕ). placed origin 0 z slots) (sym s) ∙ e) in
-    (p.0, ap (λ (b : Bool). and_then (demand b Rank) (λ u. all_picked a.shape origin slots)) (eq-eqb (length slots) (length a.shape) l) ∙ p.1)
+    let many = eq-eqb (length slots) (length a.shape) l in
+    ap (λ (b : Bool). and_then (demand b Rank) (λ u. all_picked a.shape origin slots)) many ∙ p ∙ ap (λ (b : Bool). Err (cond b Index Rank)) (sym many)
 
 pub picks_if_placed : (a : Arr) (origin : ℕ) (slots : List (Option Arr)) (shape : List ℕ) (r : Option ℕ) → length slots ≡ length a.shape → shape ≡ a.shape →
     placed origin 0 shape slots ≡ r → MatchOption r (PicksNone a origin slots) (PicksPlace a origin slots)
@@ -167,15 +166,13 @@ picks_if_placed a origin slots shape (Some place) l s h = picks_place a origin s
 
 -- another count of slots than of axes
 pub others_pick_none : (a : Arr) (origin : ℕ) (slots : List (Option Arr)) → (length slots ≡ length a.shape → ⊥) → PicksNone a origin slots
-others_pick_none a origin slots l f = (Rank, ap (λ (b : Bool). and_then (demand b Rank) (λ u. all_picked a.shape origin slots)) (ne_eqb (length slots) (length a.shape) l))
+others_pick_none a origin slots l f =
+    let other = ne_eqb (length slots) (length a.shape) l in
+    ap (λ (b : Bool). and_then (demand b Rank) (λ u. all_picked a.shape origin slots)) other ∙ ap (λ (b : Bool). Err (cond b Index Rank)) (sym other)
 
--- numbers at fault index nothing
-pub none_indexed : (b : Arr) (origin : ℕ) (slots : List (Option Arr)) → PicksNone b origin slots → AreNumbers slots → IsOk (indexed b slots origin) → ⊥
-none_indexed b origin slots p f ok =
-    let at = p f in
-    let P : Result Arr Fault → Type 0 = λ r. IsOk r in
-    let none : IsOk {T = Arr} {E = Fault} (Err at.0) = subst P (ap (λ (m : Result (List Places) Fault). and_then m (λ ps. ok_map (λ shape. selected b shape (led_to ps)) (limited (joined_shape ps)))) at.1) ok in
-    cc
+-- numbers that pick no place index nothing
+pub none_indexed : (b : Arr) (origin : ℕ) (slots : List (Option Arr)) → PicksNone b origin slots → AreNumbers slots → indexed b slots origin ≡ Err (fault_of_numbers b slots)
+none_indexed b origin slots p f = ap (λ (m : Result (List Places) Fault). and_then m (λ ps. ok_map (λ shape. selected b shape (led_to ps)) (limited (joined_shape ps)))) (p f)
 
 -- index lists of which each slot has one
 joined_one : (index : List ℕ) → joined_shape (one_each index) ≡ []
@@ -270,9 +267,9 @@ is_there (x ∷ xs) (suc k) l e = is_there xs k (omega arith) e
 
 -- the element that was read, if it was
 pub indexed_if : (b : Arr) (origin : ℕ) (slots : List (Option Arr)) (place : ℕ) (items : Items) (r : Option Cell) → length (cells_of b.items) ≡ size_of b.shape → PicksPlace b origin slots place → items ≡ b.items →
-    r ≡ slice_get (cells_of items) place → MatchOption r (AreNumbers slots → IsOk (indexed b slots origin) → ⊥) (λ cell. indexed b slots origin ≡ Ok (single cell))
-indexed_if b origin slots place items None full p s e = λ f ok.
-    is_there (cells_of b.items) place (omega (arith, full, p.there, position_in-lt b.shape p.index p.within)) (e ∙ ap (λ (t : Items). slice_get (cells_of t) place) s)
+    r ≡ slice_get (cells_of items) place → MatchOption r (AreNumbers slots → indexed b slots origin ≡ Err (fault_of_numbers b slots)) (λ cell. indexed b slots origin ≡ Ok (single cell))
+indexed_if b origin slots place items None full p s e = λ f. absurd
+    (is_there (cells_of b.items) place (omega (arith, full, p.there, position_in-lt b.shape p.index p.within)) (e ∙ ap (λ (t : Items). slice_get (cells_of t) place) s))
 indexed_if b origin slots place items (Some cell) full p s e = indexed_one b origin slots place cell p (ap (λ (t : Items). slice_get (cells_of t) place) (sym s) ∙ sym e)
 
 -- a list of one number
@@ -284,3 +281,22 @@ one_number (y ∷ z ∷ zs) h l = absurd (omega arith)
 -- the first number of an array fits 64 bits
 pub first_fits : (items : Items) (zs : List ℤ) → Numbers zs ≡ items → AreStorable items → 1 ≤ length zs → FitsSigned w64 (get_or zs 0 (pos 0))
 first_fits items zs e s h = All-get_or (λ z. FitsSigned w64 z) zs 0 (pos 0) (omega arith) (subst AreStorable (sym e) s)
+
+-- each slot holds a number
+pub each_number : (slots : List (Option Arr)) → list_all holds_number slots ≡ true → AreNumbers slots
+each_number [] e = tt
+each_number (None ∷ slots) e = absurd (cc)
+each_number (Some a ∷ slots) e = at (number_of_scalar a) (λ h. each_number slots h) e
+  where
+    at : (o : Option ℤ) → (list_all holds_number slots ≡ true → AreNumbers slots) → is_some o && list_all holds_number slots ≡ true → IsSome o × AreNumbers slots
+    at None f e = absurd (cc)
+    at (Some z) f e = (refl, f e)
+
+pub not_each_number : (slots : List (Option Arr)) → list_all holds_number slots ≡ false → AreNumbers slots → ⊥
+not_each_number [] e n = cc
+not_each_number (None ∷ slots) e n = n
+not_each_number (Some a ∷ slots) e n = at (number_of_scalar a) (λ h. not_each_number slots h n.1) n.0 e
+  where
+    at : (o : Option ℤ) → (list_all holds_number slots ≡ false → ⊥) → IsSome o → is_some o && list_all holds_number slots ≡ false → ⊥
+    at None f n e = absurd (cc)
+    at (Some z) f n e = f e

@@ -1,5 +1,5 @@
 // Indexing.
-ghost use Rattle.std.specs.Prelude.{◌≡◌, ◌≤◌, length, IfOk, IsOk, MatchOption, Ok};
+ghost use Rattle.std.specs.Prelude.{◌≡◌, ◌≤◌, length, IfOk, MatchOption, Err, Ok};
 ghost use Rattle.apl_arrays.specs.Answers.{Answers, FaultsFirst, HadMemory};
 ghost use Rattle.apl_arrays.specs.Cells.{cells_of};
 ghost use Rattle.apl_arrays.specs.Index.{bound_of, size_of};
@@ -9,9 +9,10 @@ ghost use Rattle.apl_arrays.specs.Ravels.{items_of};
 ghost use Rattle.apl_arrays.specs.Simple.{single};
 ghost use Rattle.apl_select.specs.Indexing.{indexed, items_led_to, AreNumbers, joined_shape, slots_fit};
 ghost use Rattle.apl_select.specs.inside.Reached.{AreOnAxes};
+ghost use Rattle.apl_select.specs.inside.Single.{fault_of_numbers};
 
 use crate::reach::read;
-use crate::single::place_picked;
+use crate::single::{fault_of_numbers, place_picked};
 use crate::slots::{Picked, joined_shape, picks_of};
 use crate::vector::vector_picked;
 use apl_arrays::{
@@ -43,7 +44,7 @@ fn read_items(
 /// The element at the one place that slots pick, where each is a number that counts a place.
 #[inline]
 fn element_picked(b: &Array, slots: &[Option<Array>], origin: usize) -> Option<Cell>
-    ensures { MatchOption result (AreNumbers slots.now → IsOk (indexed b.now slots.now origin) → ⊥) (λ cell. indexed b.now slots.now origin ≡ Ok (single cell)) }
+    ensures { MatchOption result (AreNumbers slots.now → indexed b.now slots.now origin ≡ Err (fault_of_numbers b.now slots.now)) (λ cell. indexed b.now slots.now origin ≡ Ok (single cell)) }
 {
     let place = place_picked(&b.lend(), slots, origin)?;
     b.items().cell(place)
@@ -99,7 +100,7 @@ fn elements_picked(
 /// domain fault, but where there are none, and a number that counts no place of its axis is an index fault. A result beyond the limits of
 /// an array is a limit fault.
 ///
-/// Slots of one number each, which count places, take no memory.
+/// Slots of one number each take no memory, whether they count places or not.
 pub fn index(
     alloc: Global,
     b: &Array,
@@ -108,11 +109,14 @@ pub fn index(
 ) -> Result<Array, Stop>
     ensures value { Answers (λ r. r) (indexed b.now slots.now (origin_number origin)) result }
     ensures at_once { FaultsFirst (slots_fit b.now slots.now) result }
-    ensures numbers { AreNumbers slots.now → IsOk (indexed b.now slots.now (origin_number origin)) → HadMemory result }
+    ensures numbers { AreNumbers slots.now → HadMemory result }
 {
     let first = origin.number();
-    match element_picked(b, slots, first) {
-        Some(cell) => Ok(Array::scalar(cell)),
-        None => elements_picked(alloc, b, slots, first),
+    if let Some(cell) = element_picked(b, slots, first) {
+        return Ok(Array::scalar(cell));
     }
+    if let Some(fault) = fault_of_numbers(b, slots) {
+        return Err(Stop::Fault(fault));
+    }
+    elements_picked(alloc, b, slots, first)
 }

@@ -1,11 +1,14 @@
 // The one place that numbers name, one for each axis.
 ghost use Rattle.std.specs.Prelude.{◌≡◌, ◌<◌, ◌≤◌, length, IfSome, MatchOption};
+ghost use Rattle.std.specs.List.{list_all};
 ghost use Rattle.apl_arrays.specs.Cells.{IsArray};
 ghost use Rattle.apl_arrays.specs.Index.{bound_of};
-ghost use Rattle.apl_select.specs.inside.Single.{counted_by, placed, PicksNone, PicksPlace};
+ghost use Rattle.apl_select.specs.Indexing.{AreNumbers};
+ghost use Rattle.apl_select.specs.inside.Single.{counted_by, fault_of_numbers, holds_number, placed, PicksNone, PicksPlace};
 
 use crate::slots::numbered;
 use apl_arrays::{Array, Lent, MAX_ELEMENTS};
+use apl_faults::Fault;
 
 /// The place on an axis that a slot of one number counts.
 #[inline]
@@ -49,4 +52,35 @@ pub(crate) fn place_picked(
         return None;
     }
     place_named(shape, slots, origin)
+}
+
+/// Whether a slot holds one number.
+fn holds_number(slot: &Option<Array>) -> bool
+    ensures { result ≡ holds_number slot.now }
+{
+    match slot {
+        Some(array) => array.as_number().is_some(),
+        None => false,
+    }
+}
+
+/// Whether each slot does.
+fn all_hold_numbers(slots: &[Option<Array>]) -> bool
+    ensures { result ≡ list_all holds_number slots.now }
+{
+    slots.iter().all(|slot| holds_number(slot))
+}
+
+/// The fault of slots of one number each, which pick no place; none where a slot holds anything else. It takes no memory.
+pub(crate) fn fault_of_numbers(array: &Array, slots: &[Option<Array>]) -> Option<Fault>
+    ensures { MatchOption result (AreNumbers slots.now → ⊥) (λ fault. AreNumbers slots.now × (fault ≡ fault_of_numbers array.now slots.now)) }
+{
+    if !all_hold_numbers(slots) {
+        return None;
+    }
+    if slots.len() == array.rank() {
+        Some(Fault::Index)
+    } else {
+        Some(Fault::Rank)
+    }
 }

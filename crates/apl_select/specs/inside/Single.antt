@@ -1,12 +1,13 @@
 -- The one place that numbers name, one for each axis.
 -- It is the only place of those that `Indexing` picks.
-use Rattle.std.specs.Prelude.{◌≡◌, ℕ, ◌+◌, ◌*◌, true, List, [], ◌∷◌, map, Option, None, Some, Ok, Err}
-use Rattle.std.specs.Option.{option_and_then}
+use Rattle.std.specs.Prelude.{◌≡◌, ℕ, ◌+◌, ◌*◌, ◌==◌, cond, Bool, true, false, List, [], ◌∷◌, length, map, Option, None, Some, Ok, Err}
+use Rattle.std.specs.Option.{is_some, option_and_then}
 use Rattle.std.specs.Result.{result_ok}
 use Rattle.apl_arrays.specs.Cells.{Arr}
 use Rattle.apl_arrays.specs.Index.{is_within, position_in}
 use Rattle.apl_arrays.specs.Simple.{number_of_scalar}
 use Rattle.apl_faults.specs.declared.fault.Fault.{Fault}
+use Rattle.apl_faults.specs.declared.fault.Fault.TheVariants.{Index, Rank}
 use Rattle.apl_select.specs.Indexing.{AreNumbers, Places, place_numbered, slots_of}
 
 -- the place on an axis of length n that a slot of one number counts
@@ -31,6 +32,15 @@ pub record PicksPlace (a : Arr) (origin : ℕ) (slots : List (Option Arr)) (plac
   pub within : is_within a.shape index ≡ true
   pub there : place ≡ position_in a.shape index
 
--- numbers of which one counts no place, or of which there are too few or too many
+-- a slot holds one number
+abbrev pub holds_number : Option Arr → Bool
+holds_number None = false
+holds_number (Some a) = is_some (number_of_scalar a)
+
+-- the fault of numbers that pick no place: one counts none, or there are too few or too many
+abbrev pub fault_of_numbers : Arr → List (Option Arr) → Fault
+fault_of_numbers a slots = cond (length slots == length a.shape) Index Rank
+
+-- slots that pick no one place are at fault if each holds one number
 abbrev pub PicksNone : Arr → ℕ → List (Option Arr) → Type 0
-PicksNone a origin slots = AreNumbers slots → (e : Fault) × (slots_of a origin slots ≡ Err e)
+PicksNone a origin slots = AreNumbers slots → slots_of a origin slots ≡ Err (fault_of_numbers a slots)
