@@ -277,8 +277,8 @@ impl Array {
         }
     }
 
-    /// An equal array. It takes no memory of a scalar, of what [`at_most_one`](Array::at_most_one) made or of an array that is
-    /// [`shared`](Array::into_shared).
+    /// An equal array. Of a scalar it takes no memory.
+    // Nor does it of what `at_most_one` made or of a shared array. How an array is kept isn't in its model, so no clause can say this.
     #[inline]
     pub fn copy(&self) -> Result<Array, AllocError>
         ensures value { IfOk result (λ copied. copied ≡ self.now) }
@@ -301,8 +301,7 @@ impl Array {
         Ok(Array { kept })
     }
 
-    /// The same array, whose copies share its elements. For a scalar, for what [`at_most_one`](Array::at_most_one) made and for an array that
-    /// is shared already, no memory is asked for. Where memory is refused, the array comes back.
+    /// The same array, whose copies share its elements. For a scalar it takes no memory. Where an allocation fails, the array comes back.
     #[inline]
     pub fn into_shared(self, alloc: Global) -> Result<SharedArray, AllocFailed<Array>>
         ensures ok { IfOk result (λ array. array ≡ self) }
@@ -328,8 +327,7 @@ impl Array {
         }
     }
 
-    /// An equal array whose copies share its elements, and which shares them with this one where this one is
-    /// [`shared`](Array::into_shared): then, of a scalar and of what [`at_most_one`](Array::at_most_one) made it takes no memory.
+    /// An equal array whose copies share its elements. Of a scalar it takes no memory.
     #[inline]
     pub fn to_shared(&self, alloc: Global) -> Result<SharedArray, AllocError>
         ensures value { IfOk result (λ shared. shared ≡ self.now) }

@@ -25,7 +25,7 @@ pub(crate) enum Sharing {
     Dense(Rc<Dense>),
 }
 
-/// An array whose copies share its elements, so that a copy takes no memory. It is small: what has many elements lies elsewhere.
+/// An array whose copies share its elements. It is small: what has many elements lies elsewhere.
 #[derive(Drop)]
 pub struct SharedArray {
     kept: Sharing,
@@ -192,8 +192,9 @@ impl SharedArray {
         }
     }
 
-    /// Writes a number in the place of another, and says whether it did. It did not where there is no number at the place, or where a copy
-    /// shares the elements. A scalar shares none.
+    /// Writes a number over another, and says whether it did. It did not where there is no number at the place. In a scalar it did where there
+    /// is one.
+    // Nor did it where a copy shares the elements. That isn't in the model, so no clause can say when it did.
     pub fn set_number(&mut self, place: usize, number: i64) -> bool
         ensures value { self.new ≡ cond result (number_written self.old place number) self.old }
         ensures there { IsTrue result → (are_numbers self.old.items ≡ true) × (place < length (cells_of self.old.items)) }
@@ -220,8 +221,9 @@ impl SharedArray {
         }
     }
 
-    /// Writes elements at places one after another, so that the last one for a place stands, and says whether it did. It did not where a copy
-    /// shares the elements. A single one serves at each place, and elements of another type are not written.
+    /// Writes elements at places one after another, so that the last one for a place stands, and says whether it did. A single one serves at
+    /// each place, and elements of another type are not written.
+    // It did not where a copy shares the elements, nor where they aren't kept with copies. That isn't in the model, so no clause can say it.
     pub fn write(&mut self, places: &[usize], items: Elements<'_>) -> bool
         requires within { All (λ q. q < length (cells_of self.old.items)) places.now }
         requires enough { AreEnough (length (cells_of (listed items))) (length places.now) }

@@ -76,8 +76,8 @@ fn overwritten(
     Ok(Array::in_shape(v.shape(), ravel))
 }
 
-/// Writes a number in place of the one element that slots pick, and says whether it did. It did not where anything is at fault, where more
-/// is written than a number, or where a copy shares the elements.
+/// Writes a number over the one element that slots pick, and says whether it did. It did not where anything is at fault, and where more is
+/// written than a number.
 #[inline]
 fn number_assigned(
     array: &mut SharedArray,
@@ -118,9 +118,9 @@ pub fn index_assign(
     Ok(overwritten(alloc, &v.lend(), b, places.as_slice())?)
 }
 
-/// The same in place of the array, which stays as it was after each error. Its elements are copied only where a copy of it shares them.
-///
-/// One number for slots of one number each takes no memory, unless a copy of the array shares its elements.
+/// Changes the array itself so. After each error it is as it was.
+// Where no copy shares the elements they are written in place, one number for slots of one number each without an allocation. Whether a copy
+// shares them isn't in the model of a `SharedArray`, nor in that of the `Rc` below it, so no clause can say this.
 pub fn index_assign_into(
     alloc: Global,
     array: &mut SharedArray,

@@ -1,5 +1,5 @@
 //! Line numbers by the names of functions.
-ghost use Rattle.std.specs.Prelude.{◌≡◌, ◌≤◌, [], length, OnErr, OnOk};
+ghost use Rattle.std.specs.Prelude.{◌≡◌, ◌≤◌, [], length, IsOk, OnErr, OnOk};
 ghost use Rattle.apl_vectors.specs.Vectors.{has_line, vector_of, with_vector, without_vector};
 
 use apl_symbols::Name;
@@ -73,6 +73,7 @@ impl Vectors {
         requires { length lines.items ≤ MOST_LINES }
         ensures ok { OnOk result (self.new ≡ with_vector name.now lines.items self.old) }
         ensures err { OnErr result (self.new ≡ self.old) }
+        ensures empty { lines.items ≡ [] → IsOk result }
     {
         if lines.is_empty() {
             self.remove(name);
