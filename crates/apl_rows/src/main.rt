@@ -19,13 +19,14 @@
 //!
 //! What is written stands behind `|`, and behind `!` where it reports a stop. In texts `◊` stands for a line feed, `␍` for a
 //! carriage return and `�` for the byte ff, which is no text. Calls of the crates beneath,
-//! which no session makes so: [`texts`], [`functions`], [`codes`], [`arrays`], [`views`], [`naming`], [`running`] and
-//! [`desks`] say theirs.
+//! which no session makes so: [`texts`], [`functions`], [`codes`], [`arrays`], [`views`], [`naming`], [`running`],
+//! [`desks`] and [`errors`] say theirs.
 #![tactic(auto)]
 
 mod arrays;
 mod codes;
 mod desks;
+mod errors;
 mod functions;
 mod looking;
 mod naming;

@@ -3,7 +3,8 @@
 use crate::page::Page;
 use crate::words::{next_word, number};
 use crate::{
-    arrays, codes, desks, functions, looking, naming, running, stepping, texts, typing, views,
+    arrays, codes, desks, errors, functions, looking, naming, running, stepping, texts, typing,
+    views,
 };
 use apl_machine::Machine;
 use apl_session::Session;
@@ -31,6 +32,7 @@ fn call(page: &mut Page, word: &str, text: &str) -> bool {
         || naming::play(page, word, text)
         || running::play(page, word, text)
         || desks::play(page, word, text)
+        || errors::play(page, word, text)
 }
 
 /// Types a line, makes steps or looks at the machine; else calls the crates beneath.

@@ -44,12 +44,10 @@ impl From<TreeError> for ReadError {
 }
 
 /// Why a tree wasn't read.
-#[derive(Clone, Copy, PartialEq, Eq, Debug, Error)]
+#[derive(Clone, Copy, PartialEq, Eq, Debug)]
 pub(crate) enum TreeError {
     /// It has another form.
-    #[error("the tree hasn't the form of a workspace")]
     Form,
-    #[error("out of memory")]
     Memory,
 }
 
