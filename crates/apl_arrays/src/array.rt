@@ -16,7 +16,7 @@ use std::alloc::{AllocError, AllocFailed, Global};
 use std::marker::Model;
 use std::rc::Rc;
 
-/// How an array is kept: a scalar, or a vector of at most one number, in its place; any other array by itself or shared with its copies.
+/// How an array is stored: a scalar, or a vector of at most one number, in place; any other array owned, or shared with its copies.
 #[derive(Drop)]
 pub(crate) enum Kept {
     Num(i64),
@@ -29,7 +29,7 @@ pub(crate) enum Kept {
     Dense(Rc<Dense>),
 }
 
-/// Becomes a number in the place of something else, which is let go. It stands apart, since there mostly is a number.
+/// Becomes a number instead of something else, which is let go. It stands apart, since there mostly is a number.
 #[inline(never)]
 fn become_number(kept: &mut Kept, number: i64)
     ensures { kept.new ≡ Kept.Num number }
@@ -92,7 +92,7 @@ impl Array {
         })
     }
 
-    /// What is kept so.
+    /// The array that is stored so.
     #[inline]
     pub(crate) fn kept(kept: Kept) -> Array
         ensures { result ≡ arr_of kept }
@@ -150,7 +150,7 @@ impl Array {
         Array::in_shape(&[count], ravel)
     }
 
-    /// The array of this shape with these elements. A scalar is kept by itself.
+    /// The array of this shape with these elements. A scalar is stored in place.
     pub(crate) fn formed(shape: ArrayVec<usize, MAX_RANK>, ravel: Ravel) -> Array
         requires { IsArray shape.items (items_of ravel) }
         ensures { result ≡ record { shape = shape.items; items = items_of ravel } }
@@ -317,7 +317,7 @@ impl Array {
             Kept::Dense(dense) => return Ok(SharedArray::kept(Sharing::Dense(dense))),
             Kept::Own(dense) => dense,
         };
-        // What is kept so has axes, and is no scalar.
+        // What is stored so has axes, and is no scalar.
         let _axes = dense.shape();
         match Rc::new(alloc, dense) {
             Ok(dense) => Ok(SharedArray::kept(Sharing::Dense(dense))),
@@ -356,7 +356,7 @@ impl Array {
         matches!(self.kept, Kept::Own(_))
     }
 
-    /// Becomes a number, as a scalar. It takes no memory, and a number is written in the place of another.
+    /// Becomes a number, as a scalar. It takes no memory, and a number is written over another in place.
     #[inline(always)]
     pub fn put_number(&mut self, number: i64)
         ensures { self.new ≡ record { shape = []; items = Numbers (number ∷ []) } }

@@ -1,4 +1,4 @@
-// An array that is lent.
+// An array that is borrowed.
 ghost use Rattle.std.specs.Prelude.{◌≡◌, ◌≤◌, length};
 
 use crate::dense::Dense;
@@ -7,7 +7,7 @@ use crate::shape::{MAX_ELEMENTS, MAX_RANK};
 use apl_charset::Ch;
 use std::marker::Model;
 
-/// What lies where an array is kept.
+/// What an array is borrowed from.
 #[derive(Drop)]
 pub(crate) enum Place<'a> {
     Num(&'a i64),
@@ -19,7 +19,7 @@ pub(crate) enum Place<'a> {
     Dense(&'a Dense),
 }
 
-/// An array that is lent: its shape, and its elements where they lie.
+/// An array that is borrowed: its shape, and its elements where they lie.
 #[derive(Drop)]
 pub struct Lent<'a> {
     place: Place<'a>,

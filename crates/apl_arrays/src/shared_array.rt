@@ -12,8 +12,8 @@ use std::marker::Model;
 use std::mem;
 use std::rc::Rc;
 
-/// How an array is kept that shares its elements: a scalar, or a vector of at most one number, in its place; any other where its copies find
-/// it too.
+/// How an array is stored that shares its elements: a scalar, or a vector of at most one number, in place; any other where its copies find it
+/// too.
 #[derive(Drop)]
 pub(crate) enum Sharing {
     Num(i64),
@@ -87,7 +87,7 @@ impl SharedArray {
         array.to_shared(alloc)
     }
 
-    /// What is kept so.
+    /// The array that is stored so.
     #[inline]
     pub(crate) fn kept(kept: Sharing) -> SharedArray
         ensures { result ≡ shared_of kept }
@@ -181,7 +181,7 @@ impl SharedArray {
         })
     }
 
-    /// Becomes a number, as a scalar. It takes no memory, and a number is written in the place of another.
+    /// Becomes a number, as a scalar. It takes no memory, and a number is written over another in place.
     #[inline]
     pub fn put_number(&mut self, number: i64)
         ensures { self.new ≡ record { shape = []; items = Numbers (number ∷ []) } }
@@ -209,7 +209,7 @@ impl SharedArray {
                 *kept = number;
                 true
             }
-            // What is kept so has axes, and is no scalar.
+            // What is stored so has axes, and is no scalar.
             Sharing::Dense(dense) => {
                 let _axes = dense.shape();
                 match Rc::get_mut(dense) {

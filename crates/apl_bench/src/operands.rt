@@ -44,7 +44,7 @@ pub(crate) enum Operand {
     Cube(Numbers),
 }
 
-/// A number below 2^31 for a place, spread as if by chance.
+/// A number below 2^31 for a place, spread as if at random.
 fn spread(place: u64) -> u32
     ensures { result < 2 ^ 31 }
 {

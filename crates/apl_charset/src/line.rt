@@ -106,7 +106,7 @@ pub fn decode_line(alloc: Global, line: &[u8]) -> Result<Vec<Ch>, CharFault>
     }
 }
 
-/// The bytes of a text, in UTF-8. Those of one in ASCII have room for a line feed behind them.
+/// The bytes of a text, in UTF-8.
 pub fn encode(alloc: Global, text: &[Ch]) -> Result<Vec<u8>, AllocError>
     ensures { IfOk result (λ v. v.items ≡ bytes text.now) }
 {

@@ -83,7 +83,7 @@ pub fn in_set(text: &[Ch])
     }
 }
 
-/// Adds ASCII text at the end. After an error a front of it may have been added.
+/// Adds ASCII text at the end. After an error a prefix of it may have been added.
 pub fn push_ascii(out: &mut Vec<Ch>, text: &[u8]) -> Result<(), AllocError>
     requires { list_all (λ b. is_in_range 32 126 b) text.now ≡ true }
     ensures { OnOk result (out.new.items ≡ out.old.items ++ text.now) }
@@ -95,7 +95,7 @@ pub fn push_ascii(out: &mut Vec<Ch>, text: &[u8]) -> Result<(), AllocError>
 }
 
 /// Adds a number in decimal at the end: its digits, the first of them a zero for 0 alone. After an
-/// error a front of it may have been added.
+/// error a prefix of it may have been added.
 pub fn push_number(out: &mut Vec<Ch>, number: u64) -> Result<(), AllocError>
     ensures { OnOk result (out.new.items ≡ out.old.items ++ decimal number) }
 {

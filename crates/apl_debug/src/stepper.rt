@@ -20,7 +20,7 @@ fn is_end(at_lines: bool, progress: Progress) -> bool
 }
 
 /// At most `count` steps, through the first that ends the run, and what the last one answered.
-/// Want of memory gives the number of those that are done.
+/// Out of memory it gives the number of those that are done.
 #[tactic(auto, using(crate::proofs::Stepped::runs))]
 fn advance(machine: &mut Machine, count: u64, at_lines: bool) -> Result<Progress, u64>
     ensures ok { OnOk result (machine.new ≡ (run (ends_at at_lines) count machine.old).state) }
@@ -73,7 +73,7 @@ impl<'a> Stepper<'a> {
     }
 
     /// At most `count` steps, until a line has ended, was left by a branch or abandoned, or nothing
-    /// runs. After want of memory the machine stands after the steps that are done.
+    /// runs. Out of memory the machine stands after the steps that are done.
     pub fn line(&mut self, count: u64) -> Result<Progress, AllocError>
         ensures same { self.new.machine.ghost_name ≡ self.old.machine.ghost_name }
         ensures ok { OnOk result (self.new.machine.now ≡ (run leaves_line count self.old.machine.now).state) }
@@ -86,7 +86,7 @@ impl<'a> Stepper<'a> {
         }
     }
 
-    /// At most `count` steps, until nothing runs. After want of memory the machine stands after the
+    /// At most `count` steps, until nothing runs. Out of memory the machine stands after the
     /// steps that are done.
     pub fn until_idle(&mut self, count: u64) -> Result<Progress, AllocError>
         ensures same { self.new.machine.ghost_name ≡ self.old.machine.ghost_name }

@@ -21,7 +21,7 @@ pub record AreAlone (before : List State) (all : List Addressed) (now : List Sta
   pub as_many : length now ≡ length before
   pub alone : (k : ℕ) → k < length before → session now k ≡ after (session before k) (own k all)
 
--- Want of memory came in the event of this number among all, after so many of its steps: that session has made them besides, and each stands where its
+-- Memory ran out in the event of this number among all, after so many of its steps: that session has made them besides, and each stands where its
 -- own events before that one have led it.
 pub record LeftAt (before : List State) (all : List Addressed) (at done : ℕ) (now : List State) : Type 0 where
   pub as_many : length now ≡ length before

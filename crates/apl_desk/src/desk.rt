@@ -11,7 +11,7 @@ use apl_session::{Event, Session};
 use std::marker::Model;
 use thiserror::Error;
 
-/// Want of memory, after the pairs before number `pair`, from 0, and so many steps of that one.
+/// Out of memory, after the pairs before number `pair`, from 0, and so many steps of that one.
 #[derive(Clone, Copy, Debug, PartialEq, Eq, Error)]
 #[error("out of memory at pair {pair} after {steps} of its steps")]
 pub struct DeskError {
@@ -79,7 +79,7 @@ impl Desk {
         self.sessions[number].take_output()
     }
 
-    /// An event of one session. Want of memory gives the number of its steps that are done.
+    /// An event of one session. Out of memory it gives the number of its steps that are done.
     fn apply(&mut self, number: usize, event: &Event) -> Result<(), u64>
         requires { number < length self.old }
         ensures ok { OnOk result (self.new ≡ slice_set self.old number (after_event (session self.old number) (event_view event.now))) }
@@ -90,7 +90,7 @@ impl Desk {
     }
 
     /// The events in order, each of the session of the number beside it. The numbers are below `len`,
-    /// by the caller's care. After want of memory each session stands where its events before that
+    /// by the caller's care. Out of memory each session stands where its events before that
     /// pair led it, and the pair's has made that many steps more.
     pub fn drive(&mut self, pairs: &[(usize, Event)]) -> Result<(), DeskError>
         requires { All (λ p. p.0 < length self.old) pairs.now }

@@ -13,7 +13,7 @@ pub record Wrote (old new text rest : List ℕ) : Type 0 where
   pub spelled : text ≡ front ++ rest
   pub added : new ≡ old ++ front
 
--- a front of a text was written behind the old bytes
+-- a prefix of a text was written behind the old bytes
 pub record Extends (old new text : List ℕ) : Type 0 where
   pub front : List ℕ
   pub rest : List ℕ

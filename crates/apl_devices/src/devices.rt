@@ -42,7 +42,7 @@ pub trait Sink {
     /// Whether it has failed, or has taken no byte of some.
     ghost failed: { Self → Bool };
 
-    /// Takes some bytes of the front, and counts them.
+    /// Takes a prefix of the bytes, and counts it.
     fn write(&mut self, bytes: &[u8]) -> Result<usize, Failed>
         ensures within { IfOk result (λ n. n ≤ length bytes.now) }
         ensures bytes { IsTrue tells → IfOk result (λ n. written self.new ≡ written self.old ++ take n bytes.now) }
@@ -67,7 +67,7 @@ pub fn read_byte<R: Source>(reader: &mut R) -> Result<Option<u8>, Failed>
     }
 }
 
-/// Writes a front of the bytes, and gives the others.
+/// Writes a prefix of the bytes, and gives the others.
 #[tactic(auto, using(crate::proofs::Writing::writing))]
 fn write_some<'a, W: Sink>(writer: &mut W, bytes: &'a [u8]) -> Result<&'a [u8], Failed>
     requires { 0 < length bytes.now }
@@ -87,7 +87,7 @@ fn write_some<'a, W: Sink>(writer: &mut W, bytes: &'a [u8]) -> Result<&'a [u8], 
     }
 }
 
-/// Writes all the bytes, or after an error a front of them.
+/// Writes all the bytes, or after an error a prefix of them.
 #[tactic(auto, using(crate::proofs::Writing::writing))]
 pub fn write_all<W: Sink>(writer: &mut W, bytes: &[u8]) -> Result<(), Failed>
     ensures ok { IsTrue W.tells → OnOk result (W.written writer.new ≡ W.written writer.old ++ bytes.now) }

@@ -28,7 +28,7 @@ impl Model for Tape {
 }
 
 impl Tape {
-    /// These bytes, of which none has been read. It never fails but for want of memory.
+    /// These bytes, of which none has been read. It fails only out of memory.
     pub fn new(bytes: Vec<u8>) -> Tape
         ensures { result ≡ record { bytes = bytes.items; read = 0; failing = None; most = usize.MAX; failed = false } }
     {

@@ -1,4 +1,4 @@
-//! How another program holds a session: it types lines to it, keeps its workspace as bytes, and goes on with that. README.md shows it.
+//! How another program holds a session: it types lines to it, keeps its workspace as bytes, and goes on with that. docs/EMBEDDING.md shows it.
 #![tactic(auto)]
 
 use apl_charset::encode;

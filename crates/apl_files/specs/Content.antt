@@ -9,7 +9,7 @@ MayReplace before now = (now ≡ None) ⊎ (now ≡ before)
 
 -- ---- between the parts of reading, for private clauses
 
--- a hasher has taken the front of these bytes, and the rest is left to be read
+-- a hasher has taken a prefix of these bytes, and the rest is left to be read
 abbrev pub IsFed : List ℕ → Option (List ℕ) → Sha256 → Type 0
 IsFed bytes None h = ⊥
 IsFed bytes (Some left) h = (taken : List ℕ) × Holds256 h taken × (bytes ≡ taken ++ left)

@@ -47,7 +47,7 @@ impl FileError {
         }
     }
 
-    /// Whether memory was refused.
+    /// Whether memory ran out.
     pub fn is_memory(&self) -> bool {
         match self {
             FileError::Memory => true,

@@ -1,4 +1,4 @@
-// Scans along any axis of numbers in row-major order, each front from what is kept of the numbers before it.
+// Scans along any axis of numbers in row-major order, each prefix from what is kept of the numbers before it.
 ghost use Rattle.std.specs.Prelude.{◌≡◌, ◌<◌, ◌≤◌, ◌+◌, ◌*◌, ◌%◌, ◌∷◌, ◌++◌, [], ℕ, pos, length, slice_index_or, IfOk, MatchResult};
 ghost use Rattle.apl_arrays.specs.Answers.{Answers};
 ghost use Rattle.apl_scalar.specs.Functions.{dyadic_of};
@@ -75,7 +75,7 @@ fn kept_at<F: Scalar, K: Kept<F>>(index: usize, kept: K) -> K
     if index == 0 { K::none() } else { kept }
 }
 
-/// Writes the fronts of a row of numbers, which all have the same index along the axis, each from what is kept of those before it there,
+/// Writes the prefixes of a row of numbers, which all have the same index along the axis, each from what is kept of those before it there,
 /// while they are told, and answers how many.
 fn tell_row<F: Scalar, K: Kept<F>>(
     numbers: &[i64],
@@ -178,7 +178,7 @@ fn front<F: Scalar>(numbers: &[i64], axis: Axis, at: usize) -> Result<i64, Fault
     fold_strided::<F>(numbers, &axis, at - index * axis.up, index + 1)
 }
 
-/// Folds each front behind so many anew, up to the first fault.
+/// Folds each prefix behind so many anew, up to the first fault.
 fn fold_rest<F: Scalar>(
     numbers: &[i64],
     axis: Axis,
@@ -241,7 +241,7 @@ impl<'a> ByFunction for Scan<'a> {
 }
 
 /// The scan along an axis of numbers in row-major order, or the first fault. It takes time in proportion to the numbers, but for functions of
-/// which a front is neither told from what is kept nor a fault: each such front is folded anew.
+/// which a prefix is neither told from what is kept nor a fault: each such prefix is folded anew.
 pub(crate) fn fronts(
     alloc: Global,
     function: Dyadic,

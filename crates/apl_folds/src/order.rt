@@ -52,7 +52,7 @@ fn shows_all(strided: &Strided<'_>) -> bool
     strided.offset == 0 && are_whole(strided.axes, strided.items.len())
 }
 
-/// The elements of a view in row-major order, which take memory only where the view shows others than a whole array or another order.
+/// The elements of a view in row-major order: borrowed where the view is seen to show a whole array in its own order, else copied.
 pub fn in_order<'a>(alloc: Global, view: &'a View<'_>) -> Result<Ordered<'a>, AllocError>
     ensures { IfOk result (λ elements. items_ordered elements ≡ view.now.items) }
 {

@@ -12,7 +12,7 @@ use apl_scalar::Product;
 const MOST: u64 = 0x8000_0000_0000_0000;
 
 /// The product of some numbers, and the greatest magnitudes of a negative number and of another that may come next: with any other a product on
-/// the way leaves 64 bits, and the fold is a limit fault.
+/// the way overflows 64 bits, and the fold is a limit fault.
 #[derive(Clone, Copy)]
 pub(crate) struct Scale {
     product: i64,

@@ -9,7 +9,7 @@ use crate::kept::Kept;
 use apl_scalar::{Difference, Sum};
 
 /// The fold of some numbers, whether the next one is taken off it, and the least and the greatest that may come next: with any other a sum on
-/// the way leaves 64 bits, and the fold is a limit fault.
+/// the way overflows 64 bits, and the fold is a limit fault.
 #[derive(Clone, Copy)]
 pub(crate) struct Swing {
     fold: i64,

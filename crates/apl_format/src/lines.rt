@@ -104,7 +104,7 @@ fn matrix_lines(
 /// A scalar or a vector is one line, numbers with one blank between, characters without. At two and more
 /// axes each row is a line: a column of numbers is right-aligned to its widest item over the whole array,
 /// and one empty line stands between any two planes. Where there are no rows there are no lines.
-/// It fails only where memory is short.
+/// It fails only out of memory.
 pub fn display(alloc: Global, array: &Array) -> Result<Vec<Text>, AllocError>
     ensures { IfOk result (λ lines. lines.items ≡ display array.now) }
 {

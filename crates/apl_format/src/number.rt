@@ -16,7 +16,7 @@ pub(crate) fn number_width(number: i64) -> usize
     digits.format(number).len()
 }
 
-/// Adds a number at the end. After an error a front of it may have been added.
+/// Adds a number at the end. After an error a prefix of it may have been added.
 #[tactic(auto, unfolding(crate::specs::Display::number_text))]
 pub(crate) fn push_number(line: &mut Vec<Ch>, number: i64) -> Result<(), AllocError>
     ensures { OnOk result (line.new.items ≡ line.old.items ++ number_text number) }

@@ -1,4 +1,4 @@
--- How a kept session begins, and which bytes are typed to it.
+-- How a held session begins, and which bytes are typed to it.
 use Rattle.std.specs.Prelude.{◌≡◌, ℕ, ◌≤◌, ◌==◌, Bool, List, [], ◌∷◌, length, IsFalse}
 use Rattle.std.specs.List.{list_any}
 use Rattle.apl_machine_state.specs.State.{State, clear}

@@ -1,4 +1,4 @@
--- The numbers of what a kept session refuses.
+-- The numbers of what a held session refuses.
 use Rattle.std.specs.Prelude.{ℕ}
 use Rattle.apl_kept.specs.declared.error.KeptError.{KeptError}
 use Rattle.apl_kept.specs.declared.error.KeptError.TheVariants.{Running, LineTooLong, LineFeed, Memory}

@@ -1,4 +1,4 @@
-//! Why a kept session doesn't do something.
+//! Why a held session doesn't do something.
 ghost use Rattle.std.specs.Prelude.{◌≡◌};
 ghost use Rattle.apl_kept.specs.Numbers.{kept_number};
 

@@ -1,4 +1,4 @@
-// Laws of kept sessions.
+// Laws of held sessions.
 ghost use Rattle.apl_kept.specs.Promises.{OutputMayBeTaken, SlicedLinesAreOne, SlicesAreOne};
 
 /// The law that steps in two slices are all of them at once.

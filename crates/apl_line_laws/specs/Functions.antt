@@ -29,7 +29,7 @@ no_left_argument =
     ∷ shows "+/[1]-5" [] ("0 MON - #1 @6" ∷ "1 BOX #0 @3" ∷ "2 RED + / K S @1" ∷ "3 END SHOW S @0" ∷ [])
     ∷ []
 
--- It has one, or what is none stands in its place, behind every other item.
+-- It has one, or what is none stands instead, behind every other item.
 abbrev pub left_argument : List Worked
 left_argument =
     shows "3-5" [] ("0 DYA - #0 #1 @2" ∷ "1 END SHOW S @0" ∷ [])

@@ -101,8 +101,8 @@ pub(crate) fn read_classes(
     }
 }
 
-/// The code of the line of these tokens, a text's, whose names have these classes: kept in the cache,
-/// or made now and kept there.
+/// The code of the line of these tokens, a text's, whose names have these classes: found in the cache,
+/// or made now and cached.
 pub(crate) fn code_of(
     alloc: Global,
     tokens: &[Token],

@@ -29,7 +29,7 @@ pub(crate) fn origin_for(scene: Scene<'_>, locals: &[Name]) -> Origin
     Origin::One
 }
 
-/// What a local stands for as a call begins: nothing yet, but `⎕IO` has the caller's value.
+/// What a local stands for as a call begins: it is unset, but `⎕IO` has the caller's value.
 fn local_of(origin: Origin, name: &Name) -> Binding
     ensures { (name.now, result) ≡ local_of (alone (origin_number origin)) name.now }
 {
@@ -40,7 +40,7 @@ fn local_of(origin: Origin, name: &Name) -> Binding
     }
 }
 
-/// Makes a name, where there is one, stand in the newest scope for a copy of this value, or for nothing yet.
+/// Makes a name, where there is one, stand in the newest scope for a copy of this value, or unset.
 #[inline(always)]
 fn bind_named(
     names: &mut Names,
@@ -59,7 +59,7 @@ fn bind_named(
     }
 }
 
-/// Makes a name stand in the newest scope for nothing yet.
+/// Makes a name unset in the newest scope.
 #[inline(always)]
 fn bind_unset(names: &mut Names, name: &Name) -> Result<(), AllocError>
     ensures ok { OnOk result (names.new ≡ with_local name.now Unset names.old) }

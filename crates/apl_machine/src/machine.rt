@@ -199,7 +199,7 @@ impl Machine {
         }
     }
 
-    /// At most `count` steps, until the machine is idle, and where it stands after them. Want of memory gives the number of those that are
+    /// At most `count` steps, until the machine is idle, and where it stands after them. Out of memory it gives the number of those that are
     /// done; the machine stands after these.
     pub fn advance(&mut self, count: u64) -> Result<Progress, u64>
         ensures ok { OnOk result (self.new ≡ steps count self.old) }
@@ -303,7 +303,7 @@ impl Machine {
         is_variable(self.workspace.names.global(name))
     }
 
-    /// Defines a function, in the place of what its name stood for globally, with empty stop and trace
+    /// Defines a function, instead of what its name stood for globally, with empty stop and trace
     /// vectors. The machine is idle, and the name is not that of a global variable, by the caller's
     /// care. Calls that stand go on with their own definitions. After an error the machine is as
     /// before.

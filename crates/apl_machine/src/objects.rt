@@ -14,7 +14,7 @@ use apl_names::{Binding, DefinedFunction};
 use apl_symbols::Name;
 use std::alloc::AllocError;
 
-/// Functions go, and so does what is kept of them: lines, and calls that are over. What stands goes on.
+/// Functions go, and so does what is cached of them: lines, and calls that are over. What stands goes on.
 fn forget(workspace: &mut Workspace)
     ensures { workspace.new ≡ workspace.old }
 {
@@ -22,7 +22,7 @@ fn forget(workspace: &mut Workspace)
     workspace.contexts.trim();
 }
 
-/// Defines a function, in the place of what its name stood for globally, with empty stop and trace
+/// Defines a function, instead of what its name stood for globally, with empty stop and trace
 /// vectors. After an error nothing has changed.
 pub(crate) fn define(workspace: &mut Workspace, definition: Definition) -> Result<(), AllocError>
     requires sound { IsSound workspace.old }

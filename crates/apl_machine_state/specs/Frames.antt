@@ -1,4 +1,4 @@
--- What a frame lends of a line that is being done.
+-- What is borrowed of a frame's line that is being done.
 use Rattle.std.specs.Prelude.{◌≡◌, ℕ, false, List}
 use Rattle.apl_code.specs.declared.instr.Instr.{Instr}
 use Rattle.apl_translate.specs.Translation.{Translates}

@@ -24,7 +24,7 @@ Text = List ℕ
 abbrev pub Map : Type 0
 Map = List (Text × Binding)
 
--- the order of names: by code points from the first on, a front before the whole
+-- the order of names: by code points from the first on, a prefix before the whole
 abbrev pub name_cmp : Text → Text → Ordering
 name_cmp = slice_cmp nat_cmp
 
@@ -117,7 +117,7 @@ abbrev pub with_value : Arr → Option Binding → Option Binding
 with_value a (Some (Value array)) = Some (Value a)
 with_value a binding = binding
 
--- what a name stands for can become another value in its place: a value, or nothing yet
+-- what a name stands for can become another value in place: a value, or unset
 abbrev pub takes_value : Option Binding → Bool
 takes_value (Some Unset) = true
 takes_value (Some (Value array)) = true

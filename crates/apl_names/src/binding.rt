@@ -85,7 +85,7 @@ impl Binding {
         }
     }
 
-    /// Writes a number in the place of its value, or of none yet, and says whether it did: a label or a function takes none.
+    /// Writes a number in place over its value, or where it is unset, and says whether it did: a label or a function takes none.
     pub(crate) fn put_number(&mut self, number: i64) -> bool
         ensures told { result ≡ takes_value (Some self.old) }
         ensures put { Some self.new ≡ set_value (single (Num number)) (Some self.old) }

@@ -1,4 +1,4 @@
-// Scalar functions whose values are sought first in a way that costs little.
+// Scalar functions whose values are sought first on a fast path.
 ghost use Rattle.std.specs.Prelude.{◌≡◌, ◌↔◌, ◌≤ℤ◌, ℤ, Result, pos, Ok, IsOk};
 ghost use Rattle.apl_faults.specs.declared.fault.Fault.{Fault};
 

@@ -69,7 +69,7 @@ pub record IsOpened (workspace : List ℕ) (outcome : Result State LoadError) : 
   pub refused : IfErr outcome (λ e. IsUnloaded workspace e)
   pub complete : (s : State) → BeginsWith workspace s → MatchResult outcome (λ t. t ≡ s) (λ e. e ≡ load.Memory)
 
--- a session begins in the place of what stood there, or that stays
+-- a session begins instead of what stood there, or that stays
 abbrev pub Stands : Result State LoadError → ℕ → Option Keeping → Option Keeping → Type 0
 Stands (Ok s) number old new = (number ≡ 0) × (new ≡ Some (begun s))
 Stands (Err e) number old new = (number ≡ load_number e) × (new ≡ old)

@@ -25,7 +25,7 @@ use std::alloc::Global;
 /// The number of a call where no session stands.
 const NO_SESSION: u32 = 17;
 
-/// A session on a workspace's file, or on a clear one where no bytes are given, in the place of the one that stands there. With another
+/// A session on a workspace's file, or on a clear one where no bytes are given, instead of the one that stands there. With another
 /// number than 0 the place is as before.
 #[inline(never)]
 pub fn page_open(alloc: Global, workspace: &[u8], place: &mut Option<Page>) -> u32

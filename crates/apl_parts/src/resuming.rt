@@ -110,7 +110,7 @@ fn call_of(
     Ok(Call::new(function, at, line))
 }
 
-/// What a name of a call stands for: its value, if it has one, else nothing yet.
+/// What a name of a call stands for: its value, if it has one, else it is unset.
 fn bound_to(alloc: Global, value: Option<Array>) -> Result<Binding, AllocError>
     ensures { IfOk result (λ binding. binding ≡ bound_to value) }
 {
@@ -144,7 +144,7 @@ pub fn bind_labels(names: &mut Names, labels: &[(Name, usize)]) -> Result<(), Al
     Ok(())
 }
 
-/// Makes names of the newest scope's stand for their values, or for none yet. Of two of one name, the first stands.
+/// Makes names of the newest scope's stand for their values, or unset. Of two of one name, the first stands.
 fn bind_values(
     alloc: Global,
     names: &mut Names,

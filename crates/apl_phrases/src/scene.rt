@@ -12,7 +12,7 @@ use apl_symbols::Name;
 /// The most calls and executes that stand at once.
 pub(crate) const MAX_CALLS: usize = 256;
 
-/// What phrases see beside their operands. The line numbers of the standing calls are not lent.
+/// What phrases see beside their operands. The line numbers of the standing calls are not borrowed.
 #[derive(Clone, Copy)]
 pub struct Scene<'a> {
     /// The names in force.

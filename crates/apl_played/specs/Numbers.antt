@@ -4,7 +4,7 @@ use Rattle.apl_workspace.specs.Numbers.{load_number}
 use Rattle.apl_played.specs.declared.error.PlayError.{PlayError}
 use Rattle.apl_played.specs.declared.error.PlayError.TheVariants.{Workspace, LineTooLong, TooManyLines, Memory}
 
--- a workspace's own number; want of memory has the same one wherever it comes
+-- a workspace's own number; out of memory has the same one wherever that happens
 abbrev pub play_number : PlayError → ℕ
 play_number (Workspace e) = load_number e
 play_number Memory = 8

@@ -9,7 +9,7 @@ use thiserror::Error;
 /// Why lines aren't played on a workspace. The file that was given is still that of the workspace.
 #[derive(Drop, Debug, Error)]
 pub enum PlayError {
-    /// The bytes are no workspace's, for this reason, which isn't want of memory.
+    /// The bytes are no workspace's, for this reason, which isn't that memory ran out.
     #[error("the workspace is refused: {0}")]
     Workspace(LoadError),
     /// A line has over 2,000 bytes before its line feed. The transcript of the complete lines before it.
@@ -23,7 +23,7 @@ pub enum PlayError {
 }
 
 impl PlayError {
-    /// Its number: that of the refusal of a workspace, from 1 to 7; 8 for want of memory; 14 and 15 for lines that are refused, 10
+    /// Its number: that of the refusal of a workspace, from 1 to 7; 8 out of memory; 14 and 15 for lines that are refused, 10
     /// more than the number of the run's error.
     pub fn number(&self) -> u8
         ensures { result ≡ play_number self.now }

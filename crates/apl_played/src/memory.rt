@@ -38,7 +38,7 @@ impl<'a> Source for Input<'a> {
     }
 }
 
-/// Bytes as they are written. They fail for want of memory alone.
+/// Bytes as they are written. They fail only out of memory.
 #[derive(Drop)]
 pub struct Output {
     bytes: Vec<u8>,

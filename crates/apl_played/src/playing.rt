@@ -56,7 +56,7 @@ fn run_lines(
         Ok(after) => Ok((after, output.into_bytes())),
         Err(RunError::LineTooLong) => Err(PlayError::LineTooLong(output.into_bytes())),
         Err(RunError::TooManyLines) => Err(PlayError::TooManyLines(output.into_bytes())),
-        // The output fails for want of memory alone, and the input never.
+        // The output fails only out of memory, and the input never.
         Err(RunError::Write | RunError::Memory | RunError::Read) => Err(PlayError::Memory),
     }
 }

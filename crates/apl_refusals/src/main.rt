@@ -1,4 +1,4 @@
-//! Plays a session, as want of memory is tried in it. It reads the session from standard input, lines as they are typed to
+//! Plays a session in which memory runs out. It reads the session from standard input, lines as they are typed to
 //! the interpreter, and writes what the interpreter writes that gives a line 1,000 steps. Where a call of the session is
 //! refused its memory, the session must stand as before that call, and the call that is made again goes on. The lines `)SAVE`
 //! and `)LOAD` save the workspace and load it again, in memory: calls like the others. The program takes no memory of its
@@ -27,7 +27,7 @@ use std::process::ExitCode;
 enum Wrong {
     /// It is refused for something else.
     Answered,
-    /// Memory is wanting again, to make the call again or to compare.
+    /// Memory runs out again, as the call is made again or compared.
     Refused,
     /// The session isn't as before the call.
     Changed(Difference),

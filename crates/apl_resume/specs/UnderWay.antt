@@ -1,4 +1,4 @@
--- Where a cut run stands that want of memory left.
+-- Where a cut run stands in which memory ran out.
 use Rattle.std.specs.Prelude.{◌≡◌, ℕ, ◌<◌, ◌⊎◌, List, true}
 use Rattle.apl_machine_state.specs.State.{State, turn, step}
 use Rattle.apl_session.specs.Events.{typed}

@@ -72,8 +72,8 @@ fn steps_on(session: &mut Session, count: u64) -> Result<u64, AllocError>
 
 /// Types a line and gives it `count` steps and two more for each stop, answers each stop by the line
 /// `→⎕LC`, interrupts what still runs then, and tells how many stops there were. It is the run in
-/// single steps, whatever the session's state (clause `single_steps`). Busy exactly where
-/// the session runs; it is as before then. After want of memory it stands after the steps that are
+/// single steps (clause `single_steps`). Busy exactly where
+/// the session runs; it is as before then. Out of memory it stands after the steps that are
 /// done.
 pub fn resume_all(session: &mut Session, line: &[u8], count: u64) -> Result<u64, FeedError>
     ensures busy { IsErrOf result FeedError.Busy ↔ IsFalse (is_idle session.old) }

@@ -2,7 +2,7 @@
 //!
 //! | Line | What is done |
 //! |---|---|
-//! | `names ACT◊..` | `assign NAME N`; `number NAME N`, in the place of what it stands for; `enter LOCAL..`, each a name, `NAME:N` for a label or `NAME:∇` for a function; `bind LOCAL`; `leave`; `leave_with NAME`; `function NAME HEADER`; `erase NAME`; `clear`; and looks: `look NAME`, `global NAME`, `local NAME`, `scope K NAME`, `globals`, `depth` |
+//! | `names ACT◊..` | `assign NAME N`; `number NAME N`, over what it stands for; `enter LOCAL..`, each a name, `NAME:N` for a label or `NAME:∇` for a function; `bind LOCAL`; `leave`; `leave_with NAME`; `function NAME HEADER`; `erase NAME`; `clear`; and looks: `look NAME`, `global NAME`, `local NAME`, `scope K NAME`, `globals`, `depth` |
 
 use crate::functions::definition_of;
 use crate::page::Page;
@@ -99,7 +99,7 @@ fn enter(page: &mut Page, names: &mut Names, text: &str) {
     }
 }
 
-/// Gives a name a number in the place of what it stands for, and writes whether it took one.
+/// Gives a name a number over what it stands for, and writes whether it took one.
 fn put_number(page: &mut Page, names: &mut Names, name: &Name, text: &str) {
     if names.put_number(name, element(text)) {
         page.line("put");

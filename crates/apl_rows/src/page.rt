@@ -4,7 +4,7 @@ use apl_charset::{Ch, Text};
 use std::alloc::{AllocError, Global};
 use std::fmt::Display;
 
-/// What is written of a row. Where memory is wanting something is left out, and the page tells so.
+/// What is written of a row. Where memory runs out something is left out, and the page tells so.
 #[derive(Drop)]
 pub struct Page {
     pub alloc: Global,
@@ -32,12 +32,12 @@ impl Page {
         self.text.clear();
     }
 
-    /// Whether memory was wanting, so that something was left out.
+    /// Whether memory ran out, so that something was left out.
     pub fn is_short(&self) -> bool {
         self.is_short
     }
 
-    /// Notes whether memory was wanting.
+    /// Notes whether memory ran out.
     pub fn note(&mut self, written: Result<(), AllocError>) {
         if written.is_err() {
             self.is_short = true;
@@ -168,7 +168,7 @@ impl Page {
         }
     }
 
-    /// A list, an empty one where memory is wanting.
+    /// A list, an empty one out of memory.
     pub fn list<T: Drop>(&mut self, list: Result<Vec<T>, AllocError>) -> Vec<T> {
         match list {
             Ok(list) => list,

@@ -56,7 +56,7 @@ pub fn write_value(page: &mut Page, value: Option<&Array>) {
     write_lent(page, value.map(|array| array.lend()));
 }
 
-/// Writes an array that is lent, if there is one, as a line.
+/// Writes an array that is borrowed, if there is one, as a line.
 pub fn write_lent(page: &mut Page, value: Option<Lent<'_>>) {
     match value {
         Some(array) => write_array(page, &array),

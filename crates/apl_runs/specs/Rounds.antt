@@ -19,7 +19,7 @@ board sessions = record { sessions = sessions; unwritten = [] }
 abbrev pub label : ℕ → List ℕ
 label k = decimal k ++ 32 ∷ []
 
--- what follows a front of a line, if the line begins with that
+-- what follows a prefix of a line, if the line begins with that
 abbrev pub behind : List ℕ → List ℕ → Option (List ℕ)
 behind [] line = Some line
 behind (c ∷ front) [] = None

@@ -43,7 +43,7 @@ abbrev pub text_taken : {S : Type 0} → Way S → S → List ℕ → List ℕ �
 text_taken way s taken [] = transcript way s taken
 text_taken way s taken (b ∷ after) = transcript_of way s (complete_lines taken)
 
--- What is written by then: all that the complete lines write, or, where writing failed or memory was refused, a front of what the input taken may write.
+-- What is written by then: all that the complete lines write, or, where writing failed or memory ran out, a prefix of what the input taken may write.
 abbrev pub IsWritten : {S : Type 0} → RunError → Way S → S → List ℕ → List ℕ → List ℕ → List ℕ → Type 0
 IsWritten Write way s taken after old new = Extends old new (text_taken way s taken after)
 IsWritten Memory way s taken after old new = Extends old new (text_taken way s taken after)
@@ -84,7 +84,7 @@ StopsWriting Read = ⊥
 StopsWriting LineTooLong = ⊥
 StopsWriting TooManyLines = ⊥
 
--- what writing a text does: it is written, or a front of it after an error
+-- what writing a text does: it is written, or a prefix of it after an error
 abbrev pub Writes : {A : Type 0} → Result A RunError → List ℕ → Bool → List ℕ → List ℕ → Type 0
 Writes (Ok x) text tells old new = IsTrue tells → new ≡ old ++ text
 Writes (Err e) text tells old new = StopsWriting e × (IsTrue tells → Extends old new text)

@@ -21,7 +21,7 @@ use std::alloc::Global;
 /// desk is dropped after an error:
 ///
 /// - Read where the reader failed. All that the complete lines write is written.
-/// - Write where the writer failed or took no byte, Memory where a growth was refused. A front of what
+/// - Write where the writer failed or took no byte, Memory where an allocation failed. A prefix of what
 ///   the lines read write is written. What follows the last line feed is one of them, and the end
 ///   writes, only where the input is at its end.
 /// - LineTooLong at the 2,001st byte of a line, TooManyLines at the first byte behind 1,000,000 lines.

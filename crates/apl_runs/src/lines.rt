@@ -66,7 +66,7 @@ pub fn read_end<R: Source>(reader: &mut R) -> Result<(), RunError>
     }
 }
 
-/// Writes a text. After an error a front of it is written.
+/// Writes a text. After an error a prefix of it is written.
 pub fn write_text<W: Sink>(writer: &mut W, text: &[u8]) -> Result<(), RunError>
     ensures wrote { Writes result text.now W.tells (W.written writer.old) (W.written writer.new) }
     ensures writer { W.failed writer.new ≡ writer_failed result (W.failed writer.old) }
@@ -98,7 +98,7 @@ fn encode_line(alloc: Global, line: &OutLine) -> Result<Vec<u8>, AllocError>
     Ok(text)
 }
 
-/// Writes a line behind a label. After an error a front of it is written.
+/// Writes a line behind a label. After an error a prefix of it is written.
 #[tactic(auto, using(crate::proofs::Writing::writing))]
 fn write_line<W: Sink>(
     alloc: Global,
@@ -113,7 +113,7 @@ fn write_line<W: Sink>(
     write_text(writer, &text)
 }
 
-/// Writes the lines one by one, each behind the label. After an error a front of what they spell is written.
+/// Writes the lines one by one, each behind the label. After an error a prefix of what they spell is written.
 #[tactic(auto, using(crate::proofs::Writing::writing))]
 fn write_each<W: Sink>(
     alloc: Global,
@@ -142,7 +142,7 @@ fn spelled(alloc: Global, label: &[u8], lines: &[OutLine]) -> Result<Vec<u8>, Al
     Ok(text)
 }
 
-/// Writes the lines, each behind the label, at once, or one by one where there is one alone or no memory for all. After an error a front of
+/// Writes the lines, each behind the label, at once, or one by one where there is one alone or no memory for all. After an error a prefix of
 /// what they spell is written.
 fn write_together<W: Sink>(
     alloc: Global,
@@ -162,7 +162,7 @@ fn write_together<W: Sink>(
     }
 }
 
-/// Writes the lines, each behind the label. After an error a front of what they spell is written.
+/// Writes the lines, each behind the label. After an error a prefix of what they spell is written.
 #[tactic(auto, using(crate::proofs::Writing::writing))]
 pub fn write_lines<W: Sink>(
     alloc: Global,

@@ -19,7 +19,7 @@ pub trait Listener {
     /// How that stands between two lines.
     ghost IsBetweenLines: { Self.On → Type 0 };
 
-    /// Does a line, and writes what stands to be written then. After an error a front of that is
+    /// Does a line, and writes what stands to be written then. After an error a prefix of that is
     /// written.
     fn hear<W: Sink>(
         &self,
@@ -36,7 +36,7 @@ pub trait Listener {
         ensures writer { W.failed writer.new ≡ writer_failed result (W.failed writer.old) };
 
     /// Does what the end of the input asks for, and writes what stands to be written then. After an
-    /// error a front of that is written.
+    /// error a prefix of that is written.
     fn end<W: Sink>(&self, alloc: Global, on: &mut Self::On, writer: &mut W) -> Result<(), RunError>
         requires { IsBetweenLines on.old }
         ensures state { OnOk result (on.new ≡ (way self.now).quiet ((way self.now).at_end on.old)) }

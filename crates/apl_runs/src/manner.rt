@@ -56,7 +56,7 @@ fn do_line(session: &mut Session, line: &[u8], manner: Manner) -> Result<(), All
     }
 }
 
-/// Writes the output of a session. After an error a front of it is written.
+/// Writes the output of a session. After an error a prefix of it is written.
 #[tactic(auto, using(crate::proofs::Writing::unlabelled))]
 fn write_output<W: Sink>(
     alloc: Global,

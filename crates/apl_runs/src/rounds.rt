@@ -33,7 +33,7 @@ impl Model for Board {
     ghost invariant = { λ b. length b.sessions.items ≤ 64 };
 }
 
-/// What follows a front of a line, if the line begins with that.
+/// What follows a prefix of a line, if the line begins with that.
 #[tactic(auto, using(crate::proofs::Spoken::stripping))]
 fn behind<'a>(line: &'a [u8], front: &[u8]) -> Option<&'a [u8]>
     ensures { MatchOption result (model.behind front.now line.now ≡ None) (λ rest. model.behind front.now line.now ≡ Some rest.now) }
@@ -107,7 +107,7 @@ fn take_line<W: Sink>(
     }
 }
 
-/// Gives a session an event, and writes what it has to say under its number. After an error a front
+/// Gives a session an event, and writes what it has to say under its number. After an error a prefix
 /// of that is written.
 fn serve<W: Sink>(
     alloc: Global,
@@ -132,7 +132,7 @@ fn serve<W: Sink>(
 }
 
 /// Gives each session an event, by ascending number, and writes what it has to say. After an error
-/// a front of that is written.
+/// a prefix of that is written.
 #[tactic(auto, using(crate::proofs::Served::serving))]
 fn serve_all<W: Sink>(
     alloc: Global,
@@ -152,7 +152,7 @@ fn serve_all<W: Sink>(
 }
 
 /// A round: a line is taken, and then each session makes at most so many steps. After an error a
-/// front of what is to be written is written.
+/// prefix of what is to be written is written.
 fn round<W: Sink>(
     alloc: Global,
     sessions: &mut [Session],
@@ -169,7 +169,7 @@ fn round<W: Sink>(
     serve_all(alloc, sessions, &Event::Steps(steps), writer)
 }
 
-/// The end of the input: each session that runs is interrupted. After an error a front of what is to
+/// The end of the input: each session that runs is interrupted. After an error a prefix of what is to
 /// be written is written.
 fn last_round<W: Sink>(
     alloc: Global,

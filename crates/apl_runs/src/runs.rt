@@ -23,10 +23,10 @@ pub enum RunError {
     /// The reader failed. All that the complete lines before write is written.
     #[error("the reader failed")]
     Read = 1,
-    /// The writer failed, or took no byte of some. A front of what the lines read write is written.
+    /// The writer failed, or took no byte of some. A prefix of what the lines read write is written.
     #[error("the writer failed, or took no byte")]
     Write,
-    /// A growth was refused, in reading a line, in running it or in writing its output. A front of
+    /// An allocation failed, in reading a line, in running it or in writing its output. A prefix of
     /// what the lines read write is written.
     #[error("out of memory")]
     Memory,
@@ -105,7 +105,7 @@ fn run_in<R: Source, W: Sink>(
 /// by the caller's care, and idle when it is given back. It is dropped after an error:
 ///
 /// - Read where the reader failed. All that the complete lines write is written.
-/// - Write where the writer failed or took no byte, Memory where a growth was refused. A front of what
+/// - Write where the writer failed or took no byte, Memory where an allocation failed. A prefix of what
 ///   the lines read write is written. What follows the last line feed is one of them only where the
 ///   input is at its end.
 /// - LineTooLong at the 2,001st byte of a line, TooManyLines at the first byte behind 1,000,000 lines.
@@ -136,11 +136,11 @@ pub fn run<R: Source, W: Sink>(
 
 /// Types each line of the input, gives it at most `steps` steps and two more for each stop, answers
 /// each stop by the line `→⎕LC`, interrupts what still runs, and writes the output, with the reports
-/// of the stops. Where nothing stops, this is what [`run`] does. The lines, what the caller owes and
-/// what is left are as there. The machine is dropped after an error:
+/// of the stops. The lines, what the caller owes and what is left are as of [`run`]. The machine is
+/// dropped after an error:
 ///
 /// - Read where the reader failed. All that the complete lines write is written.
-/// - Write where the writer failed or took no byte, Memory where a growth was refused. A front of what
+/// - Write where the writer failed or took no byte, Memory where an allocation failed. A prefix of what
 ///   the lines read write is written. What follows the last line feed is one of them only where the
 ///   input is at its end.
 /// - LineTooLong at the 2,001st byte of a line, TooManyLines at the first byte behind 1,000,000 lines.

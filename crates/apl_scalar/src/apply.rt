@@ -224,8 +224,8 @@ fn monadic_array(alloc: Global, function: Monadic, b: &Array) -> Result<Array, S
 
 /// A scalar function of one array.
 ///
-/// Each value is a number, in the shape of the array. A character is a domain fault, and so is a number that has no value. A value that leaves
-/// 64 bits is a limit fault. The first fault in ravel order decides. For a number no memory is asked for.
+/// Each value is a number, in the shape of the array. A character is a domain fault, and so is a number that has no value. A value that
+/// overflows 64 bits is a limit fault. The first fault in ravel order decides. For a number no memory is asked for.
 pub fn monadic(alloc: Global, function: Monadic, b: &Array) -> Result<Array, Stop>
     ensures value { Answers (λ r. r) (monadic function b.now) result }
     ensures number { IsSome (number_of_scalar b.now) → HadMemory result }
@@ -255,7 +255,7 @@ fn dyadic_arrays(alloc: Global, function: Dyadic, a: &Array, b: &Array) -> Resul
 ///
 /// An operand of one element extends over the other. Else unequal ranks are a rank fault, then unequal shapes a length fault, both before
 /// memory is asked for. Then the first fault in ravel order decides: a character is a domain fault but for [`Dyadic::Equal`] and
-/// [`Dyadic::NotEqual`], and so are numbers that have no value. A value that leaves 64 bits is a limit fault. Where both have one element,
+/// [`Dyadic::NotEqual`], and so are numbers that have no value. A value that overflows 64 bits is a limit fault. Where both have one element,
 /// the result has the shape of the greater rank. An empty result has no fault. For two numbers no memory is asked for.
 pub fn dyadic(alloc: Global, function: Dyadic, a: &Array, b: &Array) -> Result<Array, Stop>
     ensures value { Answers (λ r. r) (dyadic function a.now b.now) result }

@@ -110,7 +110,7 @@ pub trait Scalar {
         0 <= flags
     }
 
-    /// The same, first in a quicker way that numbers often allow, where there is one.
+    /// The same, first on a fast path that numbers often allow, where there is one.
     #[inline(always)]
     fn fill(a: &[i64], b: &[i64], out: &mut [i64]) -> bool
         requires a { length a.now ≡ length out.old }

@@ -1,11 +1,11 @@
-// Arithmetic that tells where a value leaves 64 bits.
+// Arithmetic that tells where a value overflows 64 bits.
 ghost use Rattle.std.specs.Prelude.{◌≡◌, ◌⊎◌, ◌<◌, ◌≤◌, ◌+ℤ◌, ◌-ℤ◌, ◌*ℤ◌, ℕ, pos, ◌≤ℤ◌, ◌<ℤ◌, bit_or, length, slice_index_or, unsigned_abs};
 ghost use Rattle.std.specs.List.{fold};
 ghost use Rattle.std.specs.Int.{w64, int_bit_or};
 ghost use Rattle.apl_faults.specs.declared.fault.Fault.TheVariants.{Limit};
 ghost use Rattle.apl_scalar.specs.Functions.{in_range};
 
-/// The sum that wraps, and a flag that is negative exactly where the sum leaves 64 bits: where its sign is neither operand's.
+/// The sum that wraps, and a flag that is negative exactly where the sum overflows 64 bits: where its sign is neither operand's.
 #[inline(always)]
 pub(crate) fn flagged_sum(x: i64, y: i64) -> (i64, i64)
     ensures fits { pos 0 ≤ℤ result.1 → in_range (x +ℤ y) ≡ Ok result.0 }
@@ -15,7 +15,7 @@ pub(crate) fn flagged_sum(x: i64, y: i64) -> (i64, i64)
     (sum, (x ^ sum) & (y ^ sum))
 }
 
-/// The difference that wraps, and a flag that is negative exactly where the difference leaves 64 bits: where the operands' signs differ and
+/// The difference that wraps, and a flag that is negative exactly where the difference overflows 64 bits: where the operands' signs differ and
 /// its sign is not the first one's.
 #[inline(always)]
 pub(crate) fn flagged_difference(x: i64, y: i64) -> (i64, i64)
@@ -26,7 +26,7 @@ pub(crate) fn flagged_difference(x: i64, y: i64) -> (i64, i64)
     (difference, (x ^ y) & (x ^ difference))
 }
 
-/// The product that wraps, and a flag that is negative exactly where the product leaves 64 bits.
+/// The product that wraps, and a flag that is negative exactly where the product overflows 64 bits.
 #[inline(always)]
 pub(crate) fn flagged_product(x: i64, y: i64) -> (i64, i64)
     ensures fits { pos 0 ≤ℤ result.1 → in_range (x *ℤ y) ≡ Ok result.0 }

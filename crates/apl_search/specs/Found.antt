@@ -1,4 +1,4 @@
--- Items looked for among others.
+-- Items looked up among others.
 use Rattle.std.specs.Prelude.{ℕ, ℤ, pos, ◌+◌, ◌==◌, nat_eq, Bool, false, List, length, map, Result}
 use Rattle.std.specs.Ordering.{int_eq}
 use Rattle.std.specs.List.{position_or_len, list_any}

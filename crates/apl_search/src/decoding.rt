@@ -160,7 +160,7 @@ fn operands<'a>(a: &'a Array, b: &'a Array) -> Result<(&'a [i64], &'a [i64], usi
 /// for all bases; a scalar `b` is one. The result has the shape of `b` without its first axis.
 ///
 /// More than one axis of `a` is a rank fault, then other counts a length fault, then characters a domain fault: all these before memory is
-/// asked for. Then a value that leaves 64 bits is a limit fault.
+/// asked for. Then a value that overflows 64 bits is a limit fault.
 pub fn decode(alloc: Global, a: &Array, b: &Array) -> Result<Array, Stop>
     ensures value { Answers (λ r. r) (decode a.now b.now) result }
     ensures at_once { FaultsFirst (bases_and_digits a.now b.now) result }

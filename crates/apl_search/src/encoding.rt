@@ -35,7 +35,7 @@ fn widened_back(alloc: Global, numbers: &[i64]) -> Result<Vec<i128>, AllocError>
     Ok(wide)
 }
 
-/// Appends the digits of these numbers by a base, and leaves in their places what the base leaves of them.
+/// Appends the digits of these numbers by a base, and writes over them what the base leaves of them.
 fn push_digits(digits: &mut Vec<i128>, base: i128, numbers: &mut [i128]) -> Result<(), AllocError>
     requires base { IsNear base }
     requires numbers { All IsNear numbers.old }
@@ -88,7 +88,7 @@ fn narrowed_back(alloc: Global, numbers: &[i128]) -> Result<Vec<i64>, Stop>
     Ok(out)
 }
 
-/// The digits of these numbers by all bases, or a limit fault where one leaves 64 bits.
+/// The digits of these numbers by all bases, or a limit fault where one overflows 64 bits.
 fn digits_of(alloc: Global, bases: &[i64], numbers: &[i64]) -> Result<Vec<i64>, Stop>
     requires { length bases.now * length numbers.now < 2 ^ 63 }
     ensures { Answers (λ v. v.items) (all_ok in_range (digits_by bases.now numbers.now)) result }
@@ -116,7 +116,7 @@ fn operands<'a>(a: &'a Array, b: &'a Array) -> Result<(&'a [i64], &'a [i64]), Fa
 /// down. The base 0 takes all that is left as its digit.
 ///
 /// More than one axis of `a` is a rank fault, then characters a domain fault, then a shape over the limits a limit fault: all these before
-/// memory is asked for. Then a digit that leaves 64 bits is a limit fault too.
+/// memory is asked for. Then a digit that overflows 64 bits is a limit fault too.
 pub fn encode(alloc: Global, a: &Array, b: &Array) -> Result<Array, Stop>
     ensures value { Answers (λ r. r) (encode a.now b.now) result }
     ensures at_once { FaultsFirst (and_then (bases_and_numbers a.now b.now) (λ p. encoded_shape a.now b.now)) result }

@@ -50,7 +50,7 @@ fn element_picked(b: &Array, slots: &[Option<Array>], origin: usize) -> Option<C
     b.items().cell(place)
 }
 
-/// The elements that slots pick, axis by axis. It stands apart, so that the way of a vector stays short.
+/// The elements that slots pick, axis by axis. It stands apart, so that the fast path of a vector stays short.
 #[inline(never)]
 fn elements_led_to(
     alloc: Global,
@@ -69,8 +69,8 @@ fn elements_led_to(
     Ok(Array::in_shape(shape.as_slice(), ravel))
 }
 
-/// The elements that slots pick. Those of a vector are read in one pass over the numbers. Where that meets a fault, the way by all axes says
-/// which is the first.
+/// The elements that slots pick. Those of a vector are read in one pass over the numbers. Where that meets a fault it falls back on the
+/// general path, by all axes, which finds the first.
 fn elements_picked(
     alloc: Global,
     b: &Array,

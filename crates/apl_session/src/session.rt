@@ -90,7 +90,7 @@ impl From<AllocError> for FeedError {
     }
 }
 
-/// Want of memory, after the events before number `event`, from 0, and so many steps of that one.
+/// Out of memory, after the events before number `event`, from 0, and so many steps of that one.
 #[derive(Clone, Copy, Debug, PartialEq, Eq, Error)]
 #[error("out of memory at event {event} after {steps} of its steps")]
 pub struct DriveError {
@@ -269,7 +269,7 @@ impl Session {
         }
     }
 
-    /// At most `count` steps, and where the session stands after them. Want of memory gives the
+    /// At most `count` steps, and where the session stands after them. Out of memory it gives the
     /// number of those that are done.
     #[tactic(auto, using(crate::proofs::Opened::same_steps))]
     fn make_steps(&mut self, count: u64) -> Result<Progress, u64>
@@ -282,8 +282,8 @@ impl Session {
         Ok(progress)
     }
 
-    /// At most `count` steps, until the machine is idle, and where it stands after them. After want
-    /// of memory it stands after the steps that are done.
+    /// At most `count` steps, until the machine is idle, and where it stands after them. Out of
+    /// memory it stands after the steps that are done.
     pub fn advance(&mut self, count: u64) -> Result<Progress, AllocError>
         ensures ok { OnOk result (self.new ≡ steps count self.old) }
         ensures progress { IfOk result (λ p. p ≡ steps_progress count self.old) }
@@ -295,8 +295,8 @@ impl Session {
         }
     }
 
-    /// Abandons what runs, with a report; an idle session stays. After an error, which is want of
-    /// memory, the session is as before and still runs.
+    /// Abandons what runs, with a report; an idle session stays. After an error, which is that memory
+    /// has run out, the session is as before and still runs.
     pub fn interrupt(&mut self) -> Result<(), AllocError>
         ensures ok { OnOk result (self.new ≡ interrupt self.old) }
         ensures err { OnErr result (self.new ≡ self.old) }
@@ -305,7 +305,7 @@ impl Session {
     }
 
     /// One event: a line is typed, which changes nothing in a session that runs, at most so many
-    /// steps are made, or what runs is abandoned. Want of memory gives the number of the event's
+    /// steps are made, or what runs is abandoned. Out of memory it gives the number of the event's
     /// steps that are done, 0 for a line and for an interrupt; the session stands after those steps.
     pub fn apply(&mut self, event: &Event) -> Result<(), u64>
         ensures ok { OnOk result (self.new ≡ model.after_event self.old (event_view event.now)) }
@@ -329,7 +329,7 @@ impl Session {
         }
     }
 
-    /// The events in order. After want of memory the session stands where the error says.
+    /// The events in order. Out of memory the session stands where the error says.
     #[tactic(auto, using(crate::proofs::Events::in_order))]
     pub fn drive(&mut self, events: &[Event]) -> Result<(), DriveError>
         ensures ok { OnOk result (self.new ≡ model.after self.old (event_list events.now)) }

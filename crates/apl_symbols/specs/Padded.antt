@@ -7,7 +7,7 @@ use Rattle.std.proofs.lemmas.List.{length-take-le}
 abbrev pub filled : List ℕ → List ℕ
 filled text = text ++ replicate (32 - length text) 32
 
--- the array is its front of that length, filled
+-- the array is its prefix of that length, filled
 pub record IsPadded (len : ℕ) (padded : List ℕ) : Type 0 where
   pub fits : len ≤ 32
   pub whole : length padded ≡ 32

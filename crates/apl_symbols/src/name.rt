@@ -22,7 +22,7 @@ pub const MOST: usize = 32;
 const MOST_SHORT: usize = 8;
 
 /// A text of at most 32 characters, as names are. It is copied without memory. Names ascend by code
-/// points from the first on, a front before the whole.
+/// points from the first on, a prefix before the whole.
 /// Contracts see the list of its characters.
 #[derive(Clone, Copy, Debug)]
 pub struct Name {
@@ -125,7 +125,7 @@ impl Name {
     }
 }
 
-/// Whether two names are the same, by their characters. It stands apart, so that the other way takes no more than it needs.
+/// Whether two names are the same, by their characters. It stands apart, so that the fast path takes no more than it needs.
 #[inline(never)]
 fn are_alike(one: &Name, other: &Name) -> bool
     ensures same { result ≡ true → one.now ≡ other.now }

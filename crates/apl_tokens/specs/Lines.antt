@@ -56,7 +56,7 @@ pub record Joins (text : List ℕ) (tokens : List Token) : Type 0 where
   pub spelled : ArePieces text pieces
   pub tokens_are : tokens ≡ joined pieces
 
--- pieces spell a front of the text, and what is left breaks
+-- pieces spell a prefix of the text, and what is left breaks
 pub record Breaks (text : List ℕ) (e : TokenError) : Type 0 where
   pub pieces : List Token
   pub rest : List ℕ

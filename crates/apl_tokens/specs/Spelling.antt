@@ -122,7 +122,7 @@ pub record Step (end : ℕ) (place : Place) (t : Token) (text after : List ℕ) 
   pub ends : Ends t.kind after
   pub stands : may_stand place t.kind ≡ true
 
--- the tokens spell the front of the text, up to rest
+-- the tokens spell a prefix of the text, up to rest
 abbrev pub Row : ℕ → Place → List Token → List ℕ → List ℕ → Type 0
 Row end place [] text rest = text ≡ rest
 Row end place (t ∷ ts) text rest = (after : List ℕ) × Step end place t text after × Row end (next_place place t.kind) ts after rest

@@ -135,8 +135,8 @@ fn written(alloc: Global, tokens: &[Token]) -> Result<Text, AllocError>
 }
 
 /// A text of these tokens: each at its column, blanks alone between. Numbers have no needless
-/// zeros and one blank between; 0 directly behind a name is written `¯0`. The only error is want
-/// of memory.
+/// zeros and one blank between; 0 directly behind a name is written `¯0`. The only error is that
+/// memory has run out.
 pub fn spell(alloc: Global, tokens: &[Token]) -> Result<Text, AllocError>
     requires { AreSpelled tokens.now }
     // The tokens spell it.

@@ -260,7 +260,7 @@ fn shared(alloc: Global, array: Array) -> Result<Array, AllocError>
     Ok(array.into_shared(alloc)?.into_array())
 }
 
-/// The arrays of the constants and texts, shared, so that a phrase takes one without memory.
+/// The arrays of the constants and texts, shared, so that a phrase copies no elements of them.
 fn constants_of(alloc: Global, tokens: &[Token]) -> Result<Vec<Array>, AllocError>
     requires { All (λ t. elements_in t.kind ≤ 1000000) tokens.now }
     ensures { IfOk result (λ v. v.items ≡ flat_map (λ t. constant_in t.kind) tokens.now) }

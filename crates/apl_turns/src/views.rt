@@ -45,7 +45,7 @@ pub fn transpose_by(alloc: Global, a: &Array, b: &Array, origin: Origin) -> Resu
     Ok(View::whole(b).turned(axes.as_slice()).copied(alloc)?)
 }
 
-/// An array with one of its axes taken the other way, by a view. It stands apart, so that the way of the last axis stays short.
+/// An array with one of its axes taken the other way, by a view. It stands apart, so that the fast path of the last axis stays short.
 #[inline(never)]
 fn reverse_view(alloc: Global, b: &Array, axis: usize) -> Result<Array, AllocError>
     requires { axis < length b.now.shape }

@@ -59,7 +59,7 @@ pub enum LoadError {
     /// The code of a half-done line isn't that of its text.
     #[error("the code of a line isn't its own")]
     Code,
-    /// An array is over the limits, or more than 256 calls stand.
+    /// An array is over the limits, or more than 256 calls and executes stand.
     #[error("an array is too large, or too many calls stand")]
     Limit,
     #[error("out of memory")]

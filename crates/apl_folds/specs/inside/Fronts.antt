@@ -1,5 +1,5 @@
 -- Scans of numbers in row-major order, by their places.
--- All fronts together are the scan of `Scans`, which folds each front anew.
+-- All prefixes together are the scan of `Scans`, which folds each prefix anew.
 use Rattle.std.specs.Prelude.{◌≡◌, ℕ, ℤ, pos, ◌+◌, ◌-◌, ◌*◌, ◌/◌, ◌%◌, ◌^◌, ◌<◌}
 use Rattle.std.specs.Prelude.{List, length, slice_index_or, Result, Ok}
 use Rattle.std.specs.List.{range_with_len}
