@@ -13,4 +13,9 @@ pub mod Rounded
 pub mod LastFirst
 pub mod Lessened
 pub mod Encodings
-pub mod Entries
+pub mod Buckets
+pub mod Deals
+pub mod Reaches
+pub mod Loads
+pub mod Passes
+pub mod Sorts

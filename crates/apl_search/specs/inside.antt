@@ -1,4 +1,4 @@
 pub mod Flat
 pub mod Mirrored
 pub mod Tables
-pub mod Entries
+pub mod Dealt
