@@ -1,12 +1,13 @@
 -- What phrases may come to: which names are assigned to, which functions are called, which vectors are kept.
 use Rattle.std.proofs.Common.{◌≡◌, ℕ, suc, ◌+◌, ◌<◌, ◌≤◌, ◌&&◌, Bool, true, false, cond, List, [], ◌∷◌, length, filter, Option, Some, None, refl, sym, subst, ◌∙◌, arith}
-use Rattle.std.specs.Prelude.{ℤ, pos, nat_le, nat_lt, is_some, Result, Ok, Err, if◌then◌else◌}
+use Rattle.std.specs.Prelude.{ℤ, pos, nat_lt, is_some, Result, Ok, Err, if◌then◌else◌}
 use Rattle.std.specs.List.{list_any}
 use Rattle.std.specs.Ordering.{int_eq}
 use Rattle.std.proofs.lemmas.Bool.Decides.{nat_tests}
 use Rattle.apl_arrays.specs.Cells.{Arr, Items, Numbers, Characters}
 use Rattle.apl_faults.specs.declared.fault.Fault.{Fault}
 use Rattle.apl_faults.specs.declared.fault.Fault.TheVariants.{Syntax, Rank, Limit}
+use Rattle.apl_symbols.specs.Names.{is_short_enough}
 use Rattle.apl_symbols.specs.declared.primitive.Primitive.TheVariants.{Execute}
 use Rattle.apl_symbols.specs.declared.system.SystemName.TheVariants as systems
 use Rattle.apl_symbols.specs.declared.system.SystemName.TheVariants.{Origin, LineCounter, NameClass}
@@ -172,7 +173,7 @@ watched-by-fit : (s : Scene) (which : Watch) (text : Text) (o : Option Definitio
     → IsFit s (watched_by which text o (elim numbers as (λ n. Option (Definition → List ℕ)) [ None ↦ None | Some ns ↦ Some (lines_among ns) ]))
 watched-by-fit s which text None numbers e = tt
 watched-by-fit s which text (Some d) None e = tt
-watched-by-fit s which text (Some d) (Some numbers) e = (d, named-is s text (Some d) (nat_le (length text) 32) e d refl, among-lines numbers d)
+watched-by-fit s which text (Some d) (Some numbers) e = (d, named-is s text (Some d) (is_short_enough text) e d refl, among-lines numbers d)
 
 asked-fit : (s : Scene) (which : Watch) (items : Items) → IsFit s (watched s which items None)
 asked-fit s which (Numbers numbers) = tt
