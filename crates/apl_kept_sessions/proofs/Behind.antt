@@ -153,7 +153,7 @@ moved-behind before s w contexts lines ended = ap (turned s w contexts false end
 comes-behind : (b : Bool) (before : List OutLine) (s : State) (w : World) (d : Definition) (n : ℕ) (locals : Map) (below : List Context) (lines : List Text) (ended : Bool)
     → comes_to b (behind before s) w d n locals below lines ended ≡ turn_behind before (comes_to b s w d n locals below lines ended)
 comes-behind true before s w d n locals below lines ended =
-    ap (turned s w (Call d n locals None ∷ below) true true) (append_assoc before s.output (plain_lines lines ++ stop_report d n ∷ []))
+    ap (turned s w (Call d n locals None ∷ below) true ended) (append_assoc before s.output (plain_lines lines ++ stop_report d n ∷ []))
 comes-behind false before s w d n locals below lines ended = moved-behind before s w (begun_line w d n locals below) lines ended
 
 arrived-behind : (b : Bool) (before : List OutLine) (s : State) (w : World) (d : Definition) (n : ℕ) (locals : Map) (below : List Context) (lines : List Text) (ended : Bool)
