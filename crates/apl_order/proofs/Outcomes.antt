@@ -23,7 +23,7 @@ use Rattle.apl_code.specs.declared.row.Variable.TheVariants.{Name, System}
 use Rattle.apl_names.specs.declared.binding.Binding.{Binding}
 use Rattle.apl_names.specs.declared.binding.Binding.TheVariants as bindings
 use Rattle.apl_names.specs.Maps.{found, function_in, last_map, said}
-use Rattle.apl_primitives.specs.Taken.{Taken, One, Two, AlongOne}
+use Rattle.apl_primitives.specs.Taken.{Taken, One, Two, ListAndOne}
 use Rattle.apl_primitives.specs.Values.{phrase_value}
 use Rattle.apl_select.specs.Assignment.{assigned}
 use Rattle.apl_defn.specs.Definitions.{Text, Definition}
@@ -298,7 +298,7 @@ slots-fit s (System Origin) slots b h = origin-result-fit s (assigned (scalar (i
 slots-fit s (System name) slots b h = tt
 
 assign-indexed-fit : (s : Scene) (v : Variable) (taken : Taken) → IsAssignable (found s.maps origin_name) → IsFit s (assign_indexed s v taken)
-assign-indexed-fit s v (AlongOne slots b) h = slots-fit s v slots b h
+assign-indexed-fit s v (ListAndOne slots b) h = slots-fit s v slots b h
 assign-indexed-fit s v taken h = tt
 
 shown-fit : (s : Scene) (taken : Taken) → IsFit s (shown taken)
