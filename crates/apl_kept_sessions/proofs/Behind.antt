@@ -19,7 +19,8 @@ use Rattle.apl_names.specs.Maps.{Map}
 use Rattle.apl_machine_state.specs.declared.output.OutLine.{OutLine}
 use Rattle.apl_machine_state.specs.Beginning.{begun_by, started, token_fault}
 use Rattle.apl_machine_state.specs.Calls.{begun_line, returned}
-use Rattle.apl_machine_state.specs.Changes.{Change, Rests, Moves, AsksStops, Arrives, change}
+use Rattle.apl_machine_state.specs.declared.watch.Watch.TheVariants.{Stop, Trace}
+use Rattle.apl_machine_state.specs.Changes.{Change, Rests, Moves, Asks, Arrives, change}
 use Rattle.apl_machine_state.specs.Environment.{World, Context, Call, nearest}
 use Rattle.apl_machine_state.specs.Objects.{erased, without_global}
 use Rattle.apl_machine_state.specs.Reports.{abandoned, fault_lines, plain_lines}
@@ -164,8 +165,10 @@ arrived-behind false before s w d n locals below lines ended = moved-behind befo
 applied-behind : (before : List OutLine) (s : State) (c : Change) → applied (behind before s) c ≡ turn_behind before (applied s c)
 applied-behind before s Rests = refl
 applied-behind before s (Moves w contexts lines ended) = moved-behind before s w contexts lines ended
-applied-behind before s (AsksStops w name lines given) =
+applied-behind before s (Asks Stop w name lines given) =
     moved-behind before (record s { stops = after_asking name lines s.stops }) w (given (lines_array (vector_of name s.stops))) [] false
+applied-behind before s (Asks Trace w name lines given) =
+    moved-behind before s (record w { traces = after_asking name lines w.traces }) (given (lines_array (vector_of name w.traces))) [] false
 applied-behind before s (Arrives w d n locals below lines ended) = arrived-behind (is_line d n) before s w d n locals below lines ended
 
 pub turn-behind : (before : List OutLine) (s : State) → turn (behind before s) ≡ turn_behind before (turn s)
