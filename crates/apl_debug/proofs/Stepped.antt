@@ -6,7 +6,8 @@ use Rattle.apl_defn.specs.Definitions.{Text, Definition, is_line}
 use Rattle.apl_names.specs.Maps.{Map}
 use Rattle.apl_vectors.specs.Vectors.{has_line}
 use Rattle.apl_machine_state.specs.Environment.{World, Context}
-use Rattle.apl_machine_state.specs.Changes.{Change, Rests, Moves, AsksStops, Arrives, change}
+use Rattle.apl_machine_state.specs.declared.watch.Watch.TheVariants.{Stop, Trace}
+use Rattle.apl_machine_state.specs.Changes.{Change, Rests, Moves, Asks, Arrives, change}
 use Rattle.apl_machine_state.specs.State.{State, is_idle, step, steps, turn, applied, arrived, comes_to, progress}
 use Rattle.apl_machine.proofs.ManySteps.{steps-idle, steps-more}
 use Rattle.apl_debug.specs.Stepping.{Run, is_over, run_from}
@@ -57,7 +58,8 @@ arrived-idle false s w d n locals below lines ended h = cc
 stopped-idle : (s : State) (c : Change) → (applied s c).stopped ≡ true → is_idle (applied s c).state ≡ true
 stopped-idle s Rests h = cc
 stopped-idle s (Moves world contexts lines ended) h = cc
-stopped-idle s (AsksStops world name lines given) h = cc
+stopped-idle s (Asks Stop world name lines given) h = cc
+stopped-idle s (Asks Trace world name lines given) h = cc
 stopped-idle s (Arrives w d n locals below lines ended) h = arrived-idle (is_line d n) s w d n locals below lines ended h
 
 answers-idle : (stopped idle ended : Bool) → (stopped ≡ true → idle ≡ true) → is_over (cond stopped Stopped (cond idle Idle (cond ended LineEnd Running))) ≡ true → idle ≡ true

@@ -1,5 +1,6 @@
 -- What names stand for, and how functions are written.
-use Rattle.std.specs.Prelude.{ℕ, nat_le, List, ◌∷◌, length, map, Option, Some, None, if◌then◌else◌}
+use Rattle.std.specs.Prelude.{ℕ, List, ◌∷◌, map, Option, Some, None, if◌then◌else◌}
+use Rattle.apl_symbols.specs.Names.{is_short_enough}
 use Rattle.apl_arrays.specs.Cells.{Arr, Items, Numbers, Characters}
 use Rattle.apl_defn.specs.Definitions.{Text, Definition}
 use Rattle.apl_defn.specs.Listing.{canonical}
@@ -45,9 +46,9 @@ named s name = record { name = name; reading = reading_now s name }
 abbrev pub names_of : State → List Named
 names_of s = map (λ e. named s e.0) (globals s)
 
--- the global function that a word names; no name has more than 32 characters
+-- the global function that a word names, if it is short enough for a name
 abbrev pub function_named : State → Text → Option Definition
-function_named s word = if nat_le (length word) 32 then definition_of s word else None
+function_named s word = if is_short_enough word then definition_of s word else None
 
 -- a function as it is written: its header, and its lines
 abbrev pub source_of : Definition → List Text

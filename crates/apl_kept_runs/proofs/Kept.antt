@@ -6,7 +6,8 @@ use Rattle.apl_defn.specs.Definitions.{Text, Definition, is_line}
 use Rattle.apl_names.specs.Maps.{Map}
 use Rattle.apl_vectors.specs.Vectors.{has_line}
 use Rattle.apl_machine_state.specs.declared.output.OutLine.{OutLine}
-use Rattle.apl_machine_state.specs.Changes.{Change, Rests, Moves, AsksStops, Arrives, change}
+use Rattle.apl_machine_state.specs.declared.watch.Watch.TheVariants.{Stop, Trace}
+use Rattle.apl_machine_state.specs.Changes.{Change, Rests, Moves, Asks, Arrives, change}
 use Rattle.apl_machine_state.specs.Environment.{World, Context}
 use Rattle.apl_machine_state.specs.State.{State, Turn, applied, arrived, comes_to, interrupt, is_idle, turn}
 use Rattle.apl_parts.specs.Taken.{parts_of}
@@ -51,7 +52,8 @@ arrived-stands false s w d n locals below lines ended stops = cc
 applied-stands : (s : State) (c : Change) → (applied s c).stopped ≡ true → Stands s (applied s c).state
 applied-stands s Rests stops = cc
 applied-stands s (Moves w contexts lines ended) stops = cc
-applied-stands s (AsksStops w name lines given) stops = cc
+applied-stands s (Asks Stop w name lines given) stops = cc
+applied-stands s (Asks Trace w name lines given) stops = cc
 applied-stands s (Arrives w d n locals below lines ended) stops = arrived-stands (is_line d n) s w d n locals below lines ended stops
 
 turn-stands : (s : State) → (turn s).stopped ≡ true → Stands s (turn s).state

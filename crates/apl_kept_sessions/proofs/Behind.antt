@@ -19,7 +19,8 @@ use Rattle.apl_names.specs.Maps.{Map}
 use Rattle.apl_machine_state.specs.declared.output.OutLine.{OutLine}
 use Rattle.apl_machine_state.specs.Beginning.{begun_by, started, token_fault}
 use Rattle.apl_machine_state.specs.Calls.{begun_line, returned}
-use Rattle.apl_machine_state.specs.Changes.{Change, Rests, Moves, AsksStops, Arrives, change}
+use Rattle.apl_machine_state.specs.declared.watch.Watch.TheVariants.{Stop, Trace}
+use Rattle.apl_machine_state.specs.Changes.{Change, Rests, Moves, Asks, Arrives, change}
 use Rattle.apl_machine_state.specs.Environment.{World, Context, Call, nearest}
 use Rattle.apl_machine_state.specs.Objects.{erased, without_global}
 use Rattle.apl_machine_state.specs.Reports.{abandoned, fault_lines, plain_lines}
@@ -153,7 +154,7 @@ moved-behind before s w contexts lines ended = ap (turned s w contexts false end
 comes-behind : (b : Bool) (before : List OutLine) (s : State) (w : World) (d : Definition) (n : ℕ) (locals : Map) (below : List Context) (lines : List Text) (ended : Bool)
     → comes_to b (behind before s) w d n locals below lines ended ≡ turn_behind before (comes_to b s w d n locals below lines ended)
 comes-behind true before s w d n locals below lines ended =
-    ap (turned s w (Call d n locals None ∷ below) true true) (append_assoc before s.output (plain_lines lines ++ stop_report d n ∷ []))
+    ap (turned s w (Call d n locals None ∷ below) true ended) (append_assoc before s.output (plain_lines lines ++ stop_report d n ∷ []))
 comes-behind false before s w d n locals below lines ended = moved-behind before s w (begun_line w d n locals below) lines ended
 
 arrived-behind : (b : Bool) (before : List OutLine) (s : State) (w : World) (d : Definition) (n : ℕ) (locals : Map) (below : List Context) (lines : List Text) (ended : Bool)
@@ -164,8 +165,10 @@ arrived-behind false before s w d n locals below lines ended = moved-behind befo
 applied-behind : (before : List OutLine) (s : State) (c : Change) → applied (behind before s) c ≡ turn_behind before (applied s c)
 applied-behind before s Rests = refl
 applied-behind before s (Moves w contexts lines ended) = moved-behind before s w contexts lines ended
-applied-behind before s (AsksStops w name lines given) =
+applied-behind before s (Asks Stop w name lines given) =
     moved-behind before (record s { stops = after_asking name lines s.stops }) w (given (lines_array (vector_of name s.stops))) [] false
+applied-behind before s (Asks Trace w name lines given) =
+    moved-behind before s (record w { traces = after_asking name lines w.traces }) (given (lines_array (vector_of name w.traces))) [] false
 applied-behind before s (Arrives w d n locals below lines ended) = arrived-behind (is_line d n) before s w d n locals below lines ended
 
 pub turn-behind : (before : List OutLine) (s : State) → turn (behind before s) ≡ turn_behind before (turn s)

@@ -1,6 +1,7 @@
 -- The listings of a function's lines, as they would begin now.
-use Rattle.std.specs.Prelude.{◌≡◌, ℕ, false, nat_le, List, length, Option, Some, None, Ok, if◌then◌else◌}
+use Rattle.std.specs.Prelude.{◌≡◌, ℕ, false, List, Option, Some, None, Ok, if◌then◌else◌}
 use Rattle.std.specs.List.{AllZip}
+use Rattle.apl_symbols.specs.Names.{is_short_enough}
 use Rattle.apl_tokens.specs.declared.token.Token.{Token}
 use Rattle.apl_tokens.specs.Tokens.{tokens_of}
 use Rattle.apl_code.specs.declared.instr.Instr.{Instr}
@@ -27,9 +28,9 @@ pub record Lists (s : State) (text : Text) (bytes : List ℕ) : Type 0 where
   pub read : tokens_of text ≡ Ok tokens
   pub listing : IsListing (bound_now s tokens) bytes
 
--- the global function that a text names; no name has more than 32 characters
+-- the global function that a text names, if it is short enough for a name
 abbrev pub function_named : State → Text → Option Definition
-function_named s text = if nat_le (length text) 32 then definition_of s text else None
+function_named s text = if is_short_enough text then definition_of s text else None
 
 -- a function has a listing of each of its lines, in their order; what is no function has none
 abbrev pub AreListings : State → Option Definition → Option (List (List ℕ)) → Type 0

@@ -10,7 +10,7 @@ use Rattle.apl_machine_state.specs.Environment as model
 use Rattle.apl_machine_state.specs.Environment.{World, class_of, environment, rest_at, scene}
 use Rattle.apl_defn.specs.Definitions.{Definition, is_line}
 use Rattle.apl_machine_state.specs.Calls.{begun_line, call_map}
-use Rattle.apl_machine_state.specs.Changes.{Arrives, Moves, branch_to, escape_to, line_from, resumed, returns}
+use Rattle.apl_machine_state.specs.Changes.{Moves, branch_to, escape_to, line_from, resumed, returns}
 use Rattle.apl_machine_state.specs.State.{State, applied, arrived, comes_to, value_of}
 use Rattle.apl_vectors.specs.Vectors.{has_line}
 use Rattle.apl_frames.specs.Flat.{flat_rest}
@@ -126,16 +126,16 @@ arrival_ends s ms kept (Statement q ∷ cs) n texts h = cc
 arrival_ends s ms kept (Call c ∷ cs) n texts h = arrived_ends (is_line c.definition n) s (world_at ms kept (Call c ∷ cs)) c.definition n (first_map ms) (dressed (drop 1 ms) cs) texts
 arrival_ends s ms kept (Execute q ∷ cs) n texts h = arrival_ends s ms kept cs n texts h
 
--- a call that begins goes on but where it stops
-call_goes : (line : Bool) (s : State) (w : World) (d : Definition) (n : ℕ) (locals : Map) (below : List model.Context) (lines : List Text) → (arrived line s w d n locals below lines false).ended ≡ (arrived line s w d n locals below lines false).stopped
+-- a call that begins ends no line
+call_goes : (line : Bool) (s : State) (w : World) (d : Definition) (n : ℕ) (locals : Map) (below : List model.Context) (lines : List Text) → (arrived line s w d n locals below lines false).ended ≡ false
 call_goes true s w d n locals below lines = by_stop (has_line d.header.name n s.stops)
   where
-    by_stop : (stop : Bool) → (comes_to stop s w d n locals below lines false).ended ≡ (comes_to stop s w d n locals below lines false).stopped
+    by_stop : (stop : Bool) → (comes_to stop s w d n locals below lines false).ended ≡ false
     by_stop true = refl
     by_stop false = refl
 call_goes false s w d n locals below lines = refl
 
-pub called_goes : (s : Space) (d : Definition) (a b : Option Arr) (left : ℕ) → (called_in s d a b left).ended ≡ (called_in s d a b left).stopped
+pub called_goes : (s : Space) (d : Definition) (a b : Option Arr) (left : ℕ) → (called_in s d a b left).ended ≡ false
 called_goes s d a b left = call_goes (is_line d 1) (state_of s) (world_of s) d 1 (call_map (scene (world_of s) (dressed s.maps s.contexts)) d a b) (awaiting_in s left) []
 
 -- a typed branch ends its line, and comes to no stop
@@ -183,15 +183,3 @@ answer_goes s ms kept [] value e = cc
 answer_goes s ms kept (Statement q ∷ cs) value e = cc
 answer_goes s ms kept (Call c ∷ cs) value e = cc
 answer_goes s ms kept (Execute q ∷ cs) value e = (refl, refl)
-
--- a call ends a line only where it stops before one
-pub call_ends : (s : State) (w : World) (d : Definition) (locals : Map) (below : List model.Context) → (applied s (Arrives w d 1 locals below [] false)).ended ≡ (applied s (Arrives w d 1 locals below [] false)).stopped
-call_ends s w d locals below = by_line (is_line d 1)
-  where
-    by_stop : (stop : Bool) → (comes_to stop s w d 1 locals below [] false).ended ≡ (comes_to stop s w d 1 locals below [] false).stopped
-    by_stop true = refl
-    by_stop false = refl
-
-    by_line : (line : Bool) → (arrived line s w d 1 locals below [] false).ended ≡ (arrived line s w d 1 locals below [] false).stopped
-    by_line true = by_stop (has_line d.header.name 1 s.stops)
-    by_line false = refl

@@ -5,6 +5,7 @@ use Rattle.std.specs.List.{list_any}
 use Rattle.std.specs.Ordering.{int_eq}
 use Rattle.apl_arrays.specs.Cells.{Arr, Items, Numbers, Characters}
 use Rattle.apl_arrays.specs.Simple.{vector}
+use Rattle.apl_symbols.specs.Names.{is_short_enough}
 use Rattle.apl_faults.specs.Report.{place}
 use Rattle.apl_names.specs.Maps.{function_in, last_map, said}
 use Rattle.apl_vectors.specs.Vectors.{has_line}
@@ -30,9 +31,9 @@ numbered n (line ∷ lines) = n ∷ numbered (suc n) lines
 abbrev pub lines_among : List ℤ → Definition → List ℕ
 lines_among numbers d = filter (λ n. list_any (λ z. int_eq z (pos n)) numbers) (numbered 1 d.lines)
 
--- the function that a text names globally; no name has more than 32 characters
+-- the function that a text names globally, if it is short enough for a name
 abbrev pub function_named : Scene → Text → Option Definition
-function_named s text = if nat_le (length text) 32 then function_in (said (last_map s.maps) text) else None
+function_named s text = if is_short_enough text then function_in (said (last_map s.maps) text) else None
 
 -- an array of rank at most 1
 abbrev pub is_list : Arr → Bool

@@ -110,7 +110,9 @@ fn two_arguments<'a>(first: Option<Held<'a>>, second: Option<Held<'a>>) -> Argum
 {
     match (first, second) {
         (Some(Held::Value(a)), Some(Held::Value(b))) => Arguments::Two(a, b),
-        (Some(Held::Slots(axis)), Some(Held::Value(b))) => Arguments::AlongOne(axis.as_slice(), b),
+        (Some(Held::Slots(slots)), Some(Held::Value(b))) => {
+            Arguments::ListAndOne(slots.as_slice(), b)
+        }
         (Some(Held::Value(b)), Some(Held::Slots(slots))) => {
             Arguments::Selected(b, slots.as_slice())
         }

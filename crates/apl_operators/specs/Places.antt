@@ -9,7 +9,8 @@ use Rattle.apl_arrays.specs.Results.{all_ok}
 use Rattle.apl_scalar.specs.declared.function.Dyadic.{Dyadic}
 use Rattle.apl_scalar.specs.Extension.{dyadic_at}
 
--- the element at a place
+-- The element at a place. No product reads a place beyond the elements, where this says 0: `row_below` and `rest_below` of apl_arrays show it
+-- of the outer ones, and `left_below` and `right_below` of `Meeting` of the inner ones.
 abbrev pub cell_of : Items → ℕ → Cell
 cell_of items place = slice_index_or (cells_of items) place (Num (pos 0))
 

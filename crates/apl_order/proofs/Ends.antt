@@ -11,7 +11,7 @@ use Rattle.apl_defn.specs.Definitions.{Text, is_line}
 use Rattle.apl_machine_state.specs.Items.{Rest}
 use Rattle.apl_machine_state.specs.Environment.{World, Context, Statement, Call, Execute}
 use Rattle.apl_machine_state.specs.Watching.{arrow, traced}
-use Rattle.apl_machine_state.specs.Changes.{Change, Rests, Moves, AsksStops, Arrives, line_end, leads_nowhere, aim, resumed, branch_to, branch, escape_to, change_at_end}
+use Rattle.apl_machine_state.specs.Changes.{Change, Rests, Moves, Asks, Arrives, line_end, leads_nowhere, aim, resumed, branch_to, branch, escape_to, change_at_end}
 use Rattle.apl_order.specs.Order.{HasHoles, IsAtLine, IsSuspended, IsBelow, AreInOrder}
 use Rattle.apl_order.proofs.Standing.{ArePendent, AreIdle, below-statement, below-call, below-execute, idle-order, order-below, behind-order}
 use Rattle.apl_order.proofs.Answered.{abandoned-order, given-order, returned-order, begun-order}
@@ -20,7 +20,7 @@ use Rattle.apl_order.proofs.Answered.{abandoned-order, given-order, returned-ord
 abbrev pub KeepsOrder : Change → Type 0
 KeepsOrder Rests = Unit {0}
 KeepsOrder (Moves w contexts lines ended) = AreInOrder contexts
-KeepsOrder (AsksStops w name lines given) = (a : Arr) → AreInOrder (given a)
+KeepsOrder (Asks which w name lines given) = (a : Arr) → AreInOrder (given a)
 KeepsOrder (Arrives w d n locals below lines ended) = ArePendent below
 
 keeps-if : (b : Bool) (x y : Change) → (b ≡ true → KeepsOrder x) → KeepsOrder y → KeepsOrder (if b then x else y)

@@ -32,7 +32,7 @@ use Rattle.apl_machine_state.specs.Reports.{abandoned}
 use Rattle.apl_machine_state.specs.Calls.{answered_by, answered_in, begun_line, begun_of, given_to, result_of, returned}
 use Rattle.apl_machine_state.specs.Outcomes.{Outcome, Becomes, Makes, Writes, Assigns, SetsOrigin, Enters, Watches, Executes, Faults}
 use Rattle.apl_machine_state.specs.Watching.{arrow, lines_array, traced}
-use Rattle.apl_machine_state.specs.Changes.{Change, Rests, Moves, AsksStops, Arrives, aim, branch, branch_to, change, change_at_end, change_by, change_in, change_of, escape_to, leads_nowhere, line_end, resumed}
+use Rattle.apl_machine_state.specs.Changes.{Change, Rests, Moves, Asks, Arrives, aim, branch, branch_to, change, change_at_end, change_by, change_in, change_of, escape_to, leads_nowhere, line_end, resumed}
 use Rattle.apl_machine_state.specs.Texts.{colon_of}
 use Rattle.apl_machine_state.specs.State.{State, applied, arrived, comes_to, interrupted, is_idle}
 use Rattle.apl_machine_state.specs.Beginning.{begun_by, started}
@@ -137,7 +137,8 @@ record CanBegin (d : Definition) (locals : Map) (below : List Context) : Type 0 
 abbrev KeepsAll : Vectors → Change → Type 0
 KeepsAll stops Rests = Unit {0}
 KeepsAll stops (Moves w contexts lines ended) = Keeps w stops contexts
-KeepsAll stops (AsksStops w name lines given) = (a : Arr) → Keeps w (after_asking name lines stops) (given a)
+KeepsAll stops (Asks Stop w name lines given) = (a : Arr) → Keeps w (after_asking name lines stops) (given a)
+KeepsAll stops (Asks Trace w name lines given) = (a : Arr) → Keeps (record w { traces = after_asking name lines w.traces }) stops (given a)
 KeepsAll stops (Arrives w d n locals below lines ended) = Keeps w stops below × CanBegin d locals below
 
 under-call : (d : Definition) (n : ℕ) (locals : Map) (rest : Option Rest) (below : List Context) → Fine (Call d n locals rest ∷ below) → CanBegin d locals below
@@ -268,9 +269,8 @@ phrase-keeps w stops context below rest n row (Enters d a b) e fit h =
 phrase-keeps w stops context below rest n row (Watches Stop name lines) e fit h = λ value.
     let f : Fine (with_rest (reduced n row (Given (Value value)) rest) context ∷ below) = with-fine (reduced n row (Given (Value value)) rest) context below rest e refl (fine-of w stops _ h) in
     record { few = f.0; kept = f.1; globals = h.globals; traced = h.traced; stopped = asked-kept w (context ∷ below) name lines stops fit h.stopped }
-phrase-keeps w stops context below rest n row (Watches Trace name lines) e fit h =
-    let next : Rest = reduced n row (Given (Value (lines_array (vector_of name w.traces)))) rest in
-    let f : Fine (with_rest next context ∷ below) = with-fine next context below rest e refl (fine-of w stops _ h) in
+phrase-keeps w stops context below rest n row (Watches Trace name lines) e fit h = λ value.
+    let f : Fine (with_rest (reduced n row (Given (Value value)) rest) context ∷ below) = with-fine (reduced n row (Given (Value value)) rest) context below rest e refl (fine-of w stops _ h) in
     record { few = f.0; kept = f.1; globals = h.globals; traced = asked-kept w (context ∷ below) name lines w.traces fit h.traced; stopped = h.stopped }
 phrase-keeps w stops context below rest n row (Executes text tokens) e fit h =
     let next : Rest = reduced n row Awaited rest in
@@ -308,7 +308,8 @@ arrived-keeps false s w d n locals below lines ended h c = keeps-with w s.stops 
 applied-keeps : (s : State) (c : Change) → KeepsState s → KeepsAll s.stops c → KeepsState (applied s c).state
 applied-keeps s Rests h k = h
 applied-keeps s (Moves w contexts lines ended) h k = k
-applied-keeps s (AsksStops w name lines given) h k = k (lines_array (vector_of name s.stops))
+applied-keeps s (Asks Stop w name lines given) h k = k (lines_array (vector_of name s.stops))
+applied-keeps s (Asks Trace w name lines given) h k = k (lines_array (vector_of name w.traces))
 applied-keeps s (Arrives w d n locals below lines ended) h k = arrived-keeps (is_line d n) s w d n locals below lines ended k.0 k.1
 
 pub step-keeps : StepsKeep

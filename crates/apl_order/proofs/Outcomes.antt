@@ -1,12 +1,13 @@
 -- What phrases may come to: which names are assigned to, which functions are called, which vectors are kept.
 use Rattle.std.proofs.Common.{◌≡◌, ℕ, suc, ◌+◌, ◌<◌, ◌≤◌, ◌&&◌, Bool, true, false, cond, List, [], ◌∷◌, length, filter, Option, Some, None, refl, sym, subst, ◌∙◌, arith}
-use Rattle.std.specs.Prelude.{ℤ, pos, nat_le, nat_lt, is_some, Result, Ok, Err, if◌then◌else◌}
+use Rattle.std.specs.Prelude.{ℤ, pos, nat_lt, is_some, Result, Ok, Err, if◌then◌else◌}
 use Rattle.std.specs.List.{list_any}
 use Rattle.std.specs.Ordering.{int_eq}
 use Rattle.std.proofs.lemmas.Bool.Decides.{nat_tests}
 use Rattle.apl_arrays.specs.Cells.{Arr, Items, Numbers, Characters}
 use Rattle.apl_faults.specs.declared.fault.Fault.{Fault}
 use Rattle.apl_faults.specs.declared.fault.Fault.TheVariants.{Syntax, Rank, Limit}
+use Rattle.apl_symbols.specs.Names.{is_short_enough}
 use Rattle.apl_symbols.specs.declared.primitive.Primitive.TheVariants.{Execute}
 use Rattle.apl_symbols.specs.declared.system.SystemName.TheVariants as systems
 use Rattle.apl_symbols.specs.declared.system.SystemName.TheVariants.{Origin, LineCounter, NameClass}
@@ -22,7 +23,7 @@ use Rattle.apl_code.specs.declared.row.Variable.TheVariants.{Name, System}
 use Rattle.apl_names.specs.declared.binding.Binding.{Binding}
 use Rattle.apl_names.specs.declared.binding.Binding.TheVariants as bindings
 use Rattle.apl_names.specs.Maps.{found, function_in, last_map, said}
-use Rattle.apl_primitives.specs.Taken.{Taken, One, Two, AlongOne}
+use Rattle.apl_primitives.specs.Taken.{Taken, One, Two, ListAndOne}
 use Rattle.apl_primitives.specs.Values.{phrase_value}
 use Rattle.apl_select.specs.Assignment.{assigned}
 use Rattle.apl_defn.specs.Definitions.{Text, Definition}
@@ -172,7 +173,7 @@ watched-by-fit : (s : Scene) (which : Watch) (text : Text) (o : Option Definitio
     → IsFit s (watched_by which text o (elim numbers as (λ n. Option (Definition → List ℕ)) [ None ↦ None | Some ns ↦ Some (lines_among ns) ]))
 watched-by-fit s which text None numbers e = tt
 watched-by-fit s which text (Some d) None e = tt
-watched-by-fit s which text (Some d) (Some numbers) e = (d, named-is s text (Some d) (nat_le (length text) 32) e d refl, among-lines numbers d)
+watched-by-fit s which text (Some d) (Some numbers) e = (d, named-is s text (Some d) (is_short_enough text) e d refl, among-lines numbers d)
 
 asked-fit : (s : Scene) (which : Watch) (items : Items) → IsFit s (watched s which items None)
 asked-fit s which (Numbers numbers) = tt
@@ -297,7 +298,7 @@ slots-fit s (System Origin) slots b h = origin-result-fit s (assigned (scalar (i
 slots-fit s (System name) slots b h = tt
 
 assign-indexed-fit : (s : Scene) (v : Variable) (taken : Taken) → IsAssignable (found s.maps origin_name) → IsFit s (assign_indexed s v taken)
-assign-indexed-fit s v (AlongOne slots b) h = slots-fit s v slots b h
+assign-indexed-fit s v (ListAndOne slots b) h = slots-fit s v slots b h
 assign-indexed-fit s v taken h = tt
 
 shown-fit : (s : Scene) (taken : Taken) → IsFit s (shown taken)

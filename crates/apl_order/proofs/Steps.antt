@@ -20,7 +20,7 @@ use Rattle.apl_machine_state.specs.Reports.{abandoned}
 use Rattle.apl_machine_state.specs.Calls.{line_begun}
 use Rattle.apl_machine_state.specs.Outcomes.{Outcome, Becomes, Makes, Writes, Assigns, SetsOrigin, Enters, Watches, Executes, Faults}
 use Rattle.apl_machine_state.specs.Watching.{lines_array}
-use Rattle.apl_machine_state.specs.Changes.{Change, Rests, Moves, AsksStops, Arrives, change, change_in, change_of, change_by}
+use Rattle.apl_machine_state.specs.Changes.{Change, Rests, Moves, Asks, Arrives, change, change_in, change_of, change_by}
 use Rattle.apl_machine_state.specs.Texts.{colon_of}
 use Rattle.apl_machine_state.specs.State.{State, is_idle, applied, arrived, comes_to, interrupted}
 use Rattle.apl_machine_state.specs.Beginning.{begun_by, started}
@@ -50,8 +50,7 @@ phrase-keeps w context below rest n row (Assigns name array value) none at b =
     maps-order (assigned (environment w (context ∷ below)) name (bindings.Value array)) (with_rest (reduced n row (Given (Value value)) rest) context ∷ below) (given-keeps context below rest n row (Value value) none at b)
 phrase-keeps w context below rest n row (SetsOrigin io value) none at b = given-keeps context below rest n row (Value value) none at b
 phrase-keeps w context below rest n row (Enters d x y) none at b = awaited-keeps context below rest n row none at b
-phrase-keeps w context below rest n row (Watches Stop name lines) none at b = λ value. given-keeps context below rest n row (Value value) none at b
-phrase-keeps w context below rest n row (Watches Trace name lines) none at b = given-keeps context below rest n row (Value (lines_array (vector_of name w.traces))) none at b
+phrase-keeps w context below rest n row (Watches which name lines) none at b = λ value. given-keeps context below rest n row (Value value) none at b
 phrase-keeps w context below rest n row (Executes text tokens) none at b =
     let pendent : List Context = with_rest (reduced n row Awaited rest) context ∷ below in
     (tt, begun-whole w (context ∷ below) tokens, execute-above text (line_begun w (context ∷ below) tokens) pendent (awaited-keeps context below rest n row none at b))
@@ -83,7 +82,8 @@ arrived-order false s w d n locals below lines ended at h = returned-order d loc
 applied-order : (s : State) (c : Change) → AreInOrder s.contexts → KeepsOrder c → AreInOrder (applied s c).state.contexts
 applied-order s Rests h keeps = h
 applied-order s (Moves w contexts lines ended) h keeps = keeps
-applied-order s (AsksStops w name lines given) h keeps = keeps (lines_array (vector_of name s.stops))
+applied-order s (Asks Stop w name lines given) h keeps = keeps (lines_array (vector_of name s.stops))
+applied-order s (Asks Trace w name lines given) h keeps = keeps (lines_array (vector_of name w.traces))
 applied-order s (Arrives w d n locals below lines ended) h keeps = arrived-order (is_line d n) s w d n locals below lines ended refl keeps
 
 -- each step keeps the contexts in order,

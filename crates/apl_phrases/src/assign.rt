@@ -218,7 +218,7 @@ pub fn assign_indexed(
     ensures { IfOk result (DoesOf (as_taken arguments.entry) scene.entry (λ s. assign_indexed s variable.now (as_taken arguments.entry))) }
 {
     match arguments {
-        Arguments::AlongOne(slots, b) => assign_slots(alloc, scene, variable, slots, b),
+        Arguments::ListAndOne(slots, b) => assign_slots(alloc, scene, variable, slots, b),
         _ => Ok(Effect::Fails(Fault::Syntax)),
     }
 }

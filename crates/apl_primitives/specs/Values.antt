@@ -23,7 +23,7 @@ use Rattle.apl_code.specs.declared.row.Function.TheVariants.{Primitive}
 use Rattle.apl_code.specs.declared.row.Row.{Row}
 use Rattle.apl_code.specs.declared.row.Row.TheVariants as rows
 use Rattle.apl_primitives.specs.Tables.{monadic_of, dyadic_of}
-use Rattle.apl_primitives.specs.Taken.{Taken, One, Two, AlongOne, AlongTwo, Selected, Other}
+use Rattle.apl_primitives.specs.Taken.{Taken, One, Two, ListAndOne, AlongTwo, Selected, Other}
 
 -- a scalar function of one array, where the primitive has one, and else one of structure
 abbrev pub scalar_or_structural1 : Option MonadicScalar → AnyPrimitive → Arr → ℕ → Result Arr Fault
@@ -102,7 +102,7 @@ by_index_list row b slots origin = Err Syntax
 abbrev pub phrase_value : Row → Taken → ℕ → Result Arr Fault
 phrase_value row (One b) origin = by_one row b origin
 phrase_value row (Two a b) origin = by_two row a b origin
-phrase_value row (AlongOne axis b) origin = by_axis_and_one row axis b origin
+phrase_value row (ListAndOne axis b) origin = by_axis_and_one row axis b origin
 phrase_value row (AlongTwo a axis b) origin = by_axis_and_two row axis a b origin
 phrase_value row (Selected b slots) origin = by_index_list row b slots origin
 phrase_value row Other origin = Err Syntax

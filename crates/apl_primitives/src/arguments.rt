@@ -10,7 +10,7 @@ pub enum Arguments<'a> {
     /// `B B`
     Two(&'a Array, &'a Array),
     /// `K B`
-    AlongOne(&'a [Option<Array>], &'a Array),
+    ListAndOne(&'a [Option<Array>], &'a Array),
     /// `B K B`
     AlongTwo(&'a Array, &'a [Option<Array>], &'a Array),
     /// `B K`

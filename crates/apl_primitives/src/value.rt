@@ -191,7 +191,7 @@ pub fn phrase_value(
     match arguments {
         Arguments::One(b) => by_one(alloc, row, b, origin),
         Arguments::Two(a, b) => by_two(alloc, row, a, b, origin),
-        Arguments::AlongOne(axis, b) => by_axis_and_one(alloc, row, axis, b, origin),
+        Arguments::ListAndOne(axis, b) => by_axis_and_one(alloc, row, axis, b, origin),
         Arguments::AlongTwo(a, axis, b) => by_axis_and_two(alloc, row, axis, a, b, origin),
         Arguments::Selected(b, slots) => by_index_list(alloc, row, b, slots, origin),
         Arguments::Other => Err(Stop::Fault(Fault::Syntax)),

@@ -12,17 +12,17 @@ use Rattle.apl_tokens.specs.Tokens.{tokens_of}
 use Rattle.apl_defn.specs.Definitions.{Text, Definition, is_line, line_of}
 use Rattle.apl_names.specs.declared.binding.Binding.TheVariants as bindings
 use Rattle.apl_names.specs.Maps.{Map, assigned}
-use Rattle.apl_vectors.specs.Vectors.{has_line}
+use Rattle.apl_vectors.specs.Vectors.{has_line, vector_of}
 use Rattle.apl_machine_state.specs.declared.operand.Operand.{Operand}
 use Rattle.apl_machine_state.specs.declared.operand.Operand.TheVariants.{Value, Slots}
-use Rattle.apl_machine_state.specs.declared.watch.Watch.TheVariants.{Trace}
+use Rattle.apl_machine_state.specs.declared.watch.Watch.TheVariants.{Stop, Trace}
 use Rattle.apl_machine_state.specs.Items.{Item, Rest, Given, Awaited, reduced, answered, cells, kinds}
 use Rattle.apl_machine_state.specs.Environment.{World, Context, Statement, Call, Execute, scene, environment, rest_of, with_rest, behind_statement}
 use Rattle.apl_machine_state.specs.Reports.{abandoned}
-use Rattle.apl_machine_state.specs.Watching.{arrow, blank, traced}
+use Rattle.apl_machine_state.specs.Watching.{arrow, blank, lines_array, traced}
 use Rattle.apl_machine_state.specs.Calls.{begun_line, answered_by, answered_in, given_to, result_of}
 use Rattle.apl_machine_state.specs.Outcomes.{Outcome, Becomes, Makes, Writes, Assigns, SetsOrigin, Enters, Watches, Faults}
-use Rattle.apl_machine_state.specs.Changes.{Change, Rests, Moves, AsksStops, Arrives, rebinds, change_by, line_end, leads_nowhere, aim, returns, resumed, branch_to, branch, escape_to, change_at_end, change_of, change_in, change}
+use Rattle.apl_machine_state.specs.Changes.{Change, Rests, Moves, Asks, Arrives, rebinds, change_by, line_end, leads_nowhere, aim, returns, resumed, branch_to, branch, escape_to, change_at_end, change_of, change_in, change}
 use Rattle.apl_machine_state.specs.State.{State, applied, arrived, comes_to}
 use Rattle.apl_resume.specs.Cut.{is_quiet}
 use Rattle.apl_resume.specs.Quiet.{IsCleanFunction, IsCleanMap, AreClean, IsCleanRest, IsCleanContext, AreCleanContexts, IsClean}
@@ -35,7 +35,8 @@ use Rattle.apl_resume.proofs.CleanOutcomes.{IsCleanOutcome, outcome-clean}
 abbrev pub IsCleanChange : Change → Type 0
 IsCleanChange Rests = Unit {0}
 IsCleanChange (Moves w contexts lines ended) = IsCleanMap w.globals × AreCleanContexts contexts
-IsCleanChange (AsksStops w name lines given) = ⊥
+IsCleanChange (Asks Stop w name lines given) = ⊥
+IsCleanChange (Asks Trace w name lines given) = IsCleanMap w.globals × ((a : Arr) → AreCleanContexts (given a))
 IsCleanChange (Arrives w d n locals below lines ended) = IsCleanMap w.globals × IsCleanFunction d × IsCleanMap locals × AreCleanContexts below
 
 change-if : (b : Bool) (x y : Change) → IsCleanChange x → IsCleanChange y → IsCleanChange (if b then x else y)
@@ -100,7 +101,7 @@ change_by-clean w context below rest n r (Assigns name array value) g c b h o =
 change_by-clean w context below rest n r (SetsOrigin io value) g c b h o = (g, gives-clean context below rest n r (Value value) c b h)
 change_by-clean w context below rest n r (Enters d x y) g c b h o =
     (g, o, call_map-clean (scene w (context ∷ below)) d x y, (with_rest-clean _ context c (replaced-clean n r Awaited rest.items refl h), b))
-change_by-clean w context below rest n r (Watches Trace name lines) g c b h o = (g, gives-clean context below rest n r _ c b h)
+change_by-clean w context below rest n r (Watches Trace name lines) g c b h o = (g, λ value. gives-clean context below rest n r (Value value) c b h)
 change_by-clean w context below rest n r (Faults fault) g c b h o = (g, abandoned-clean (context ∷ below) (c, b))
 change_by-clean w context below rest n r other g c b h o = absurd o
 
@@ -168,7 +169,8 @@ arrived-clean false s w d n locals below lines ended g f l h = record { globals 
 applied-clean : (s : State) (c : Change) → IsClean s → IsCleanChange c → (is_quiet c ≡ true) × IsClean (applied s c).state
 applied-clean s Rests h k = (refl, h)
 applied-clean s (Moves w contexts lines ended) h k = (refl, record { globals = k.0; contexts = k.1 })
-applied-clean s (AsksStops w name lines given) h k = absurd k
+applied-clean s (Asks Stop w name lines given) h k = absurd k
+applied-clean s (Asks Trace w name lines given) h k = (refl, record { globals = k.0; contexts = k.1 (lines_array (vector_of name w.traces)) })
 applied-clean s (Arrives w d n locals below lines ended) h k = (refl, arrived-clean (is_line d n) s w d n locals below lines ended k.0 k.1 k.2 k.3)
 
 pub step-clean : (s : State) → IsClean s → (is_quiet (change s.world s.contexts) ≡ true) × IsClean (applied s (change s.world s.contexts)).state

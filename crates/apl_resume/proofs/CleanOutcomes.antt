@@ -14,7 +14,7 @@ use Rattle.apl_code.specs.declared.row.Variable.{Variable}
 use Rattle.apl_code.specs.declared.row.Variable.TheVariants.{Name, System}
 use Rattle.apl_code.specs.declared.row.Row.{Row}
 use Rattle.apl_code.specs.declared.row.Row.TheVariants.{Index, Read, Call as CallRow, Monadic, Dyadic, Assign, AssignIndexed, Show}
-use Rattle.apl_primitives.specs.Taken.{Taken, One, Two, AlongOne}
+use Rattle.apl_primitives.specs.Taken.{Taken, One, Two, ListAndOne}
 use Rattle.apl_primitives.specs.Values.{phrase_value}
 use Rattle.apl_select.specs.Assignment.{assigned}
 use Rattle.apl_defn.specs.Definitions.{Text, Definition}
@@ -187,7 +187,7 @@ assign_slots-clean s (System systems.Origin) slots b = origin_result-clean s (as
 assign_slots-clean s (System name) slots b = tt
 
 assign_indexed-clean : (s : Scene) (v : Variable) (taken : Taken) → IsCleanOutcome (assign_indexed s v taken)
-assign_indexed-clean s v (AlongOne slots b) = assign_slots-clean s v slots b
+assign_indexed-clean s v (ListAndOne slots b) = assign_slots-clean s v slots b
 assign_indexed-clean s v taken = tt
 
 shown-clean : (taken : Taken) → IsCleanOutcome (shown taken)

@@ -3,13 +3,15 @@ use Rattle.std.proofs.Common.{◌≡◌, ℕ, zero, suc, ◌+◌, ◌≤◌, Lis
 use Rattle.std.specs.Prelude.{if◌then◌else◌, not, ◌&&◌}
 use Rattle.apl_defn.specs.Definitions.{Text, Definition, is_line}
 use Rattle.apl_names.specs.Maps.{Map}
-use Rattle.apl_vectors.specs.Vectors.{Vectors, has_line}
+use Rattle.apl_vectors.specs.Vectors.{Vectors, after_asking, has_line, vector_of}
 use Rattle.apl_machine_state.specs.declared.output.OutLine.{OutLine}
+use Rattle.apl_machine_state.specs.declared.watch.Watch.TheVariants.{Stop, Trace}
 use Rattle.apl_machine_state.specs.Items.{Rest}
+use Rattle.apl_machine_state.specs.Watching.{lines_array}
 use Rattle.apl_machine_state.specs.Environment.{World, Context, is_idle_in, is_suspended, rest_of}
 use Rattle.apl_machine_state.specs.Reports.{abandoned}
 use Rattle.apl_machine_state.specs.Calls.{begun_line, returned}
-use Rattle.apl_machine_state.specs.Changes.{Change, Rests, Moves, AsksStops, Arrives, change, change_in}
+use Rattle.apl_machine_state.specs.Changes.{Change, Rests, Moves, Asks, Arrives, change, change_in}
 use Rattle.apl_machine_state.specs.State.{State, Turn, turn, step, steps, is_idle, interrupt, interrupted, moved, comes_to, arrived, applied, stop_report}
 use Rattle.apl_resume.specs.Cut.{free, resumed, after_stop, cut_steps, stops_in, is_quiet, IsQuietRun, is_named_by, named_in, moves, count}
 use Rattle.apl_resume.proofs.Output.{plain-more, plain-stop}
@@ -39,7 +41,8 @@ arrived-free false s w d n locals below lines ended = moved-free s w (returned d
 applied-free : (s : State) (c : Change) → is_quiet c ≡ true → free (going (applied s c)) ≡ (applied (free s) c).state
 applied-free s Rests q = refl
 applied-free s (Moves w contexts lines ended) q = moved-free s w contexts lines ended
-applied-free s (AsksStops w name lines given) q = cc
+applied-free s (Asks Stop w name lines given) q = cc
+applied-free s (Asks Trace w name lines given) q = moved-free s (record w { traces = after_asking name lines w.traces }) (given (lines_array (vector_of name w.traces))) [] false
 applied-free s (Arrives w d n locals below lines ended) q = arrived-free (is_line d n) s w d n locals below lines ended
 
 comes-keeps : (b : Bool) (s : State) (w : World) (d : Definition) (n : ℕ) (locals : Map) (below : List Context) (lines : List Text) (ended : Bool) →
@@ -56,7 +59,8 @@ arrived-keeps false s w d n locals below lines ended = (refl, refl)
 applied-keeps : (s : State) (c : Change) → is_quiet c ≡ true → ((going (applied s c)).definition ≡ s.definition) × ((going (applied s c)).stops ≡ s.stops)
 applied-keeps s Rests q = (refl, refl)
 applied-keeps s (Moves w contexts lines ended) q = (refl, refl)
-applied-keeps s (AsksStops w name lines given) q = cc
+applied-keeps s (Asks Stop w name lines given) q = cc
+applied-keeps s (Asks Trace w name lines given) q = (refl, refl)
 applied-keeps s (Arrives w d n locals below lines ended) q = arrived-keeps (is_line d n) s w d n locals below lines ended
 
 comes-resumed : (b : Bool) (s : State) (w : World) (d : Definition) (n : ℕ) (locals : Map) (below : List Context) (lines : List Text) (ended : Bool) →
@@ -73,7 +77,8 @@ arrived-resumed false s w d n locals below lines ended h none stops = cc
 applied-resumed : (s : State) (c : Change) → s.definition ≡ None → (applied s c).stopped ≡ true → IsResumed (applied s c).state
 applied-resumed s Rests none stops = cc
 applied-resumed s (Moves w contexts lines ended) none stops = cc
-applied-resumed s (AsksStops w name lines given) none stops = cc
+applied-resumed s (Asks Stop w name lines given) none stops = cc
+applied-resumed s (Asks Trace w name lines given) none stops = cc
 applied-resumed s (Arrives w d n locals below lines ended) none stops = arrived-resumed (is_line d n) s w d n locals below lines ended refl none stops
 
 -- An idle state stays; a state that runs has no definition open.
@@ -108,7 +113,8 @@ goes_on false s r = refl
 applied-opens : (s : State) (c : Change) → (going (applied s c)).definition ≡ s.definition
 applied-opens s Rests = refl
 applied-opens s (Moves w contexts lines ended) = refl
-applied-opens s (AsksStops w name lines given) = refl
+applied-opens s (Asks Stop w name lines given) = refl
+applied-opens s (Asks Trace w name lines given) = refl
 applied-opens s (Arrives w d n locals below lines ended) = (arrived-keeps (is_line d n) s w d n locals below lines ended).0
 
 pub ready-next : (s : State) → IsReady s → IsReady (after_stop (turn s))
@@ -160,7 +166,8 @@ arrived-stops false s w d n locals below lines ended = refl
 pub applied-stops : (s : State) (c : Change) → (applied s c).stopped ≡ is_named_by s.stops c
 applied-stops s Rests = refl
 applied-stops s (Moves w contexts lines ended) = refl
-applied-stops s (AsksStops w name lines given) = refl
+applied-stops s (Asks Stop w name lines given) = refl
+applied-stops s (Asks Trace w name lines given) = refl
 applied-stops s (Arrives w d n locals below lines ended) = arrived-stops (is_line d n) s w d n locals below lines ended
 
 -- THE STOPS are the lines named among those that the other run comes to.

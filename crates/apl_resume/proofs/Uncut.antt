@@ -3,7 +3,7 @@ use Rattle.std.proofs.Common.{◌≡◌, ℕ, zero, suc, ◌+◌, ◌*◌, ◌�
 use Rattle.std.specs.Prelude.{if◌then◌else◌, not, ◌&&◌}
 use Rattle.apl_defn.specs.Definitions.{is_line}
 use Rattle.apl_vectors.specs.Vectors.{Vectors}
-use Rattle.apl_machine_state.specs.Changes.{Change, Rests, Moves, AsksStops, Arrives, change}
+use Rattle.apl_machine_state.specs.Changes.{Change, Rests, Moves, Asks, Arrives, change}
 use Rattle.apl_machine_state.specs.State.{State, turn, step, steps, is_idle, interrupt}
 use Rattle.apl_session.specs.Events.{typed}
 use Rattle.apl_resume.specs.Cut.{free, unstopped, resumed, after_stop, cut_steps, cut_by, stops_in, stops_by, IsQuietRun, is_named_by, named_in, moves, moves_by, count}
@@ -20,7 +20,7 @@ never false = refl
 named-nothing : (c : Change) → is_named_by [] c ≡ false
 named-nothing Rests = refl
 named-nothing (Moves w contexts lines ended) = refl
-named-nothing (AsksStops w name lines given) = refl
+named-nothing (Asks which w name lines given) = refl
 named-nothing (Arrives w d n locals below lines ended) = never (is_line d n)
 
 unstopped-step : (u : State) → u.stops ≡ [] → after_stop (turn u) ≡ step u

@@ -3,7 +3,8 @@ use Rattle.std.specs.Prelude.{◌≡◌, ℕ, zero, suc, ◌+◌, List, [], ◌�
 use Rattle.apl_defn.specs.Definitions.{is_line}
 use Rattle.apl_vectors.specs.Vectors.{Vectors, has_line}
 use Rattle.apl_machine_state.specs.declared.output.OutLine.{OutLine}
-use Rattle.apl_machine_state.specs.Changes.{Change, Arrives, AsksStops, change}
+use Rattle.apl_machine_state.specs.declared.watch.Watch.TheVariants.{Stop}
+use Rattle.apl_machine_state.specs.Changes.{Change, Arrives, Asks, change}
 use Rattle.apl_machine_state.specs.State.{State, Turn, turn, step, steps, is_idle, interrupt}
 use Rattle.apl_session.specs.Events.{typed}
 
@@ -56,7 +57,7 @@ uncut x line n = interrupt (steps n (typed (unstopped x) line))
 
 -- a change asks no stop vector
 abbrev pub is_quiet : Change → Bool
-is_quiet (AsksStops world name lines given) = false
+is_quiet (Asks Stop world name lines given) = false
 is_quiet change = true
 
 -- a run of n steps reduces no phrase of ⎕STOP

@@ -17,7 +17,8 @@ use Rattle.apl_names.specs.Maps.{Map}
 use Rattle.apl_machine_state.specs.Environment.{World, Context, Call}
 use Rattle.apl_machine_state.specs.Calls.{begun_line, returned}
 use Rattle.apl_machine_state.specs.Reports.{plain_lines}
-use Rattle.apl_machine_state.specs.Changes.{Change, Rests, Moves, AsksStops, Arrives, change}
+use Rattle.apl_machine_state.specs.declared.watch.Watch.TheVariants.{Stop, Trace}
+use Rattle.apl_machine_state.specs.Changes.{Change, Rests, Moves, Asks, Arrives, change}
 use Rattle.apl_machine_state.specs.State.{State, Turn, turn, is_idle, step, steps, interrupt, applied, arrived, comes_to, stop_report, with_lines, interrupted, definition_of, is_global_variable, with_function}
 use Rattle.apl_machine_state.specs.Objects.{erased, without_global}
 use Rattle.apl_machine_state.specs.Watching.{lines_array}
@@ -63,8 +64,10 @@ arrived-behind front false s w d n locals below lines ended =
 applied-behind : (front : List OutLine) (s : State) (c : Change) → (applied (behind front s) c).state ≡ behind front (applied s c).state
 applied-behind front s Rests = refl
 applied-behind front s (Moves world contexts lines ended) = lines-behind front (record s { world = world; contexts = contexts }) lines
-applied-behind front s (AsksStops w name lines given) =
+applied-behind front s (Asks Stop w name lines given) =
     lines-behind front (record s { world = w; stops = after_asking name lines s.stops; contexts = given (lines_array (vector_of name s.stops)) }) []
+applied-behind front s (Asks Trace w name lines given) =
+    lines-behind front (record s { world = record w { traces = after_asking name lines w.traces }; contexts = given (lines_array (vector_of name w.traces)) }) []
 applied-behind front s (Arrives w d n locals below lines ended) = arrived-behind front (is_line d n) s w d n locals below lines ended
 
 steps-behind : (front : List OutLine) (n : ℕ) (s : State) → steps n (behind front s) ≡ behind front (steps n s)

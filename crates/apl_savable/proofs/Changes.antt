@@ -15,8 +15,10 @@ use Rattle.apl_machine_state.specs.Items.{Item, Rest, answered, filled}
 use Rattle.apl_machine_state.specs.Environment.{World, Context, Statement, Call, Execute, behind_statement, origin_name, rest_of, with_rest}
 use Rattle.apl_machine_state.specs.Reports.{abandoned}
 use Rattle.apl_machine_state.specs.Calls.{answered_by, answered_in, begun_line, begun_of, given_to, result_of as answer_of, returned}
+use Rattle.apl_vectors.specs.Vectors.{after_asking}
 use Rattle.apl_machine_state.specs.Watching.{arrow, traced}
-use Rattle.apl_machine_state.specs.Changes.{Change, Rests, Moves, AsksStops, Arrives, aim, branch, branch_to, change_at_end, escape_to, leads_nowhere, line_end, resumed}
+use Rattle.apl_machine_state.specs.declared.watch.Watch.TheVariants.{Stop, Trace}
+use Rattle.apl_machine_state.specs.Changes.{Change, Rests, Moves, Asks, Arrives, aim, branch, branch_to, change_at_end, escape_to, leads_nowhere, line_end, resumed}
 use Rattle.apl_order.specs.Order.{HasHoles, IsBelow, holes}
 use Rattle.apl_order.proofs.Standing.{AreIdle, ArePendent, below-call, below-execute, below-statement}
 use Rattle.apl_savable.specs.Savable.{AreSavable, IsCalledBy, IsOriginBy, IsSavableContext, IsUnderWay, IsUnderWayIn}
@@ -112,7 +114,8 @@ pub record CanBegin (d : Definition) (locals : Map) (below : List Context) : Typ
 abbrev pub SavesAll : Change → Type 0
 SavesAll Rests = Unit {0}
 SavesAll (Moves w contexts lines ended) = Saves w contexts
-SavesAll (AsksStops w name lines given) = (a : Arr) → Saves w (given a)
+SavesAll (Asks Stop w name lines given) = (a : Arr) → Saves w (given a)
+SavesAll (Asks Trace w name lines given) = (a : Arr) → Saves (record w { traces = after_asking name lines w.traces }) (given a)
 SavesAll (Arrives w d n locals below lines ended) = Saves w below × CanBegin d locals below
 
 pub under-call : (d : Definition) (n : ℕ) (locals : Map) (rest : Option Rest) (below : List Context) → IsBelow (Call d n locals rest) below → AreSavable (Call d n locals rest ∷ below) → CanBegin d locals below

@@ -37,7 +37,7 @@ use Rattle.apl_machine_state.specs.Reports.{abandoned}
 use Rattle.apl_machine_state.specs.Calls.{line_begun}
 use Rattle.apl_machine_state.specs.Outcomes.{Outcome, Becomes, Makes, Writes, Assigns, SetsOrigin, Enters, Watches, Executes, Faults}
 use Rattle.apl_machine_state.specs.Watching.{lines_array}
-use Rattle.apl_machine_state.specs.Changes.{Change, Rests, Moves, AsksStops, Arrives, change, change_by, change_in, change_of}
+use Rattle.apl_machine_state.specs.Changes.{Change, Rests, Moves, Asks, Arrives, change, change_by, change_in, change_of}
 use Rattle.apl_machine_state.specs.Texts.{colon_of}
 use Rattle.apl_machine_state.specs.State.{State, applied, arrived, comes_to, interrupted, is_idle}
 use Rattle.apl_machine_state.specs.Beginning.{begun_by, started}
@@ -189,7 +189,7 @@ phrase-saves w c below rest n r (Enters d a e) x f none at b g h =
       },
     )
 phrase-saves w c below rest n r (Watches Stop name lines) x f none at b g h = λ value. saves-with w _ _ h (gives-value c below rest n r value x (f x) h.savable)
-phrase-saves w c below rest n r (Watches Trace name lines) x f none at b g h = record { origin = h.origin; named = h.named; savable = gives-value c below rest n r (lines_array (vector_of name w.traces)) x (f x) h.savable }
+phrase-saves w c below rest n r (Watches Trace name lines) x f none at b g h = λ value. record { origin = h.origin; named = h.named; savable = gives-value c below rest n r value x (f x) h.savable }
 phrase-saves w c below rest n r (Executes text tokens) x f none at b g h =
     let i = f x in
     let line = line_begun w (c ∷ below) tokens in
@@ -226,7 +226,8 @@ arrived-saves false s w d n locals below lines ended h c = saves-with w below _ 
 applied-saves : (s : State) (c : Change) → SavesState s → SavesAll c → SavesState (applied s c).state
 applied-saves s Rests h k = h
 applied-saves s (Moves w contexts lines ended) h k = k
-applied-saves s (AsksStops w name lines given) h k = k (lines_array (vector_of name s.stops))
+applied-saves s (Asks Stop w name lines given) h k = k (lines_array (vector_of name s.stops))
+applied-saves s (Asks Trace w name lines given) h k = k (lines_array (vector_of name w.traces))
 applied-saves s (Arrives w d n locals below lines ended) h k = arrived-saves (is_line d n) s w d n locals below lines ended k.0 k.1
 
 -- what is kept, and what is saved

@@ -34,7 +34,7 @@ use Rattle.apl_translate.specs.Translation.{action_of, result_of}
 use Rattle.apl_names.specs.declared.binding.Binding.{Binding}
 use Rattle.apl_names.specs.declared.binding.Binding.TheVariants as bindings
 use Rattle.apl_names.specs.Maps.{found}
-use Rattle.apl_primitives.specs.Taken.{Taken, One, Two, AlongOne}
+use Rattle.apl_primitives.specs.Taken.{Taken, One, Two, ListAndOne}
 use Rattle.apl_primitives.specs.Values.{phrase_value}
 use Rattle.apl_select.specs.Assignment.{assigned}
 use Rattle.apl_machine_state.specs.declared.operand.Operand.{Operand}
@@ -321,7 +321,7 @@ slots-right s r ss (System Origin) slots b g h = origin-result-right s r ss (ass
 slots-right s r ss (System name) slots b g h = tt
 
 assign-indexed-right : (s : Scene) (ss : List (Option Source)) (v : Variable) (taken : Taken) → IsSpelled v → IsRight s (AssignIndexed v) ss (assign_indexed s v taken)
-assign-indexed-right s ss v (AlongOne slots b) h = slots-right s (AssignIndexed v) ss v slots b refl h
+assign-indexed-right s ss v (ListAndOne slots b) h = slots-right s (AssignIndexed v) ss v slots b refl h
 assign-indexed-right s ss v taken h = tt
 
 shown-right : (s : Scene) (ss : List (Option Source)) (taken : Taken) → IsRight s Show ss (shown taken)

@@ -4,7 +4,8 @@ use Rattle.apl_defn.specs.Definitions.{Text, Definition, is_line}
 use Rattle.apl_names.specs.Maps.{Map}
 use Rattle.apl_machine_state.specs.declared.output.Progress.{Progress}
 use Rattle.apl_machine_state.specs.Environment.{World, Context}
-use Rattle.apl_machine_state.specs.Changes.{Change, Rests, Moves, AsksStops, Arrives, change}
+use Rattle.apl_machine_state.specs.declared.watch.Watch.TheVariants.{Stop, Trace}
+use Rattle.apl_machine_state.specs.Changes.{Change, Rests, Moves, Asks, Arrives, change}
 use Rattle.apl_machine_state.specs.State.{State, is_idle, step, steps, steps_progress, last_progress, progress_at, progress, turn, applied, arrived, comes_to}
 use Rattle.apl_vectors.specs.Vectors.{has_line}
 
@@ -25,7 +26,8 @@ arrived-within d false s w f n locals below lines ended = refl
 applied-within : (d : Option (List Text)) (s : State) (c : Change) → (applied (within d s) c).state ≡ within d (applied s c).state
 applied-within d s Rests = refl
 applied-within d s (Moves w contexts lines ended) = refl
-applied-within d s (AsksStops w name lines given) = refl
+applied-within d s (Asks Stop w name lines given) = refl
+applied-within d s (Asks Trace w name lines given) = refl
 applied-within d s (Arrives w f n locals below lines ended) = arrived-within d (is_line f n) s w f n locals below lines ended
 
 pub steps-within : (d : Option (List Text)) (n : ℕ) (s : State) → steps n (within d s) ≡ within d (steps n s)
@@ -45,7 +47,8 @@ arrived-progress d false s w f n locals below lines ended = refl
 applied-progress : (d : Option (List Text)) (s : State) (c : Change) → progress (applied (within d s) c) ≡ progress (applied s c)
 applied-progress d s Rests = refl
 applied-progress d s (Moves w contexts lines ended) = refl
-applied-progress d s (AsksStops w name lines given) = refl
+applied-progress d s (Asks Stop w name lines given) = refl
+applied-progress d s (Asks Trace w name lines given) = refl
 applied-progress d s (Arrives w f n locals below lines ended) = arrived-progress d (is_line f n) s w f n locals below lines ended
 
 last_progress-within : (d : Option (List Text)) (before : Progress) (n : ℕ) (s : State) → last_progress before n (within d s) ≡ last_progress before n s

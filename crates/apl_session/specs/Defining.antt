@@ -2,6 +2,7 @@
 use Rattle.std.specs.Prelude.{ℕ, nat_le, Bool, ◌==◌, not, List, [], ◌∷◌, ◌++◌, length, take, drop, filter, Option, Some, None, Result, Ok, Err, if◌then◌else◌}
 use Rattle.std.specs.List.{position}
 use Rattle.std.specs.Str.{bytes_eq}
+use Rattle.apl_symbols.specs.Names.{is_short_enough}
 use Rattle.apl_faults.specs.declared.fault.Fault.{Fault}
 use Rattle.apl_faults.specs.declared.fault.Fault.TheVariants.{Defn}
 use Rattle.apl_faults.specs.Report.{name_of}
@@ -49,9 +50,9 @@ request = 0x5B ∷ 0x2395 ∷ 0x5D ∷ 0x2207 ∷ []
 abbrev pub spells : Text → Text → Bool
 spells text marks = bytes_eq (filter (λ c. not (c == 32)) text) marks
 
--- a word as a name, which has at most 32 characters; a word that is no name has no function
+-- a word as a name, if it is short enough for one; a word that is no name has no function
 abbrev pub name_in : Text → Option Text
-name_in word = if nat_le (length word) 32 then Some word else None
+name_in word = if is_short_enough word then Some word else None
 
 -- the name before its [, where [⎕]∇ stands from there on
 abbrev pub shown_before : Text → Option ℕ → Option Text

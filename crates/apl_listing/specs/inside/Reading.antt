@@ -5,6 +5,7 @@ use Rattle.std.specs.Prelude.{List, [], ◌∷◌, map, Option, Some, None, opti
 use Rattle.std.specs.List.{insert}
 use Rattle.std.specs.Str.{bytes_eq}
 use Rattle.apl_symbols.specs.Glyphs.{symbol_of}
+use Rattle.apl_symbols.specs.Names.{is_short_enough}
 use Rattle.apl_symbols.specs.SystemNames.{system_named}
 use Rattle.apl_symbols.specs.declared.primitive.Operator.{Operator}
 use Rattle.apl_symbols.specs.declared.primitive.Operator.TheVariants as operator
@@ -61,8 +62,9 @@ abbrev pub source_of : List ℕ → Option Source
 source_of [] = None
 source_of (c ∷ cs) = if c == 83 then Some Stack else (if c == 35 then Some (Constant (number_of cs)) else None)
 
+-- a word as a name, if it is short enough for one
 abbrev pub name_of : List ℕ → Option (List ℕ)
-name_of w = if nat_le (length w) 32 then Some w else None
+name_of w = if is_short_enough w then Some w else None
 
 abbrev pub primitive_in : Option Symbol → Option Function
 primitive_in (Some (symbol.Primitive p)) = Some (function.Primitive p)
