@@ -122,6 +122,8 @@ def functions_and_variables(trial: Trial) -> str:
     tab.typed(*HALF, "M←2 3⍴⍳6", "T←'AB'")
     same(tab.run("[...document.querySelectorAll('#variables li')].map(it => it.textContent).join(';')"), "M numbers, 2 by 3;T characters, 2")
     tab.click("#functions button")
+    tab.until("!document.getElementById('listing').hidden")
+    tab.click("#listing header button")
     tab.until("document.getElementById('function').open")
     same(tab.run("document.querySelector('#function textarea').value"), "Z←HALF N\nZ←N÷2\n")
     tab.run("document.querySelector('#function textarea').value = 'Z←HALF N\\nZ←(N-2|N)'; document.querySelector('#function textarea').setSelectionRange(99, 99)")
