@@ -121,9 +121,8 @@ def symbols_of(text: str) -> list[str]:
         it = code[0] or code[1]
         if it != "[K]":
             it = it.replace("[K]", "").replace("[⎕]", "")
-        words = re.findall(r"⎕[A-Z]+|\)[A-Z]+|[^A-Za-z0-9 ]", it)
-        found += [word for word in words if word not in found]
-    return found
+        found += re.findall(r"⎕[A-Z]+|\)[A-Z]+|[^A-Za-z0-9 ]", it)
+    return list(dict.fromkeys(found))
 
 
 def entries() -> list[dict[str, Any]]:
@@ -158,8 +157,8 @@ def reference() -> dict[str, Any]:
             if where == "words" and symbols_of(it["title"]):
                 continue
             for symbol in symbols_of(text):
-                if symbol not in known and n not in of.setdefault(symbol, []):
-                    of[symbol].append(n)
+                if symbol not in known:
+                    of.setdefault(symbol, []).append(n)
     return {"entries": found, "of": of}
 
 

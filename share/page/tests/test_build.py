@@ -105,6 +105,22 @@ class Assembling(unittest.TestCase):
         self.assertLessEqual(set(shown["examples"]), characters)
         self.assertEqual(set(shown["meanings"]), characters)
 
+    def test_each_character_has_an_entry_of_the_reference(self) -> None:
+        shown = content.content()
+        entries, of = shown["reference"]["entries"], shown["reference"]["of"]
+        self.assertEqual(set(shown["meanings"]) - set(of), {"`"})
+        self.assertLessEqual({"⎕IO", "⎕LC", "⎕NC", "⎕STOP", "⎕TRACE", ")SI", ")FNS", ")VARS", ")ERASE", ")CLEAR", "[", "]", ";", "(", ")", "+", ":"}, set(of))
+        self.assertEqual([entries[n]["title"] for n in of["⍳"]], ["`⍳B` count", "`A⍳B` index of"])
+        self.assertEqual([entries[n]["title"] for n in of["'"]], ["Texts"])
+        self.assertNotIn("`--", str(entries))
+        self.assertNotIn("bin/apl-terminal", str(entries))
+        self.assertIn("the button Interrupt", str(entries))
+
+    def test_symbols(self) -> None:
+        self.assertEqual(content.symbols_of("`A ⎕STOP B`, `⎕STOP B` stops, `)SI`, `` `- ``"), ["⎕STOP", ")SI", "`", "-"])
+        self.assertEqual(content.symbols_of("`A,[K]B` and `∇F[⎕]∇`"), [",", "∇"])
+        self.assertEqual(content.symbols_of("`[K]`"), ["[", "]"])
+
     def test_the_guides(self) -> None:
         pages = {it["name"]: it for it in content.content()["pages"]}
         self.assertEqual(len(pages), 7)
