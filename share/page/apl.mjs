@@ -247,6 +247,7 @@ class Page {
         it('step').onclick = () => this.#step();
         it('give-up').onclick = () => this.type(['→']);
         it('ask').onclick = () => this.#explain();
+        it('line').addEventListener('input', () => { this.#pointed = ''; });
         it('ask').onpointerdown = event => event.preventDefault();
         it('new-function').onclick = () => this.window.open('');
         it('file').onchange = ({ target }) => {
