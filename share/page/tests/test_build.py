@@ -48,6 +48,12 @@ class Retargeting(unittest.TestCase):
             with self.assertRaises(retarget.NotThePage):
                 retargeted(line)
 
+    def test_a_place_behind_a_pointer_is_told_not_to_wrap(self) -> None:
+        line = "  %r2 = getelementptr i8, ptr %r1, i64 {}\n"
+        self.assertEqual(retargeted(line.format(16)), ["  %r2 = getelementptr nuw i8, ptr %r1, i64 16\n"])
+        for other in ("-16", "%r3", "4294967296"):
+            self.assertEqual(retargeted(line.format(other)), [line.format(other)])
+
     def test_the_place(self) -> None:
         self.assertEqual(retarget.place_size([*MAIN, *OPEN], "apl_page"), 2608)
         for changed in ([*MAIN, OPENS, "}\n"], [*MAIN[:1], *MAIN[2:], *OPEN], OPEN):
