@@ -1,12 +1,14 @@
 /** The page: what stands in it, and what its buttons and keys do. */
-import { CONTENT } from './content.mjs';
 import { Entry, typeByKeys } from './entry.mjs';
 import { Guide } from './guide.mjs';
+import { Help } from './help.mjs';
+import { Listing } from './listing.mjs';
 import { Machine } from './machine.mjs';
+import { menu } from './menu.mjs';
 import { FunctionWindow, make, showFunctions, showLevels, showVariables } from './panels.mjs';
 import { Session } from './session.mjs';
 import { Store, lock } from './store.mjs';
-import { levels, meaning, names } from './text.mjs';
+import { levels, meaning, names, refusedText, spoken, stepLines, symbolAt } from './text.mjs';
 import { Transcript } from './transcript.mjs';
 import { showBar } from './bar.mjs';
 
@@ -30,28 +32,43 @@ class Page {
     #named = null;
     #standing = null;
     #lasting = null;
+    #heard = '';            // what was written since the last line that was typed, to be read aloud
+    #pointed = '';          // the character of the bar that is pointed at
     session = null;
 
-    constructor(source) {
-        this.source = source;
+    constructor(source, content) {
+        Object.assign(this, { source, content });
         this.name = named(location.hash.slice(1)) || FIRST;
         // What is pointed at is shown; what is told is read aloud too.
-        this.show = text => { it('hint').textContent = text; };
-        this.say = text => { it('hint').textContent = it('told').textContent = text; };
-        const keys = new Map(CONTENT.keys);
+        this.show = (text, character = '') => {
+            it('hint').textContent = text;
+            this.#pointed = character;
+        };
+        this.say = text => {
+            it('hint').textContent = text;
+            this.speak(text);
+        };
+        const keys = new Map(content.keys);
         this.entry = new Entry({
             line: it('line'), label: it('prompt'), form: it('form'), keys, known: () => this.#words,
             enter: lines => this.type(lines), say: this.say,
         });
         this.transcript = new Transcript(it('transcript'), line => this.entry.set(line));
-        this.window = new FunctionWindow(it('function'), lines => this.typeAlone(lines));
+        this.window = new FunctionWindow(it('function'), lines => this.#define(lines));
+        const closed = () => this.entry.focus();
+        this.listing = new Listing(it('listing'), {
+            type: line => this.typeAlone([line], true), edit: name => this.edit(name), say: this.say, closed,
+        });
+        this.help = new Help(it('help'), {
+            reference: content.reference, meanings: content.meanings, put: line => this.entry.set(line), closed, say: this.say,
+        });
         this.guide = new Guide({
             place: it('guide'), type: lines => this.type(lines), put: line => this.entry.set(line), anew: (page, step) => this.begin(page, step),
             moved: () => this.session?.keepSoon(),
         });
         typeByKeys(this.window.text, keys);
-        showBar(it('function').querySelector('.bar'), CONTENT, { put: text => this.window.put(text), say: this.show });
-        showBar(it('bar'), CONTENT, { put: text => this.entry.put(text), say: this.show });
+        showBar(it('function').querySelector('.bar'), content, { put: text => this.window.put(text), say: this.show });
+        showBar(it('bar'), content, { put: text => this.entry.put(text), say: this.show, explain: character => this.help.open(character) });
         this.#menus();
         this.#buttons();
         it('name').textContent = this.name;
@@ -102,7 +119,7 @@ class Page {
 
     /** Opens a guide where it was left, if there is one. */
     #guided(at) {
-        const page = CONTENT.pages.find(page => page.name === at?.page);
+        const page = this.content.pages.find(page => page.name === at?.page);
         if (page) this.guide.open(page, at.step);
     }
 
@@ -111,19 +128,32 @@ class Page {
         return {
             opened: next => { this.entry.number(next); this.entry.focus(); },
             typed: (line, number) => this.transcript.typed(line, number),
-            wrote: wrote => this.transcript.wrote(wrote),
+            wrote: wrote => {
+                this.transcript.wrote(wrote);
+                this.#heard += wrote.front + wrote.back;
+            },
             note: text => this.transcript.note(text),
             undone: (why, lines) => this.#undone(why, lines),
             ended: next => { this.entry.number(next); },
             running: (isRunning, byForce) => this.#running(isRunning, byForce),
             state: (named, standing) => this.#state(named ?? '', standing ?? ''),
-            calls: calls => showLevels(it('levels'), this.#levels, calls, name => this.edit(name)),
+            calls: calls => {
+                showLevels(it('levels'), this.#levels, calls, name => this.list(name));
+                if (this.listing.name) this.list(this.listing.name, true);
+            },
             kept: size => { it('kept').textContent = `Kept in this browser, ${size.toLocaleString('en')} bytes`; },
             unkept: why => this.banner(`What is typed now isn't kept: ${why}. Download the workspace before you close the page.`),
         };
     }
 
-    type(lines) {
+    /** Has text read aloud, though it be what was read before. */
+    speak(text) {
+        const told = it('told');
+        told.textContent = text && text === told.textContent ? `${text}\u00a0` : text;
+    }
+
+    /** Types lines. The cursor goes to the line, unless it stays where it is. */
+    type(lines, stays = false) {
         if (!this.session) {
             this.entry.set(lines.join(''));
             return;
@@ -132,13 +162,31 @@ class Page {
         this.#lasting ??= navigator.storage?.persist?.().catch(() => false) ?? true;
         for (const line of lines) this.entry.remember(line);
         this.session.type(lines);
-        this.entry.focus();
+        if (!stays) this.entry.focus();
     }
 
-    /** Types lines that are statements or a definition of their own, where no definition is open that would take them. */
-    typeAlone(lines) {
+    /** Types lines that are statements, where no definition is open that would take them, and tells whether they are typed. */
+    typeAlone(lines, stays = false) {
         if (this.session?.next) this.say('A definition is open: close it by ∇ first.');
-        else this.type(lines);
+        else this.type(lines, stays);
+        return !this.session?.next;
+    }
+
+    /** Types the lines of a definition, and gives why it is refused and at which line, or null. */
+    async #define(lines) {
+        if (!this.session || this.session.isRunning) return { text: 'A line runs: define it when that has ended.' };
+        if (this.session.next) return { text: 'A definition is open: close it by ∇ first.' };
+        for (const line of lines) this.entry.remember(line);
+        const refused = await this.session.define(lines);
+        return refused && { text: refusedText(refused), at: refused.at };
+    }
+
+    /** Types what makes the suspended call go on to its next line. */
+    async #step() {
+        const [{ name }] = this.#levels, found = await this.session.listing(name);
+        const lines = found && stepLines(name, found.text.trimEnd().split('\n').length - 1, found.stop);
+        if (lines) this.typeAlone(lines);
+        else this.say(found ? 'So many stops are too long for one typed line.' : `There is no function ${name} now.`);
     }
 
     #running(isRunning, byForce) {
@@ -146,27 +194,45 @@ class Page {
         it('interrupt').disabled = !isRunning;
         it('interrupt').textContent = byForce ? 'Stop by force' : 'Interrupt';
         if (byForce) this.say('The line is in the midst of a long step. To stop it by force goes back to the workspace that was kept last.');
-        it('resume').disabled = it('give-up').disabled = isRunning || !this.#levels.length || this.session?.next > 0;
+        for (const name of ['resume', 'step', 'give-up']) it(name).disabled = isRunning || !this.#levels.length || this.session?.next > 0;
     }
 
     #state(named, standing) {
+        const next = this.session?.next, heard = spoken(this.#heard, this.content.meanings);
+        this.#heard = '';
+        if (heard || next) this.speak([heard, next && `Line ${next} of the definition`].filter(Boolean).join('\n'));
         this.#running(false, false);
         if (named === this.#named && standing === this.#standing) return;
         [this.#named, this.#standing] = [named, standing];
         const { functions, variables } = names(named);
         this.#levels = levels(standing);
         this.#words = [...functions, ...variables].map(it => it.name);
-        showLevels(it('levels'), this.#levels, null, name => this.edit(name));
+        showLevels(it('levels'), this.#levels, null, name => this.list(name));
         showVariables(it('variables'), variables, name => this.typeAlone([name]));
-        showFunctions(it('functions'), functions, name => this.edit(name));
+        showFunctions(it('functions'), functions, name => this.list(name));
         this.#running(false, false);
+    }
+
+    /** Shows a function's lines at the side; again where it is the one that is shown, whose lines may have changed. */
+    async list(name, isAgain = false) {
+        const found = await this.session.listing(name);
+        if (isAgain && this.listing.name !== name) return;
+        if (found) this.listing.show(name, found, this.#levels.filter(it => it.name === name).map(it => it.number));
+        else if (!this.session.isRunning) this.listing.close();
+        if (isAgain) return;
+        if (found) this.listing.focus();
+        else this.#untold(name);
+    }
+
+    #untold(name) {
+        this.say(this.session.isRunning ? 'A line runs: its functions are shown when it has ended.' : `There is no function ${name} now.`);
     }
 
     /** Shows a function's lines to be changed. */
     async edit(name) {
-        const text = await this.session?.listing(name);
-        if (text === null) this.say(`There is no function ${name} now.`);
-        else this.window.open(text);
+        const found = await this.session.listing(name);
+        if (found) this.window.open(found.text);
+        else this.#untold(name);
     }
 
     /** Tells what must not be missed; with no text it is taken away. */
@@ -178,7 +244,11 @@ class Page {
     #buttons() {
         it('interrupt').onclick = () => this.session?.interrupt();
         it('resume').onclick = () => this.type(['→⎕LC']);
+        it('step').onclick = () => this.#step();
         it('give-up').onclick = () => this.type(['→']);
+        it('ask').onclick = () => this.#explain();
+        it('line').addEventListener('input', () => { this.#pointed = ''; });
+        it('ask').onpointerdown = event => event.preventDefault();
         it('new-function').onclick = () => this.window.open('');
         it('file').onchange = ({ target }) => {
             if (target.files[0]) this.openFile(target.files[0]);
@@ -186,35 +256,31 @@ class Page {
         };
         document.addEventListener('keydown', event => {
             if (event.ctrlKey && event.key === 'c' && !String(getSelection()) && it('line').selectionStart === it('line').selectionEnd) this.session?.interrupt();
+            if (it('function').open) return;
+            if (event.key === 'F1' || event.key === '?' && !event.target.matches('input, select, textarea')) {
+                event.preventDefault();
+                this.#explain();
+            } else if (event.key === 'Escape' && this.help.isOpen && !event.defaultPrevented) {
+                this.help.close();
+            }
         });
         document.addEventListener('visibilitychange', () => document.hidden && this.session?.flush());
         addEventListener('hashchange', () => location.reload());
     }
 
-    /** Menus are filled when they are opened, and closed by Escape or by what is chosen. */
+    /** Opens the entry of the character of the bar that is pointed at, or else of the symbol at the cursor. */
+    #explain() {
+        this.help.open(this.#pointed || symbolAt(it('line').value, it('line').selectionStart));
+    }
+
     #menus() {
-        const menu = (details, rows) => {
-            const close = () => { details.open = false; };
-            details.addEventListener('toggle', async () => {
-                if (!details.open) return;
-                const found = await rows();
-                details.querySelector('div').replaceChildren(...found.map(row => row
-                    ? make('button', { type: 'button', 'aria-current': String(!!row[2]), onclick: () => { close(); row[1](); } }, row[0]) : make('hr')));
-            });
-            details.addEventListener('keydown', event => {
-                if (event.key !== 'Escape') return;
-                close();
-                details.querySelector('summary').focus();
-            });
-            document.addEventListener('pointerdown', ({ target }) => details.contains(target) || close());
-        };
         menu(it('workspaces'), async () => {
             const stored = await this.store?.names() ?? [];
             return [...stored.map(name => [name, () => this.go(name), name === this.name]), null,
                 ['New workspace …', () => this.#create()], ['Open a file …', () => it('file').click()], ['Download', () => this.download()],
                 ['Delete this workspace …', () => this.#delete()]];
         });
-        menu(it('guides'), () => CONTENT.pages.map(page => [page.title, () => this.learn(page)]));
+        menu(it('guides'), () => [...this.content.pages.map(page => [page.title, () => this.learn(page)]), null, ['Reference (F1)', () => this.help.open('')]]);
     }
 
     /** Opens a guide's workspace, which is made where it isn't kept yet, and the guide beside it. */
@@ -309,11 +375,12 @@ class Page {
     }
 }
 
-/** Begins the page, whose module comes from `load`; `source` is this script's address, which the worker is begun with. */
-export async function show(source, load) {
+/** Begins the page, whose module comes from `load`, and which shows what comes from `content`; `source` is this script's address, which the worker is
+ * begun with. */
+export async function show(source, load, content) {
     try {
         const module = load();
-        await new Page(source).open(module);
+        await new Page(source, await content()).open(module);
     } catch (error) {
         it('state').textContent = `The machine can't begin: ${error?.message || error}`;
     }

@@ -1,17 +1,27 @@
 /** The language bar: a button for each character, whose name, key and example are told where it is pointed at. */
 import { make } from './panels.mjs';
 
-export function showBar(bar, { keys, examples, meanings }, { put, say }) {
+/** `put` is called with a character to be typed, `say` with what is to be told and of which character, and `explain` with one whose entry is asked
+ * for. */
+export function showBar(bar, { keys, examples, meanings }, { put, say, explain }) {
     const buttons = keys.filter(([, character]) => character !== '`').map(([key, character]) => {
         const example = examples[character], told = example ? `${example[0]} gives ${example[1]}` : '';
         const it = make('button', {
-            type: 'button', title: [meanings[character], `Key: \` ${key}`, told].filter(Boolean).join('\n'), tabIndex: -1,
-            'aria-label': meanings[character], 'aria-description': `Backquote ${key}. ${told}`,
+            type: 'button', title: [meanings[character], `Key: \` ${key}`, told, explain ? 'F1 or the right button: more' : ''].filter(Boolean).join('\n'),
+            tabIndex: -1, 'aria-label': meanings[character], 'aria-description': `Backquote ${key}. ${told}`,
             onclick: () => put(character),
         }, character);
-        const tell = () => say(`${character}  ${meanings[character]}   key \` ${key}${example ? `   ${example[0]}  gives  ${example[1]}` : ''}`);
+        const tell = () => say(`${character}  ${meanings[character]}   key \` ${key}${example ? `   ${example[0]}  gives  ${example[1]}` : ''}${explain ? '   F1 tells more' : ''}`,
+            character);
         it.addEventListener('pointerenter', tell);
         it.addEventListener('focus', tell);
+        it.addEventListener('blur', () => say(''));
+        if (explain) {
+            it.addEventListener('contextmenu', event => {
+                event.preventDefault();
+                explain(character);
+            });
+        }
         // The cursor stays in the line.
         it.addEventListener('pointerdown', event => event.preventDefault());
         return it;

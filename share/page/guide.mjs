@@ -2,7 +2,7 @@
 import { make } from './panels.mjs';
 
 /** Words with `code` and **strong** among them. */
-function worded(text) {
+export function worded(text) {
     return text.split(/(``.+?``|`.+?`|\*\*.+?\*\*)/).map(it => {
         if (it.startsWith('**')) return make('strong', null, ...worded(it.slice(2, -2)));
         if (it.startsWith('``')) return make('code', null, it.slice(2, -2).replace(/^ (.*) $/, '$1'));
@@ -16,6 +16,17 @@ function table(rows) {
     const [head, ...body] = cells;
     return make('table', null, make('tr', null, ...head.map(it => make('th', { scope: 'col' }, ...worded(it)))),
         ...body.map(row => make('tr', null, ...row.map(it => make('td', null, ...worded(it))))));
+}
+
+/** A block of a page: words, a table, a listing, or a session, whose lines `put` is called with where they are pressed. */
+export function blockOf({ kind, lines }, put) {
+    if (kind === 'text') return make('p', null, ...worded(lines.join(' ')));
+    if (kind === 'table') return table(lines);
+    if (kind === 'plain') return make('pre', null, lines.join('\n'));
+    const shown = lines.map(({ typed, text }) => typed
+        ? make('button', { type: 'button', className: 'line', 'aria-label': `Take the line ${text}`, onclick: () => put(text) }, `      ${text}`)
+        : make('span', null, text + '\n'));
+    return make('pre', null, ...shown);
 }
 
 export class Guide {
@@ -72,16 +83,6 @@ export class Guide {
             make('button', { type: 'button', onclick: () => this.anew(this.#page, this.#step) }, 'Open it anew'));
     }
 
-    #block({ kind, lines }) {
-        if (kind === 'text') return make('p', null, ...worded(lines.join(' ')));
-        if (kind === 'table') return table(lines);
-        if (kind === 'plain') return make('pre', null, lines.join('\n'));
-        const shown = lines.map(({ typed, text }) => typed
-            ? make('button', { type: 'button', className: 'line', 'aria-label': `Take the line ${text}`, onclick: () => this.put(text) }, `      ${text}`)
-            : make('span', null, text + '\n'));
-        return make('pre', null, ...shown);
-    }
-
     #show() {
         const { title, steps } = this.#page, step = steps[this.#step], last = steps.length - 1;
         const typed = step.blocks.flatMap(it => it.kind === 'apl' ? it.lines.filter(line => line.typed).map(line => line.text) : []);
@@ -90,7 +91,7 @@ export class Guide {
         this.#place.replaceChildren(
             make('header', null, make('span', null, title), this.#choice(steps), press('Close', false, () => this.close())),
             make('h2', { tabIndex: -1 }, step.title),
-            ...step.blocks.flatMap(it => it.anew ? [this.#beginning(), this.#block(it)] : [this.#block(it)]),
+            ...step.blocks.flatMap(it => it.anew ? [this.#beginning(), blockOf(it, this.put)] : [blockOf(it, this.put)]),
             make('footer', null, press('Back', this.#step === 0, () => this.#go(this.#step - 1)), press('Type these lines', !typed.length, () => this.type(typed)),
                 press('Next', this.#step === last, () => this.#go(this.#step + 1))));
         this.#place.scrollTop = 0;

@@ -2,16 +2,16 @@
 import { show } from './apl.mjs';
 import { work } from './worker.mjs';
 
-/** The module that stands in the page as base64 of gzip. */
-function unpacked(text) {
-    const packed = Uint8Array.from(atob(text), character => character.charCodeAt(0));
-    return new Response(new Blob([packed]).stream().pipeThrough(new DecompressionStream('gzip'))).arrayBuffer();
+/** What stands in an element of the page as base64 of gzip. */
+function unpacked(element) {
+    const packed = Uint8Array.from(atob(element.textContent.trim()), character => character.charCodeAt(0));
+    return new Response(new Blob([packed]).stream().pipeThrough(new DecompressionStream('gzip')));
 }
 
 async function fetched() {
     const answer = await fetch('apl.wasm');
     if (!answer.ok) throw new Error(`apl.wasm: ${answer.status}`);
-    return answer.arrayBuffer();
+    return answer;
 }
 
 if (typeof document === 'undefined') {
@@ -19,5 +19,6 @@ if (typeof document === 'undefined') {
 } else {
     const script = document.currentScript, inside = document.getElementById('module');
     const source = script.src || URL.createObjectURL(new Blob([script.textContent], { type: 'text/javascript' }));
-    show(source, async () => WebAssembly.compile(await (inside ? unpacked(inside.textContent.trim()) : fetched())));
+    const module = async () => WebAssembly.compile(await (await (inside ? unpacked(inside) : fetched())).arrayBuffer());
+    show(source, module, () => unpacked(document.getElementById('content')).json());
 }

@@ -41,26 +41,24 @@ export function showFunctions(list, functions, open) {
     fill(list, functions.map(it => button(it.name, `${it.header}. Show its lines`, () => open(it.name), make('code', { className: 'dim' }, ` ${it.header}`))));
 }
 
-/** The window in which a function's lines are read and changed. */
+/** The window in which a function's lines are changed. It stays open, with what was changed, until the function is defined. */
 export class FunctionWindow {
     #window;
     #text;
     #why;
+    #begun = '';            // the text that it was opened with
 
-    /** `type` is called with the lines that define the function. */
-    constructor(window_, type) {
+    /** `define` is called with the lines that define the function, and gives why they are refused, or null. */
+    constructor(window_, define) {
         this.#window = window_;
         this.#text = window_.querySelector('textarea');
         this.#why = window_.querySelector('[role=alert]');
+        const isLeft = () => this.#text.value === this.#begun || confirm('Leave what was changed here?');
+        window_.addEventListener('cancel', event => isLeft() || event.preventDefault());
         window_.querySelector('form').addEventListener('submit', event => {
-            if (event.submitter?.value !== 'define') return;
-            const { lines, why } = definition(this.#text.value);
-            if (why) {
-                event.preventDefault();
-                this.#why.textContent = why;
-            } else {
-                type(lines);
-            }
+            event.preventDefault();
+            if (event.submitter?.value === 'define') this.#define(define);
+            else if (isLeft()) window_.close();
         });
     }
 
@@ -77,10 +75,25 @@ export class FunctionWindow {
     /** Shows a function by its header and lines. */
     open(listing) {
         this.#why.textContent = '';
-        this.#text.value = listing;
+        this.#text.value = this.#begun = listing;
         this.#text.rows = Math.min(24, Math.max(6, listing.split('\n').length + 1));
         this.#window.showModal();
         this.#text.focus();
         this.#text.setSelectionRange(0, 0);
+    }
+
+    async #define(define) {
+        const { lines, why, at } = definition(this.#text.value), refused = lines ? await define(lines) : { text: why, at };
+        if (refused) this.#refuse(refused);
+        else this.#window.close();
+    }
+
+    /** Says why nothing was defined, and selects the line that is refused. */
+    #refuse({ text, at }) {
+        this.#why.textContent = text;
+        this.#text.focus();
+        if (at === undefined) return;
+        const lines = this.#text.value.split('\n'), from = lines.slice(0, at).join('\n').length + (at ? 1 : 0);
+        this.#text.setSelectionRange(from, from + lines[at].length);
     }
 }

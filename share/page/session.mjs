@@ -19,6 +19,7 @@ export class Session {
     #questions = new Map();
     #waiting = [];          // who waits for the file of the state that stands
     #isOpen = false;
+    #defining = null;       // who waits for what a definition comes to
     isRunning = false;
     next = 0;
 
@@ -62,6 +63,8 @@ export class Session {
         this.#questions.forEach(done => done(null));
         this.#questions.clear();
         this.#waiting.splice(0).forEach(done => done());
+        this.#defining?.({ why: `the machine was begun again: ${why}` });
+        this.#defining = null;
         this.#setRunning(false);
         this.#start();
     }
@@ -82,6 +85,17 @@ export class Session {
         this.#worker.postMessage({ what: 'lines', lines });
     }
 
+    /** Types the lines of a definition, and gives why it is refused, or null: the line `at` which it is (0 is the header) and a `report` of that line; the
+     * machine's `number` where a line wasn't done; or `why` the machine was begun again. */
+    define(lines) {
+        return new Promise(done => {
+            this.#defining = done;
+            this.#setRunning(true);
+            this.#sent.push(...lines);
+            this.#worker.postMessage({ what: 'define', lines });
+        });
+    }
+
     /** Interrupts the line that runs. Where it is in the midst of a long step, this may be asked for again, and is then done by force. */
     interrupt() {
         if (!this.isRunning) return;
@@ -97,7 +111,7 @@ export class Session {
         }, PATIENCE);
     }
 
-    /** The header and the lines of a function, or null. */
+    /** The header and the lines of a function with its stops and traces, or null; null too while a line runs. */
     listing(name) {
         return new Promise(done => {
             const question = Math.random();
@@ -197,6 +211,12 @@ export class Session {
         this.tell.undone('Lines that were to follow are not typed.', lines);
     }
 
+    _defined({ left, refused }) {
+        this.#sent.splice(0, left);
+        this.#defining?.(refused);
+        this.#defining = null;
+    }
+
     _state({ names, levels }) {
         this.#setRunning(false);
         this.tell.state(names, levels);
@@ -215,8 +235,8 @@ export class Session {
         this.#waiting.splice(0).forEach(done => done());
     }
 
-    _listing({ question, text }) {
-        this.#questions.get(question)?.(text);
+    _listing({ question, found }) {
+        this.#questions.get(question)?.(found);
         this.#questions.delete(question);
     }
 

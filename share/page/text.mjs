@@ -5,7 +5,7 @@ const REPORT = /^(?:(?:SYNTAX|VALUE|DOMAIN|RANK|LENGTH|INDEX|AXIS|LIMIT) ERROR|I
 const ONE_LINE = /^(?:CHARACTER ERROR|DEFN ERROR|INCORRECT COMMAND)$/;
 const PLACE = /^(?: {6}|[A-Za-z∆⍙_][A-Za-z∆⍙_0-9]*\[\d+\] )/;
 const COMMANDS = [')CLEAR', ')ERASE', ')FNS', ')SI', ')VARS'], SYSTEM = ['⎕IO', '⎕LC', '⎕NC', '⎕STOP', '⎕TRACE'];
-const PROMPT = 6;
+const PROMPT = 6, LONGEST = 500, SAID = 600;   // characters: of a prompt, of a line at most, and of what is read aloud
 
 /** Parts of what was written, each a report or not.
  *
@@ -81,15 +81,63 @@ export function completion(before, known) {
 /** The lines that define a function whose header and lines stand in a text, or why it can't be defined so. */
 export function definition(text) {
     const [header, ...body] = text.replace(/\n+$/, '').split('\n').map(it => it.trim());
-    if (!NAME.test(header)) return { why: 'The first line must be a header, as Z←MEAN V.' };
-    if (header.startsWith('∇') || body.some(it => it.startsWith('∇'))) return { why: 'No line may begin with ∇: the page types the first one and the last one.' };
+    if (!NAME.test(header)) return { why: 'The first line must be a header, as Z←MEAN V.', at: 0 };
+    const begins = [header, ...body].findIndex(it => it.startsWith('∇')), long = [header, ...body].findIndex(it => it.length > LONGEST);
+    if (begins >= 0) return { why: 'No line may begin with ∇: the page types the first one and the last one.', at: begins };
+    if (long >= 0) return { why: `${lineName(long)} has over ${LONGEST} characters.`, at: long };
     return { lines: [`∇${header}`, ...body, '∇'] };
+}
+
+function lineName(number) {
+    return number ? `Line ${number}` : 'The header';
+}
+
+/** What a person reads of a definition that is refused. */
+export function refusedText({ at, report, number, why }) {
+    if (why) return `It is not defined: ${why}.`;
+    if (number) return `It is not defined: ${meaning(number)}.`;
+    const more = at ? '' : ': it is none, or its name is a variable\u2019s';
+    return `DEFN ERROR. ${lineName(at)} is refused${more}.${report && `\n\n${report}`}`;
 }
 
 /** The lines of a text that is pasted, the last one apart: it stays to be edited. */
 export function pasted(text) {
     const lines = text.split(/\r\n|\n|\r/), last = lines.pop();
     return { lines, last };
+}
+
+/** The line that sets the stops or the traces of a function to these lines, or null where it would be too long for one. */
+export function vectorLine(word, name, lines) {
+    const line = `${lines.length ? lines.join(' ') : '(⍳0)'} ⎕${word} '${name}'`;
+    return line.length <= LONGEST ? line : null;
+}
+
+/** The lines that go on to the next line of a function that is suspended: all its lines stop meanwhile, and then those of before. */
+export function stepLines(name, count, stop) {
+    if (stop.length === count) return ['→⎕LC'];
+    // One number more than there are lines, which is passed over: so it is right for both origins.
+    const back = vectorLine('STOP', name, stop);
+    return back && [`(⍳${count + 1}) ⎕STOP '${name}'`, '→⎕LC', back];
+}
+
+/** The word that the reference has an entry of, at a place of a line: a system name, a command, or a character; a digit and a letter stand for all
+ * others. Behind the last one it is the one before. */
+export function symbolAt(line, at) {
+    const words = [...line.matchAll(/⎕[A-Za-z]+|^ *\)[A-Za-z]*|\S/g)].map(it => ({ from: it.index, to: it.index + it[0].length, word: it[0].trim() }));
+    const word = (words.find(it => it.from <= at && at < it.to) ?? words.findLast(it => it.to <= at) ?? words[0])?.word ?? '';
+    if (word.length > 1) return word.toUpperCase();
+    return /[0-9]/.test(word) ? '¯' : /[A-Za-z]/.test(word) ? '_' : word;
+}
+
+/** What is read aloud of what a line wrote: in a report, the character at the caret by its meaning. */
+export function spoken(text, meanings) {
+    const said = parts(text).map(it => {
+        const [name, line, caret] = it.text.split('\n');
+        if (!it.isFault || !caret) return it.text.trim();
+        const character = line[caret.length - 1] ?? '';
+        return `${name}: ${line.trim()}, at ${character} ${meanings[character] ?? ''}`.trim();
+    }).filter(Boolean).join('\n');
+    return said.length <= SAID ? said : `${said.slice(0, SAID)} … ${(said.length - SAID).toLocaleString('en')} characters more`;
 }
 
 /** What a number of the machine means to a person. */

@@ -2,6 +2,7 @@
  *
  * After a trap, or where memory can't be had for a call, it tells that it is dead and answers nothing more: the page begins another one. */
 import { FINE, Machine } from './machine.mjs';
+import { functionName } from './text.mjs';
 
 const MOST_STEPS = 2000;        // of a slice: few enough that an interrupt is seen soon though each step be long
 const SLICE = 8;                // milliseconds that a slice of long steps should take
@@ -41,8 +42,36 @@ export function standingCalls(bytes) {
     return contexts.filter(it => it.kind === 'call').reverse().map(it => it.lines[it.at - 1] ?? '');
 }
 
+/** The stops and the traces of a function in a workspace's file. */
+export function marksOf(bytes, name) {
+    const { functions } = JSON.parse(new TextDecoder().decode(bytes)), found = functions.find(it => functionName(it.header) === name);
+    return { stop: found?.stop ?? [], trace: found?.trace ?? [] };
+}
+
+/** Whether a definition with these lines is refused. */
+function isRefused(machine, header, body) {
+    machine.open(new Uint8Array());
+    for (const line of [header, ...body, '∇']) machine.type(line);
+    machine.gather();
+    return new TextDecoder().decode([...machine.pieces()][0]) !== '';
+}
+
+/** By which of its lines a definition is refused at its close, and what the machine says of that line where it is typed. */
+export function refusal(machine, header, body) {
+    let well = 0, refused = body.length;
+    while (refused - well > 1) {
+        const half = (well + refused) >> 1;
+        if (isRefused(machine, header, body.slice(0, half))) refused = half;
+        else well = half;
+    }
+    machine.open(new Uint8Array());
+    machine.type(body[refused - 1].replace(/^[^'⍝:]*:/, ''));
+    machine.gather();
+    return { at: refused, report: new TextDecoder().decode([...machine.pieces()][0]) };
+}
+
 export function work(port) {
-    let machine, interrupted = false, running = false, unseen = 0, decoder, looked = 0, saveTook = 0, saveSize = 0, saveTimer = 0;
+    let module, most, machine, interrupted = false, running = false, unseen = 0, decoder, looked = 0, saveTook = 0, saveSize = 0, saveTimer = 0;
     const lines = [], written = new Written();
     const tell = (what, more) => port.postMessage({ what, ...more });
     /** Lets messages in. A timer would wait longer. */
@@ -98,20 +127,42 @@ export function work(port) {
         let number = machine.type(line);
         if (number === FINE) number = await finish();
         if (!machine.isIdle() && machine.interrupt() !== FINE) throw new Error('memory has run out');
-        const gathered = collect();
-        tell('ended', { ...written.take(), number: number || gathered, next: machine.nextLine() });
+        const gathered = collect(), wrote = written.take();
+        tell('ended', { ...wrote, number: number || gathered, next: machine.nextLine() });
+        return { number: number || gathered, isRefused: wrote.front !== '' };
     }
 
     /** Types the lines that wait, of which an interrupt leaves those that were to follow. */
     async function typeAll() {
-        running = true;
-        interrupted = false;
-        looked = performance.now();
+        begin();
         while (lines.length && !interrupted) {
             await typeOne(lines.shift());
             if (performance.now() - looked >= AT_ONCE) await pause();
         }
         if (lines.length) tell('left', { lines: lines.splice(0) });
+        end();
+    }
+
+    /** Types the lines of a definition, which write nothing but where one is refused: the others would be statements then, and are not typed. */
+    async function define(typed) {
+        begin();
+        let done = 0, number = FINE, isRefused = false, refused = null;
+        while (done < typed.length && number === FINE && !isRefused) ({ number, isRefused } = await typeOne(typed[done++]));
+        const [header, ...body] = typed.slice(0, -1);
+        if (number !== FINE) refused = { number };
+        else if (isRefused) refused = done === 1 ? { at: 0, report: '' } : refusal(new Machine(module, most), header, body);
+        tell('defined', { left: typed.length - done, refused });
+        if (lines.length) await typeAll();
+        else end();
+    }
+
+    function begin() {
+        running = true;
+        interrupted = false;
+        looked = performance.now();
+    }
+
+    function end() {
         running = false;
         look();
         if (saveTook <= QUICK || saveSize <= SMALL) save();
@@ -151,13 +202,17 @@ export function work(port) {
     }
 
     const answers = {
-        begin({ module, bytes, pending, most }) {
+        begin({ bytes, pending, ...given }) {
+            ({ module, most } = given);
             machine = new Machine(module, most);
             open(bytes, pending);
         },
         lines({ lines: more }) {
             lines.push(...more);
             if (!running) typeAll().catch(die);
+        },
+        define({ lines: typed }) {
+            define(typed).catch(die);
         },
         interrupt() {
             interrupted = true;
@@ -169,8 +224,8 @@ export function work(port) {
             if (!running && machine) save();
         },
         listing({ name, question }) {
-            const { number, text } = machine.listing(name);
-            tell('listing', { question, text: number === FINE ? text : null });
+            const { number, text } = machine.listing(name), { bytes } = machine.save();
+            tell('listing', { question, found: number === FINE && bytes ? { text, ...marksOf(bytes, name) } : null });
         },
     };
     port.onmessage = ({ data }) => {

@@ -38,22 +38,26 @@ def style() -> str:
 
 def script() -> str:
     """Returns the one script."""
-    return bundle.bundled({**bundle.modules_of(FOLDER), "content": content.as_module()}, "main")
+    return bundle.bundled(bundle.modules_of(FOLDER), "main")
+
+
+def inside(name: str, packed: bytes) -> str:
+    """Returns an element that holds data, by gzip, which no policy is asked for."""
+    return f'<script id="{name}" type="application/gzip">{base64.b64encode(packed).decode()}</script>\n'
 
 
 def laid_out(css: str, policy: str, scripts: str) -> str:
     """Returns the page with these parts."""
     page = (FOLDER / "index.html").read_text(encoding="utf-8")
     page = page.replace("<!-- policy -->", f'<meta http-equiv="Content-Security-Policy" content="{policy}">')
-    return page.replace("<!-- style -->", f"<style>{css}</style>").replace("<!-- scripts -->", scripts)
+    return page.replace("<!-- style -->", f"<style>{css}</style>").replace("<!-- scripts -->", inside("content", content.packed()) + scripts)
 
 
 def one_file(module: bytes) -> str:
     """Returns the page as one file, the module inside."""
     css, code = style(), script()
     policy = POLICY.format(script=digest(code), worker="blob:", style=digest(css), connect="'none'")
-    packed = base64.b64encode(gzip.compress(module, 9, mtime=0)).decode()
-    return laid_out(css, policy, f'<script id="module" type="application/gzip">{packed}</script>\n<script>{code}</script>')
+    return laid_out(css, policy, f"{inside('module', gzip.compress(module, 9, mtime=0))}<script>{code}</script>")
 
 
 def folder(module: bytes) -> dict[str, bytes]:

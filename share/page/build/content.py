@@ -1,4 +1,5 @@
 """What the page shows of this repository: the keys, an example of each character, the tutorial and the sample workspaces."""
+import gzip
 import json
 import re
 from pathlib import Path
@@ -17,6 +18,14 @@ completes names. A click on a line of this page takes it to be typed, and the bu
 # A line has a bound of steps there, and none here.
 BOUND = "Each typed line is given a million steps. What takes more is interrupted, and is suspended as after a fault."
 NO_BOUND = "A line that doesn't end is ended by the button Interrupt, and is suspended as after a fault. The lines behind it are then offered again."
+# Sections of the reference that are of the native program, and lines that are otherwise in the page.
+OF_THE_PROGRAM = ("The program", "What there isn't")
+IN_THE_PAGE = {
+    "The line took more steps than it is given, and was cut off: 1,000,000, or as many as the program's word `--steps` says. A step is one phrase done "
+    "or one line ended. The caret is under the first column.": "The line was ended by the button Interrupt. The caret is under the first column.",
+    "| steps of a typed line | 1,000,000, or what `--steps` says | INTERRUPT |": "| steps of a typed line | no bound | |",
+    "| bytes of a line of input; lines of input | 2,000; 1,000,000 | the program ends |": "| bytes of a line | 2,000 | the line is not done |",
+}
 LEFT_OUT = ("Keeping it for another day", "What comes next")
 
 
@@ -105,6 +114,54 @@ def page(name: str, path: Path, workspace: str | None) -> dict[str, Any]:
     return {"name": name, "title": title, "workspace": workspace, "steps": steps}
 
 
+def symbols_of(text: str) -> list[str]:
+    """Returns the system names, the commands and the characters of the language in the code of a text, an axis left aside."""
+    found: list[str] = []
+    for code in re.findall(r"`` (.+?) ``|`(.+?)`", text):
+        it = code[0] or code[1]
+        if it != "[K]":
+            it = it.replace("[K]", "").replace("[⎕]", "")
+        found += re.findall(r"⎕[A-Z]+|\)[A-Z]+|[^A-Za-z0-9 ]", it)
+    return list(dict.fromkeys(found))
+
+
+def entries() -> list[dict[str, Any]]:
+    """Returns the entries of the reference, each with its section, its title and its blocks."""
+    found: list[dict[str, Any]] = []
+    section, lines = "", list[str]()
+    title = ""
+    for line in [*(Path(TOP) / "docs/REFERENCE.md").read_text(encoding="utf-8").splitlines(), "## "]:
+        if not line.startswith(("## ", "### ")):
+            lines.append(IN_THE_PAGE.get(line, line))
+            continue
+        if section and section not in OF_THE_PROGRAM and any(lines):
+            shown = blocks(lines)
+            for it in shown:
+                it["anew"] = False
+            found.append({"section": section, "title": title, "blocks": shown})
+        if line.startswith("## "):
+            section = line[3:]
+        title, lines = line.lstrip("# "), []
+    return found
+
+
+def reference() -> dict[str, Any]:
+    """Returns the entries of the reference, and which of them each symbol has: those whose titles have it, or else whose first words do."""
+    found = entries()
+    of: dict[str, list[int]] = {}
+    for where in ("title", "words"):
+        known = set(of)
+        for n, it in enumerate(found):
+            first = it["blocks"][0]
+            text = it["title"] if where == "title" else " ".join(first["lines"]) if first["kind"] == "text" else ""
+            if where == "words" and symbols_of(it["title"]):
+                continue
+            for symbol in symbols_of(text):
+                if symbol not in known:
+                    of.setdefault(symbol, []).append(n)
+    return {"entries": found, "of": of}
+
+
 def content() -> dict[str, Any]:
     """Returns all that the page shows of the repository."""
     pages = [page("tutorial", Path(TOP) / "docs/TUTORIAL.md", None)]
@@ -116,10 +173,10 @@ def content() -> dict[str, Any]:
         "meanings": {character: meaning for _, character, meaning in found},
         "examples": examples(),
         "pages": pages,
+        "reference": reference(),
     }
 
 
-def as_module() -> str:
-    """Returns the content as a module of the page."""
-    text = json.dumps(content(), ensure_ascii=False, separators=(",", ":")).replace("<", "\\u003c")
-    return f"/** What the page shows of this repository, made by bin/build-page. */\nexport const CONTENT = {text};\n"
+def packed() -> bytes:
+    """Returns the content as the page holds it: JSON, by gzip."""
+    return gzip.compress(json.dumps(content(), ensure_ascii=False, separators=(",", ":")).encode(), 9, mtime=0)

@@ -35,6 +35,9 @@ OF_C = ["-O2", "-fwrapv", "-ffreestanding", "-nostdinc", "-Wall", "-Wextra", "-W
 OF_MODULE = ["-O3", "-ffunction-sections", "-fdata-sections", "-Xclang", "-fmerge-functions"]
 # 128-bit division and conversions are written out, since there is no library that has them.
 PASSES = ["-expand-div-rem-bits=64", "-expand-fp-convert-bits=64"]
+# A place at a fixed distance behind a pointer. All addresses are below 2 ** 32, so the sum is no smaller than the pointer, which LLVM isn't told for
+# x86-64: an access of WebAssembly has room for a distance where that is known.
+BEHIND = re.compile(r"\bgetelementptr i8, ptr ([%@][^, ]+), i64 (\d{1,9})\b")
 DEFINED = re.compile(r'define (?:internal )?(.*?)@(?:"([^"]+)"|([\w.]+))\((.*)\)')
 
 
@@ -101,7 +104,7 @@ def retargeted(lines: Iterable[str], crate: str, found: set[str]) -> Iterator[st
             line = exported(line, crate, found)
         elif line.startswith("declare ") and SHUFFLE in line:
             line = shuffle()
-        line = line.replace(SHUFFLE, "@shuffled")
+        line = BEHIND.sub(r"getelementptr nuw i8, ptr \1, i64 \2", line.replace(SHUFFLE, "@shuffled"))
         if "@llvm.x86" in line or re.search(r"\basm (sideeffect |alignstack )*\"", line):
             raise NotThePage(f"there is no such instruction here: {line.strip()}")
         yield line

@@ -2,6 +2,7 @@
 import time
 from pathlib import Path
 
+from browser import Tab
 from trial import Trial, saved
 
 SHOWN = (
@@ -10,13 +11,25 @@ SHOWN = (
 )
 
 
+def show_lines(tab: Tab) -> None:
+    """Shows the lines of the function that waits, with the call's line in them."""
+    tab.run("document.querySelector('#levels li:last-child button').click()")
+    tab.until("document.querySelector('#listing [aria-current=true]')")
+
+
 def pictures(folder: Path, to: Path) -> None:
-    """Takes pictures of the page with a session: page.png, page-dark.png, page-guide.png, page-narrow.png, page-narrow-dark.png."""
+    """Takes pictures of the page with a session: page.png, page-dark.png, page-narrow.png, page-narrow-dark.png, page-reference.png,
+    page-menu.png and page-guide.png."""
     trial = Trial(folder, None)
     try:
         tab = trial.tab("class")
         tab.typed(*SHOWN)
         tab.until("document.querySelector('#levels code').textContent")
+        show_lines(tab)
+        for mark in ("STOP 4", "TRACE 3"):
+            tab.run(f"document.querySelector(\"[data-at='{mark}']\").click()")
+            tab.until(f"document.querySelector(\"[data-at='{mark}'][aria-pressed=true]\")")
+        tab.run("document.getElementById('line').focus()")
         tab.keys("V`[1 2 6")
         tab.run("document.querySelector('#bar button[aria-label^=\"shape\"]').dispatchEvent(new PointerEvent('pointerenter'))")
         tab.picture(f"{to}/page.png")
@@ -24,7 +37,12 @@ def pictures(folder: Path, to: Path) -> None:
         for name, how in (("dark", {"colours": "dark"}), ("narrow", {"width": 360, "height": 740}), ("narrow-dark", {"width": 360, "height": 740, "colours": "dark"})):
             tab.close()
             tab = trial.tab("class", **how)  # type: ignore[arg-type]
+            show_lines(tab)
             tab.picture(f"{to}/page-{name}.png")
+        tab.run("document.getElementById('line').focus()")
+        tab.keys("M`[`i")
+        tab.press("F1")
+        tab.picture(f"{to}/page-reference.png")
         tab.close()
         tab = trial.tab("start")
         tab.click("#guides summary")

@@ -76,6 +76,35 @@ test('where memory is refused the line is told by its number, and the next one i
     assert.ok(told.written().endsWith('5\n'));
 });
 
+test('the lines of a function are told with its stops and traces', async () => {
+    const told = begun();
+    told.send({ what: 'lines', lines: ['∇Z←F X', 'Z←X', 'Z←Z+1', '∇', "2 ⎕STOP 'F'", "1 2 ⎕TRACE 'F'"] });
+    await told.until('saved', 2);
+    told.send({ what: 'listing', name: 'F', question: 1 });
+    told.send({ what: 'listing', name: 'G', question: 2 });
+    const answers = told.messages.filter(it => it.what === 'listing').map(it => it.found);
+    assert.deepStrictEqual(answers, [{ text: 'Z←F X\nZ←X\nZ←Z+1\n', stop: [2], trace: [1, 2] }, null]);
+});
+
+test('a definition that is refused is told by its line, and no line of it is a statement', async () => {
+    const told = begun();
+    const define = async lines => {
+        const count = told.messages.filter(it => it.what === 'defined').length;
+        told.send({ what: 'define', lines });
+        const { refused, left } = await told.until('defined', count + 1);
+        await told.until('saved', count + 2);
+        return [refused, left];
+    };
+    await told.until('saved');
+    assert.deepStrictEqual(await define(['∇Z←F X', 'Z←X', '∇']), [null, 0]);
+    assert.deepStrictEqual(await define(['∇A B C D', 'V←1', 'V', '∇']), [{ at: 0, report: '' }, 3]);
+    assert.deepStrictEqual(await define(['∇Z←F X', 'Z←X', "L:Z←'AB", 'Z←(', '∇']), [{ at: 2, report: "SYNTAX ERROR\n      Z←'AB\n        ^\n" }, 0]);
+    assert.deepStrictEqual(await define(['∇Z←F X', ...Array(999).fill('Z←X'), '∇']), [null, 0]);
+    assert.deepStrictEqual(await define(['∇Z←F X', ...Array(1000).fill('Z←X'), '∇']), [{ at: 1000, report: '' }, 0]);
+    assert.deepStrictEqual(await define(['∇Z←F X', 'X'.repeat(2001), '∇']), [{ number: 14 }, 1]);
+    assert.strictEqual(told.messages.filter(it => it.what === 'state').at(-1).names, '∇ Z←F X\n');
+});
+
 test('a worker that dies says so once, and answers nothing more', () => {
     const told = new Told();
     told.send({ what: 'listing', name: 'F', question: 1 });
@@ -115,6 +144,14 @@ test('where the worker dies, its lines and those that waited are told, and anoth
     assert.strictEqual(seen.workers[1].sent[0].bytes, file);
     await wait(100);
     assert.deepStrictEqual(seen.puts.at(-1)[0].since, []);
+});
+
+test('where the worker dies in a definition, who waits for it is told', async () => {
+    const { session, say } = stood();
+    say({ what: 'opened', number: 0, next: 0 });
+    const defined = session.define(['∇F', '∇']);
+    say({ what: 'died', why: 'a trap' });
+    assert.deepStrictEqual(await defined, { why: 'the machine was begun again: a trap' });
 });
 
 test('where the machine never begins no other one is tried, and what is kept stays', () => {

@@ -48,6 +48,12 @@ class Retargeting(unittest.TestCase):
             with self.assertRaises(retarget.NotThePage):
                 retargeted(line)
 
+    def test_a_place_behind_a_pointer_is_told_not_to_wrap(self) -> None:
+        line = "  %r2 = getelementptr i8, ptr %r1, i64 {}\n"
+        self.assertEqual(retargeted(line.format(16)), ["  %r2 = getelementptr nuw i8, ptr %r1, i64 16\n"])
+        for other in ("-16", "%r3", "4294967296"):
+            self.assertEqual(retargeted(line.format(other)), [line.format(other)])
+
     def test_the_place(self) -> None:
         self.assertEqual(retarget.place_size([*MAIN, *OPEN], "apl_page"), 2608)
         for changed in ([*MAIN, OPENS, "}\n"], [*MAIN[:1], *MAIN[2:], *OPEN], OPEN):
@@ -104,6 +110,22 @@ class Assembling(unittest.TestCase):
         characters = {character for _, character in shown["keys"]}
         self.assertLessEqual(set(shown["examples"]), characters)
         self.assertEqual(set(shown["meanings"]), characters)
+
+    def test_each_character_has_an_entry_of_the_reference(self) -> None:
+        shown = content.content()
+        entries, of = shown["reference"]["entries"], shown["reference"]["of"]
+        self.assertEqual(set(shown["meanings"]) - set(of), {"`"})
+        self.assertLessEqual({"⎕IO", "⎕LC", "⎕NC", "⎕STOP", "⎕TRACE", ")SI", ")FNS", ")VARS", ")ERASE", ")CLEAR", "[", "]", ";", "(", ")", "+", ":"}, set(of))
+        self.assertEqual([entries[n]["title"] for n in of["⍳"]], ["`⍳B` count", "`A⍳B` index of"])
+        self.assertEqual([entries[n]["title"] for n in of["'"]], ["Texts"])
+        self.assertNotIn("`--", str(entries))
+        self.assertNotIn("bin/apl-terminal", str(entries))
+        self.assertIn("the button Interrupt", str(entries))
+
+    def test_symbols(self) -> None:
+        self.assertEqual(content.symbols_of("`A ⎕STOP B`, `⎕STOP B` stops, `)SI`, `` `- ``"), ["⎕STOP", ")SI", "`", "-"])
+        self.assertEqual(content.symbols_of("`A,[K]B` and `∇F[⎕]∇`"), [",", "∇"])
+        self.assertEqual(content.symbols_of("`[K]`"), ["[", "]"])
 
     def test_the_guides(self) -> None:
         pages = {it["name"]: it for it in content.content()["pages"]}

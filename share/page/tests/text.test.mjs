@@ -1,7 +1,9 @@
 /** Tries what the page knows of texts. */
 import assert from 'node:assert';
 import test from 'node:test';
-import { completion, definition, described, functionName, levels, names, parts, pasted, prompt } from '../text.mjs';
+import {
+    completion, definition, described, functionName, levels, names, parts, pasted, prompt, refusedText, spoken, stepLines, symbolAt, vectorLine,
+} from '../text.mjs';
 import { Written } from '../worker.mjs';
 
 test('a report is told from what is written before it', () => {
@@ -38,8 +40,41 @@ test('names, system names and commands are completed as far as all agree', () =>
 
 test('a definition is typed by its header, its lines and ∇', () => {
     assert.deepStrictEqual(definition('Z←F X\nZ←X\n\n'), { lines: ['∇Z←F X', 'Z←X', '∇'] });
-    assert.ok(definition('').why);
-    assert.ok(definition('F\n ∇\n1').why);
+    assert.deepStrictEqual([definition('').at, definition('F\n1\n ∇\n1').at, definition(`F\n${'1'.repeat(501)}`).at], [0, 2, 1]);
+    assert.strictEqual(definition(`F\n${'1'.repeat(501)}`).why, 'Line 1 has over 500 characters.');
+});
+
+test('a definition that is refused is told by its line', () => {
+    assert.match(refusedText({ at: 0, report: '' }), /^DEFN ERROR. The header is refused: /);
+    assert.strictEqual(refusedText({ at: 3, report: 'SYNTAX ERROR\n' }), 'DEFN ERROR. Line 3 is refused.\n\nSYNTAX ERROR\n');
+    assert.strictEqual(refusedText({ number: 8 }), 'It is not defined: memory has run out.');
+});
+
+test('stops and traces are set by a line, and a step by lines that leave the stops as they were', () => {
+    assert.strictEqual(vectorLine('STOP', 'F', [1, 3]), "1 3 ⎕STOP 'F'");
+    assert.strictEqual(vectorLine('TRACE', '∆F', []), "(⍳0) ⎕TRACE '∆F'");
+    const all = Array.from({ length: 300 }, (_, i) => i + 1);
+    assert.strictEqual(vectorLine('STOP', 'F', all), null);
+    assert.deepStrictEqual(stepLines('F', 3, [2]), ["(⍳4) ⎕STOP 'F'", '→⎕LC', "2 ⎕STOP 'F'"]);
+    assert.deepStrictEqual(stepLines('F', 300, all), ['→⎕LC']);
+    assert.strictEqual(stepLines('F', 301, all), null);
+});
+
+test('the symbol at the cursor', () => {
+    const at = (line, place) => symbolAt(line, place);
+    assert.deepStrictEqual([at('2⍴⍳5', 1), at('2⍴⍳5', 2), at('2⍴⍳5', 4), at('2⍴⍳5', 0)], ['⍴', '⍳', '¯', '¯']);
+    assert.deepStrictEqual([at("2 ⎕STOP 'F'", 2), at("2 ⎕STOP 'F'", 5), at('⎕←3', 0), at('⎕io', 1)], ['⎕STOP', '⎕STOP', '⎕', '⎕IO']);
+    assert.deepStrictEqual([at(' )si', 2), at('(2)', 2), at(')', 1)], [')SI', ')', ')']);
+    assert.deepStrictEqual([at('⍳ 5', 1), at('  ⍳', 0), at('', 0), at('ABC', 1)], ['⍳', '⍳', '', '_']);
+});
+
+test('what is read aloud tells the character at the caret by its meaning', () => {
+    const report = 'DOMAIN ERROR\nHALF[1] Z←N÷2\n           ^\n';
+    assert.strictEqual(spoken(`1 2\n${report}`, { '÷': 'divide' }), '1 2\nDOMAIN ERROR: HALF[1] Z←N÷2, at ÷ divide');
+    assert.strictEqual(spoken('VALUE ERROR\n      Q\n      ^\n', {}), 'VALUE ERROR: Q, at Q');
+    assert.strictEqual(spoken('DEFN ERROR\n', {}), 'DEFN ERROR');
+    assert.strictEqual(spoken('\n\n', {}), '');
+    assert.ok(spoken('1 '.repeat(1000), {}).endsWith(' … 1,399 characters more'));
 });
 
 test('what is pasted is typed line by line, but for the last', () => {

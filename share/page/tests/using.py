@@ -122,6 +122,8 @@ def functions_and_variables(trial: Trial) -> str:
     tab.typed(*HALF, "M←2 3⍴⍳6", "T←'AB'")
     same(tab.run("[...document.querySelectorAll('#variables li')].map(it => it.textContent).join(';')"), "M numbers, 2 by 3;T characters, 2")
     tab.click("#functions button")
+    tab.until("!document.getElementById('listing').hidden")
+    tab.click("#listing header button")
     tab.until("document.getElementById('function').open")
     same(tab.run("document.querySelector('#function textarea').value"), "Z←HALF N\nZ←N÷2\n")
     tab.run("document.querySelector('#function textarea').value = 'Z←HALF N\\nZ←(N-2|N)'; document.querySelector('#function textarea').setSelectionRange(99, 99)")
@@ -201,21 +203,6 @@ def own_font(trial: Trial) -> str:
     return str(fonts[0]["familyName"])
 
 
-def accessible(trial: Trial) -> str:
-    """Everything that can be pressed has a name, and the parts of the page have their roles."""
-    tab = trial.tab("roles")
-    tab.typed(*HALF, "1+HALF 7")
-    tab.ask("Accessibility.enable")
-    nodes = [it for it in tab.ask("Accessibility.getFullAXTree")["nodes"] if not it["ignored"]]
-    named = [(it["role"]["value"], it.get("name", {}).get("value", "")) for it in nodes]
-    same([it for it in named if it[0] in ("button", "textbox", "link") and not it[1].strip()], [])
-    for wanted in (("toolbar", "Characters of the language"), ("log", "Transcript"), ("textbox", "A line of APL"), ("complementary", "The workspace")):
-        if wanted not in named:
-            raise AssertionError(f"there is no {wanted}")
-    tab.close()
-    return f"{len([it for it in named if it[0] == 'button'])} buttons"
-
-
 LINES_IN_TIME = """(async () => {
     const form = document.getElementById('form'), line = document.getElementById('line'), transcript = document.getElementById('transcript'), times = [];
     for (let i = 0; i < 100; i++) {
@@ -246,17 +233,7 @@ def line_in_time(trial: Trial) -> str:
     return f"{min(medians):.2f} ms"
 
 
-def narrow(trial: Trial) -> str:
-    """At 360 pixels' width nothing lies beyond the edge, and a line is typed."""
-    tab = trial.tab("narrow", width=360, height=740)
-    has(tab.typed("(⍳3)∘.×⍳30"), " 90\n")
-    same(tab.run("document.documentElement.scrollWidth"), 360)
-    same(tab.run("[...document.querySelectorAll('header button, header summary, #form, aside')].every(it => it.getBoundingClientRect().right <= 360)"), True)
-    tab.close()
-    return ""
-
-
 ALL: list[Callable[[Trial], str]] = [
-    opened_from_disk, keys_of_the_line, language_bar, interrupted, flood, functions_and_variables, guide, asks_no_other_host, own_font, accessible,
-    line_in_time, narrow,
+    opened_from_disk, keys_of_the_line, language_bar, interrupted, flood, functions_and_variables, guide, asks_no_other_host, own_font,
+    line_in_time,
 ]
