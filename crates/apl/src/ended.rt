@@ -2,6 +2,7 @@
 
 use apl_files::FileError;
 use apl_runs::RunError;
+use apl_serve::ServeError;
 use apl_words::WordsError;
 use apl_workspace::LoadError;
 use std::alloc::{AllocError, Global};
@@ -71,6 +72,12 @@ impl From<RunError> for Ended {
             RunError::Memory => Ended::Memory,
             _ => Ended::Run(error.number()),
         }
+    }
+}
+
+impl From<ServeError> for Ended {
+    fn from(error: ServeError) -> Ended {
+        Ended::Run(error.number())
     }
 }
 

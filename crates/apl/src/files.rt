@@ -8,16 +8,22 @@ use apl_machine::Machine;
 use apl_workspace::{SaveError, load, save};
 use std::{fs, io};
 
+/// The bytes of a file.
+pub(crate) fn read_file(rt: &HostRuntime, path: &str) -> Result<Vec<u8>, Ended> {
+    match fs::read(rt, path) {
+        Ok(bytes) => Ok(bytes),
+        Err(error) if error.kind() == io::ErrorKind::OutOfMemory => Err(Ended::Memory),
+        Err(_) => Err(Ended::LoadFile),
+    }
+}
+
 /// The workspace that a file holds.
 pub(crate) fn load_file(rt: &HostRuntime, path: &str) -> Result<Machine, Ended>
     ensures idle { IfOk result (λ m. IsTrue (is_idle m)) }
     ensures quiet { IfOk result (λ m. m.output ≡ []) }
 {
-    match fs::read(rt, path) {
-        Ok(bytes) => Ok(load(rt.alloc(), &bytes)?),
-        Err(error) if error.kind() == io::ErrorKind::OutOfMemory => Err(Ended::Memory),
-        Err(_) => Err(Ended::LoadFile),
-    }
+    let bytes = read_file(rt, path)?;
+    Ok(load(rt.alloc(), &bytes)?)
 }
 
 /// Saves a workspace, in which nothing runs, in a file that this run holds.

@@ -1,6 +1,6 @@
 //! The APL interpreter as a program: it runs the lines of standard input on a workspace, which it may
 //! begin with and keep, and writes what they give; or it shows the code of a function; or it runs many
-//! sessions side by side.
+//! sessions side by side; or it answers requests for one.
 #![tactic(auto)]
 
 ghost use Rattle.std.specs.Prelude.{◌≡◌, [], IfOk, IsTrue};
@@ -8,6 +8,7 @@ ghost use Rattle.apl_machine_state.specs.State.{is_idle};
 
 mod ended;
 mod files;
+mod served;
 mod sessions;
 mod shown;
 
@@ -17,6 +18,7 @@ use apl_runs::{Device, run, run_resumed};
 use apl_words::{Plan, Running, Way, planned};
 use ended::Ended;
 use files::{load_file, save_file};
+use served::serve_requests;
 use sessions::run_sessions;
 use shown::show;
 use std::alloc::Global;
@@ -110,6 +112,7 @@ fn run_as(
             show(rt.alloc(), &ws, shown.function.as_str(), output)
         }
         Plan::Desk(steps) => run_sessions(rt.alloc(), input, output, steps),
+        Plan::Serve(workspace) => serve_requests(rt, &workspace, input, output),
     }
 }
 

@@ -31,12 +31,16 @@ resume_rule = flag_rule (codes "resume")
 abbrev pub desk_rule : Rule
 desk_rule = record (flag_rule (codes "desk")) { is_free = false }
 
+-- it stands with a workspace alone
+abbrev pub serve_rule : Rule
+serve_rule = record (flag_rule (codes "serve")) { is_free = false }
+
 -- the program's name and version
 abbrev pub named : App
 named = record (new_app (codes "apl")) { top = record (new_app (codes "apl")).top { has_version = true } }
 
 abbrev pub apl : App
-apl = with_rule (with_rule (with_rule (with_rule (with_rule (with_rule named workspace_rule) save_rule) steps_rule) code_rule) resume_rule) desk_rule
+apl = with_rule (with_rule (with_rule (with_rule (with_rule (with_rule (with_rule named workspace_rule) save_rule) steps_rule) code_rule) resume_rule) desk_rule) serve_rule
 
 -- what the parser finds in these words, of which the first is the program's name: the values of each argument
 unfoldable pub found_in : List Text → List Row

@@ -7,7 +7,7 @@ use Rattle.clap.specs.declared.error.kind.ErrorKind.TheVariants.{DisplayHelp, Di
 use Rattle.apl_words.specs.declared.WordsError.{WordsError}
 use Rattle.apl_words.specs.declared.WordsError.TheVariants.{Help, Wrong, Memory}
 use Rattle.apl_words.specs.declared.Plan.{Plan}
-use Rattle.apl_words.specs.declared.Plan.TheVariants.{Run, Show, Desk}
+use Rattle.apl_words.specs.declared.Plan.TheVariants.{Run, Show, Desk, Serve}
 use Rattle.apl_words.specs.declared.Way.{Way}
 use Rattle.apl_words.specs.declared.Way.TheVariants.{Plain, Resumed}
 
@@ -34,13 +34,15 @@ IsTold kind Memory = ⊤
 IsTold kind (Help text) = ((kind ≢ DisplayHelp) × (kind ≢ DisplayVersion)) → ⊥
 IsTold kind (Wrong text) = (kind ≢ OutOfMemory) × (kind ≢ DisplayHelp) × (kind ≢ DisplayVersion)
 
--- The plan for what was found: a desk where that flag is there; else the code of a function where a workspace and a function are; else a run, with the
--- workspace, the file to save in and the way that were found.
+-- The plan for what was found: a desk where that flag is there; else a session that is served, with the workspace that was found, where that flag is; else the
+-- code of a function where a workspace and a function are; else a run, with the workspace, the file to save in and the way that were found.
 abbrev pub IsPlan : List Row → Plan → Type 0
 IsPlan found (Desk steps) = IsFlag (one_of (codes "desk") found) true × IsSteps (one_of (codes "steps") found) steps
-IsPlan found (Show shown) = IsFlag (one_of (codes "desk") found) false × (first_of (codes "WS") found ≡ Some (string_bytes shown.workspace))
+IsPlan found (Serve workspace) = IsFlag (one_of (codes "desk") found) false × IsFlag (one_of (codes "serve") found) true
+    × (option_map string_bytes workspace ≡ first_of (codes "WS") found)
+IsPlan found (Show shown) = IsFlag (one_of (codes "desk") found) false × IsFlag (one_of (codes "serve") found) false × (first_of (codes "WS") found ≡ Some (string_bytes shown.workspace))
     × (first_of (codes "code") found ≡ Some (string_bytes shown.function))
-IsPlan found (Run run) = IsFlag (one_of (codes "desk") found) false × (option_map string_bytes run.workspace ≡ first_of (codes "WS") found)
+IsPlan found (Run run) = IsFlag (one_of (codes "desk") found) false × IsFlag (one_of (codes "serve") found) false × (option_map string_bytes run.workspace ≡ first_of (codes "WS") found)
     × ((first_of (codes "WS") found ≡ None) ⊎ (first_of (codes "code") found ≡ None))
     × (option_map string_bytes run.save ≡ first_of (codes "save") found)
     × IsFlag (one_of (codes "resume") found) (is_resumed run.way) × IsSteps (one_of (codes "steps") found) run.steps

@@ -48,6 +48,8 @@ pub enum Plan {
     Show(Shown),
     /// A run of the input on a desk of clear sessions, with at most so many steps a line.
     Desk(u64),
+    /// One session is served, on the workspace of this file; without one that is clear.
+    Serve(Option<String>),
 }
 
 /// Why the words ask for no run.
@@ -136,6 +138,21 @@ fn desk<'a>(alloc: Global) -> Result<Arg<'a>, AllocError>
         .conflicts_with("resume")
 }
 
+/// The flag `--serve`.
+fn serve<'a>(alloc: Global) -> Result<Arg<'a>, AllocError>
+    ensures { IfOk result (λ arg. (rule_of arg ≡ spec.serve_rule) × (arg.global ≡ false)) }
+{
+    Arg::new(alloc, "serve")
+        .long("serve")
+        .help("Answer requests for one session, one JSON value a line")
+        .action(ArgAction::SetTrue)
+        .conflicts_with("save")?
+        .conflicts_with("steps")?
+        .conflicts_with("code")?
+        .conflicts_with("resume")?
+        .conflicts_with("desk")
+}
+
 /// The day of the newest changes that CHANGELOG.md tells of, and the kit that the program is proved
 /// with.
 const VERSION: &str = "2026-11-29 (rattle-kit-13f logic dac8208d650f15bf)";
@@ -147,7 +164,8 @@ const EXAMPLES: &str = "Examples:
   apl --steps 5000 <lines           Interrupt each line that has made 5000 steps
   apl ledger --code SUM             Show what each line of SUM was translated to
   apl --resume <lines               Go on at each stop
-  apl --desk <lines                 Run sessions side by side";
+  apl --desk <lines                 Run sessions side by side
+  apl --serve <requests             Answer requests, as a program makes them";
 
 /// The command line.
 fn command<'a>(alloc: Global) -> Result<Command<'a>, AllocError>
@@ -161,7 +179,8 @@ fn command<'a>(alloc: Global) -> Result<Command<'a>, AllocError>
         .arg(steps(alloc))?
         .arg(code(alloc)?)?
         .arg(resume(alloc))?
-        .arg(desk(alloc)?)
+        .arg(desk(alloc)?)?
+        .arg(serve(alloc)?)
 }
 
 /// The value of an argument, if it has one.
@@ -198,9 +217,10 @@ fn way_of(matches: &ArgMatches<'_>) -> Way
     }
 }
 
-/// What is asked for where no desk is. A function stands beside a workspace alone.
+/// What is asked for where no desk is and no session is served. A function stands beside a workspace alone.
 fn plan_of(alloc: Global, matches: &ArgMatches<'_>) -> Result<Plan, AllocError>
-    requires { IsFlag (one_of (codes "desk") (rows_of (found_of matches.now))) false }
+    requires desk { IsFlag (one_of (codes "desk") (rows_of (found_of matches.now))) false }
+    requires serve { IsFlag (one_of (codes "serve") (rows_of (found_of matches.now))) false }
     ensures { IfOk result (IsPlan (rows_of (found_of matches.now))) }
 {
     let workspace = given(alloc, matches, "WS")?;
@@ -226,6 +246,9 @@ fn parsed<'a>(alloc: Global, words: &'a [String]) -> Result<Plan, clap::Error>
     let matches = command(alloc)?.try_get_matches_from(words)?;
     if has_flag(&matches, "desk") {
         return Ok(Plan::Desk(steps_of(&matches)));
+    }
+    if has_flag(&matches, "serve") {
+        return Ok(Plan::Serve(given(alloc, &matches, "WS")?));
     }
     Ok(plan_of(alloc, &matches)?)
 }

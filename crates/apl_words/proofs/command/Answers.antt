@@ -14,4 +14,5 @@ returns c =
     let three = c.in_ok-arg-3.ensures.shape c.steps.ensures.1 ∙ ap₂ with_rule two c.steps.ensures.0 in
     let four = c.in_ok-arg-4.ensures.shape c.in_ok-code.ensures.1 ∙ ap₂ with_rule three c.in_ok-code.ensures.0 in
     let five = c.in_ok-arg-5.ensures.shape c.resume.ensures.1 ∙ ap₂ with_rule four c.resume.ensures.0 in
-    IfOk-weaker c.arg-6.result _ _ (λ r adds. adds.shape c.in_ok-desk.ensures.1 ∙ ap₂ with_rule five c.in_ok-desk.ensures.0) c.arg-6.ensures
+    let six = c.in_ok-arg-6.ensures.shape c.in_ok-desk.ensures.1 ∙ ap₂ with_rule five c.in_ok-desk.ensures.0 in
+    IfOk-weaker c.arg-7.result _ _ (λ r adds. adds.shape c.in_ok-serve.ensures.1 ∙ ap₂ with_rule six c.in_ok-serve.ensures.0) c.arg-7.ensures

@@ -1,0 +1,5 @@
+pub mod Refusals
+pub mod Requests
+pub mod Trees
+pub mod Answers
+pub mod Serving

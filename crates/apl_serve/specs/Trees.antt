@@ -1,0 +1,73 @@
+-- The trees of answers.
+use Rattle.std.specs.Prelude.{ℕ, Bool, true, false, List, [], ◌∷◌, ◌++◌, codes}
+use Rattle.serde_json.specs.Data.{Data, boolean, string, object, Members, member, no_members}
+use Rattle.serde_json.specs.Written.{compact_text}
+use Rattle.apl_charset.specs.Text.{bytes}
+use Rattle.apl_arrays.specs.Cells.{Arr, Items, Numbers, Characters}
+use Rattle.apl_workspace_file.specs.Trees.{whole_tree, list_tree, elements_tree}
+use Rattle.apl_workspace_file.specs.declared.fields.Elements.TheVariants as elements
+use Rattle.apl_defn.specs.Definitions.{Text}
+use Rattle.apl_machine_state.specs.declared.level.Level.{Level}
+use Rattle.apl_machine_state.specs.declared.output.OutLine.{OutLine}
+use Rattle.apl_machine_state.specs.declared.output.Progress.{Progress}
+use Rattle.apl_machine_state.specs.declared.output.Progress.TheVariants.{Idle, Stopped, LineEnd, Running}
+use Rattle.apl_machine_state.specs.State.{State}
+use Rattle.apl_session.specs.Defining.{next_line}
+use Rattle.apl_kept.specs.declared.names.Named.{Named}
+use Rattle.apl_kept.specs.declared.names.Reading.{Reading}
+use Rattle.apl_kept.specs.declared.names.Reading.TheVariants as reading
+
+abbrev pub text_tree : Text → Data
+text_tree text = string (bytes text)
+
+-- whether a line reports a stop
+abbrev pub kind_of : Bool → List ℕ
+kind_of true = codes "stop"
+kind_of false = codes "line"
+
+abbrev pub line_tree : OutLine → Data
+line_tree line = object (member (codes "kind") (string (kind_of line.stop)) (member (codes "text") (text_tree line.text) no_members))
+
+-- where a session stands
+abbrev pub word_of : Progress → List ℕ
+word_of Idle = codes "idle"
+word_of Stopped = codes "stopped"
+word_of LineEnd = codes "running"
+word_of Running = codes "running"
+
+-- what a session in this state tells that stands so: what it has written and nobody has taken, and the number of the next line of an open definition
+abbrev pub told_tree : State → Progress → Data
+told_tree s progress = object (member (codes "lines") (list_tree line_tree s.output) (member (codes "next") (whole_tree (next_line s.definition))
+    (member (codes "state") (string (word_of progress)) no_members)))
+
+abbrev pub level_tree : Level → Data
+level_tree level = object (member (codes "line") (whole_tree level.line) (member (codes "name") (text_tree level.name)
+    (member (codes "suspended") (boolean level.suspended) no_members)))
+
+abbrev pub items_tree : List ℕ → Items → Data
+items_tree shape (Numbers zs) = elements_tree shape (elements.Numbers zs)
+items_tree shape (Characters cs) = elements_tree shape (elements.Text (bytes cs))
+
+-- an array, as in the file of a workspace
+abbrev pub array_tree : Arr → Data
+array_tree a = items_tree a.shape a.items
+
+-- a name, by the header of its function, or by the shape and type of its value
+abbrev pub named_members : List ℕ → Reading → Members
+named_members name (reading.Function header) = member (codes "header") (text_tree header) (member (codes "name") (string name) no_members)
+named_members name (reading.Numbers shape) = member (codes "name") (string name) (member (codes "shape") (list_tree whole_tree shape)
+    (member (codes "type") (string (codes "numbers")) no_members))
+named_members name (reading.Characters shape) = member (codes "name") (string name) (member (codes "shape") (list_tree whole_tree shape)
+    (member (codes "type") (string (codes "characters")) no_members))
+named_members name reading.Unset = member (codes "name") (string name) no_members
+
+abbrev pub named_tree : Named → Data
+named_tree named = object (named_members (bytes named.name) named.reading)
+
+-- an answer of one member
+abbrev pub answer_tree : List ℕ → Data → Data
+answer_tree key d = object (member key d no_members)
+
+-- a tree as a line of JSON
+abbrev pub line_of : Data → List ℕ
+line_of tree = compact_text tree ++ 10 ∷ []

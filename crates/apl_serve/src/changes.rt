@@ -1,0 +1,141 @@
+//! Requests that change a session.
+ghost use Rattle.std.specs.Prelude.{◌≡◌, ◌≤◌, IfErr, IfOk, MatchResult};
+ghost use Rattle.serde_json.specs.Data.{depth};
+ghost use Rattle.serde_json.specs.Read.{max_depth};
+ghost use Rattle.serde_json.specs.View.{view};
+ghost use Rattle.apl_machine_state.specs.State.{clear, progress_at};
+ghost use Rattle.apl_kept.specs.Keeping.{BeginsWith};
+ghost use Rattle.apl_serve.specs.Answers.{Advances, Interrupts, IsClosed, IsOpened, IsShut, Opens, Tells, Types};
+ghost use Rattle.apl_serve.specs.Trees.{line_of, told_tree};
+
+use crate::answer::line_of;
+use crate::error::Refusal;
+use crate::shown::{show_list, word_of};
+use apl_kept::{Kept, KeptError, open};
+use apl_machine::Progress;
+use apl_session::Bytes;
+use apl_workspace::LoadError;
+use serde_json::{Value, json};
+use std::alloc::{AllocError, Global};
+
+/// The tree of what a session tells that stands so.
+fn show_told(alloc: Global, kept: &Kept, progress: Progress) -> Result<Value, AllocError>
+    ensures { IfOk result (λ v. view v ≡ told_tree kept.now progress) }
+{
+    let lines = show_list(alloc, kept.output())?;
+    json!(in alloc; {"lines": lines, "next": kept.next_line(), "state": word_of(progress)})
+}
+
+/// What a session tells that stands so.
+fn told(alloc: Global, kept: &Kept, progress: Progress) -> Result<Bytes, AllocError>
+    ensures { IfOk result (λ b. b ≡ line_of (told_tree kept.now progress)) }
+{
+    let tree = show_told(alloc, kept, progress)?;
+    line_of(alloc, &tree)
+}
+
+/// Tells how a session stands; what it has written is taken then. Answer: there is no memory for that.
+fn tell(alloc: Global, kept: &mut Kept, progress: Progress) -> Result<Bytes, Refusal>
+    ensures { Tells kept.old progress result kept.new }
+{
+    match told(alloc, kept, progress) {
+        Ok(text) => {
+            drop(kept.take_output());
+            Ok(text)
+        }
+        Err(AllocError) => Err(Refusal::Answer),
+    }
+}
+
+/// Where a session stands that no step was made of.
+fn progress_at(kept: &Kept) -> Progress
+    ensures { result ≡ progress_at kept.now }
+{
+    if kept.is_idle() {
+        Progress::Idle
+    } else {
+        Progress::Running
+    }
+}
+
+/// Types a line.
+pub(crate) fn type_line(alloc: Global, kept: &mut Kept, line: &str) -> Result<Bytes, Refusal>
+    ensures { Types line.now kept.old result kept.new }
+{
+    match kept.type_line(line.as_bytes()) {
+        Ok(()) => {
+            let progress = progress_at(kept);
+            tell(alloc, kept, progress)
+        }
+        Err(KeptError::LineTooLong | KeptError::LineFeed) => Err(Refusal::Line),
+        Err(KeptError::Running) => Err(Refusal::Running),
+        Err(KeptError::Memory) => Err(Refusal::Memory),
+    }
+}
+
+/// Makes at most so many steps.
+pub(crate) fn advance(alloc: Global, kept: &mut Kept, count: u64) -> Result<Bytes, Refusal>
+    ensures { Advances count kept.old result kept.new }
+{
+    match kept.advance(count) {
+        Ok(progress) => tell(alloc, kept, progress),
+        Err(AllocError) => Err(Refusal::Memory),
+    }
+}
+
+/// Abandons what runs.
+pub(crate) fn interrupt(alloc: Global, kept: &mut Kept) -> Result<Bytes, Refusal>
+    ensures { Interrupts kept.old result kept.new }
+{
+    match kept.interrupt() {
+        Ok(()) => {
+            let progress = progress_at(kept);
+            tell(alloc, kept, progress)
+        }
+        Err(AllocError) => Err(Refusal::Memory),
+    }
+}
+
+/// A clear session.
+fn open_clear(alloc: Global) -> Result<Kept, Refusal>
+    ensures { MatchResult result (λ k. k ≡ clear) (λ e. e ≡ Refusal.Memory) }
+{
+    match open(alloc, &[]) {
+        Ok(kept) => Ok(kept),
+        Err(_) => Err(Refusal::Memory),
+    }
+}
+
+/// A session on the workspace of a file.
+fn open_file(alloc: Global, file: &[u8]) -> Result<Kept, Refusal>
+    ensures opened { IfOk result (λ k. BeginsWith file.now k) }
+    ensures refused { IfErr result (λ e. IsShut file.now e) }
+{
+    match open(alloc, file) {
+        Ok(kept) => Ok(kept),
+        Err(LoadError::Memory) => Err(Refusal::Memory),
+        Err(error) => Err(Refusal::Load(error)),
+    }
+}
+
+/// A session on the workspace of a tree, or on a clear one where that is null.
+fn open_tree(alloc: Global, tree: &Value) -> Result<Kept, Refusal>
+    requires { depth (view tree.now) ≤ max_depth }
+    ensures opened { IfOk result (λ k. IsOpened (view tree.now) k) }
+    ensures refused { IfErr result (λ e. IsClosed (view tree.now) e) }
+{
+    if tree.is_null() {
+        return open_clear(alloc);
+    }
+    let file = tree.to_vec(alloc)?;
+    open_file(alloc, &file)
+}
+
+/// Begins a session anew, on the workspace of a tree, or on a clear one where that is null.
+pub(crate) fn open_anew(alloc: Global, kept: &mut Kept, tree: &Value) -> Result<Bytes, Refusal>
+    requires { depth (view tree.now) ≤ max_depth }
+    ensures { Opens (view tree.now) kept.old result kept.new }
+{
+    *kept = open_tree(alloc, tree)?;
+    tell(alloc, kept, Progress::Idle)
+}
