@@ -1,19 +1,19 @@
 """A worker: a process that takes workspaces, plays the lines in them, and writes the answers, until there is no workspace without one.
 
-It is started by apl_many.crew, as `python3 -m apl_many.worker` with one line of JSON on its standard input. It ends when that is closed,
-and may be killed at any time: what it has taken and not answered is then another's.
+It is started by apl_many.crew, as `python3 -m apl_many.worker` with one line of JSON on its standard input. When that is closed, as where
+who started it has died, it ends at once. It may be killed at any time: what it has taken and not answered is then another's.
 """
 from __future__ import annotations
 
 import json
 import os
-import select
 import signal
 import socket
 import sys
+import threading
 import time
 from dataclasses import asdict, dataclass
-from typing import Callable, List, Tuple
+from typing import List, Optional, Tuple
 
 from apl import AplError
 from apl_many.answers import LARGE, Answer
@@ -47,42 +47,42 @@ class Job:
 
 
 class Worker:
-    """What takes and answers. `is_wanted` waits so many seconds, and says whether work is to go on."""
+    """What takes and answers."""
 
-    def __init__(self, job: Job, is_wanted: Callable[[float], bool]) -> None:
-        self.job, self.is_wanted = job, is_wanted
+    def __init__(self, job: Job) -> None:
+        self.job = job
         self.name = f"{socket.gethostname()}:{os.getpid()}"
-        self.count, self.ends = 1, 0.0
+        self.count = 1
+        # since when the database is away
+        self.away: Optional[float] = None
 
     def run(self) -> None:
-        """Works until each row has an answer or no more is wanted. A database that is away is tried again for PATIENCE seconds.
+        """Works until each row has an answer. A database that is away is tried again for PATIENCE seconds.
 
         Raises TableError where it stays away or refuses something, and OSError or AplError where the program can't be started.
         """
-        self.ends = time.monotonic() + PATIENCE
         while True:
             try:
                 with open_table(self.job.url, self.job.table) as table:
                     self._work(table)
                 return
             except Lost:
-                if time.monotonic() >= self.ends or not self.is_wanted(PAUSE):
+                self.away = self.away or time.monotonic()
+                if time.monotonic() - self.away >= PATIENCE:
                     raise
+                time.sleep(PAUSE)
 
     def _work(self, table: Table) -> None:
         """Works over one connection. Raises Lost where it is lost."""
         player = Player((table.lines() or "").split("\n"), self.job.bounds)
         try:
-            while self.is_wanted(0):
-                found = self._batch(table, player)
-                self.ends = time.monotonic() + PATIENCE
-                if not found and (table.is_done() or not self.is_wanted(PAUSE)):
-                    return
+            while self._batch(table, player) or not table.is_done():
+                self.away = None
         finally:
             player.close()
 
     def _batch(self, table: Table, player: Player) -> int:
-        """Takes rows and answers them, and returns how many."""
+        """Takes rows and answers them, and returns how many. Where others have taken all that are left it waits a little."""
         began, tasks = time.monotonic(), table.take(self.count)
         answers: List[Tuple[Task, Answer]] = []
         size = 0
@@ -94,6 +94,7 @@ class Worker:
                 break
         if not answers:
             table.give_back()
+            time.sleep(PAUSE)
             return 0
         table.finish(answers, self.name)
         took = time.monotonic() - began
@@ -101,17 +102,20 @@ class Worker:
         return len(answers)
 
 
-def is_open(seconds: float) -> bool:
-    """Whether standard input is still open after so many seconds, so that who started this process is there."""
-    return not select.select([0], [], [], seconds)[0]
+def end_with_input() -> None:
+    """Ends this process when its standard input ends, whatever else it does."""
+    while os.read(0, 1):
+        pass
+    os._exit(1)
 
 
 def main() -> int:
     """Works on the job that standard input has. Statuses: 0; 2 where the work can't be done, which is told."""
     signal.signal(signal.SIGINT, signal.SIG_IGN)
-    job = Job.of_json(sys.stdin.buffer.raw.readline())  # type: ignore[attr-defined]
+    job = Job.of_json(sys.stdin.buffer.readline())
+    threading.Thread(target=end_with_input, daemon=True).start()
     try:
-        Worker(job, is_open).run()
+        Worker(job).run()
     except (TableError, AplError, OSError) as why:
         print(f"apl-many: {why}", file=sys.stderr)
         return 2

@@ -10,12 +10,14 @@ from contextlib import redirect_stderr, redirect_stdout, suppress
 from typing import List, Optional, Tuple
 from unittest.mock import patch
 
-from apl_many.answers import FINE, Answer
+from apl_many.answers import FINE, LARGE, Answer
 from apl_many.command import main
 from apl_many.crew import Crew, CrewError
 from apl_many.files import NoName, checked
+from apl_many.player import Player
 from apl_many.progress import Progress, clock, summary
-from apl_many.table import Counts
+from apl_many.table import Counts, Lost, Table
+from apl_many.tables import open_table
 from apl_many.worker import Job, Worker
 from tests.many import RECALC, InFolder, bounds
 from tests.support import PROGRAM, TOP
@@ -126,7 +128,10 @@ class Typed(InFolder):
                 it.send_signal(number)
                 self.assertEqual(it.wait(20), status)
         self.assertEqual(self.typed()[1], "13 workspaces: 0 recalculated, 13 left\n")
+        # no worker is left that holds a workspace for a minute
+        began = time.monotonic()
         self.assertEqual(self.typed(self.path("lines"), "--workers", "2", "--seconds", "1")[1], "13 workspaces: 12 recalculated, 1 over its time (100)\n")
+        self.assertLess(time.monotonic() - began, 50)
 
 
 class Crews(InFolder):
@@ -141,10 +146,38 @@ class Crews(InFolder):
         job = self.job()
         self.assertEqual(Job.of_json(job.as_json()), job)
 
-    def test_a_worker_that_isnt_wanted(self) -> None:
-        job, asked = self.job(), [True, True, False]
-        Worker(job, lambda seconds: asked.pop(0)).run()
-        self.assertEqual(self.table().counts().left, 2)
+    def test_a_database_that_is_away_is_tried_again(self) -> None:
+        job, times = self.job(), []
+
+        def away(url: str, name: str) -> Table:
+            """Opens the table the third time."""
+            times.append(time.monotonic())
+            if len(times) < 3:
+                raise Lost("away")
+            return open_table(url, name)
+
+        with patch("apl_many.worker.open_table", away):
+            Worker(job).run()
+        self.assertEqual((len(times), self.table().counts().fine), (3, 5))
+        with patch("apl_many.worker.open_table", away), patch("apl_many.worker.PATIENCE", 0), self.assertRaises(Lost):
+            times.clear()
+            Worker(job).run()
+
+    def test_a_batch_grows_and_ends_in_time(self) -> None:
+        worker, table = Worker(self.job()), self.table()
+        table.load([(f"more{k}", data) for k, (_, data) in enumerate(self.small(60))])
+        player = Player(["RECALC"], bounds())
+        self.addCleanup(player.close)
+        with patch("apl_many.worker.SECONDS", 1000):
+            self.assertEqual([worker._batch(table, player) for _ in range(4)], [1, 2, 4, 8])
+        with patch("apl_many.worker.SECONDS", 0):
+            self.assertEqual(worker._batch(table, player), 1)
+        with patch("apl_many.worker.BYTES", 0):
+            self.assertEqual(worker._batch(table, player), 1)
+        worker.count = 1
+        with patch("apl_many.worker.MOST_BYTES", 10):
+            worker._batch(table, player)
+        self.assertEqual(table.counts().others, [(LARGE, 1)])
 
     def test_workers_that_die_each_time(self) -> None:
         crew = Crew(self.job(), 2)
