@@ -5,10 +5,11 @@ from contextlib import contextmanager
 from typing import Any, Iterator, List, Sequence, Tuple
 
 import psycopg2
+import psycopg2.errors
 from psycopg2.extras import execute_batch
 
 from apl_many.answers import Answer
-from apl_many.table import Lost, Table, TableError, Task
+from apl_many.table import Lost, NoTable, Table, TableError, Task
 
 # A machine that vanishes without a word is noticed after a minute, on both sides, and its rows are given back. A row may take long.
 SETTINGS = """set tcp_keepalives_idle = 30; set tcp_keepalives_interval = 10; set tcp_keepalives_count = 3;
@@ -23,6 +24,8 @@ def errors_told() -> Iterator[None]:
         yield
     except (psycopg2.OperationalError, psycopg2.InterfaceError) as why:
         raise Lost(f"{why}".strip()) from None
+    except psycopg2.errors.UndefinedTable:
+        raise NoTable() from None
     except psycopg2.Error as why:
         raise TableError(f"{why}".strip()) from None
 
@@ -33,7 +36,8 @@ class PostgresTable(Table):
     def __init__(self, url: str, name: str) -> None:
         super().__init__(name)
         with errors_told():
-            self.base = psycopg2.connect(url, client_encoding="UTF8", keepalives_idle=30, keepalives_interval=10, keepalives_count=3)
+            self.base = psycopg2.connect(url, client_encoding="UTF8", keepalives_idle=30, keepalives_interval=10, keepalives_count=3,
+                                         tcp_user_timeout=60_000)
             self.base.autocommit = True
         if (encoding := self.base.info.parameter_status("server_encoding")) not in ENCODINGS:
             raise TableError(f"the database has the encoding {encoding}, which lacks characters of APL: make one with the encoding UTF8")

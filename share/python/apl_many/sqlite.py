@@ -13,7 +13,7 @@ from itertools import islice
 from typing import Any, Iterator, List, Sequence, Tuple
 
 from apl_many.answers import Answer
-from apl_many.table import Lost, Table, TableError, Task
+from apl_many.table import Lost, NoTable, Table, TableError, Task
 
 # So long one waits while another writes.
 SECONDS = 60.0
@@ -25,6 +25,8 @@ def errors_told() -> Iterator[None]:
     try:
         yield
     except sqlite3.Error as why:
+        if "no such table" in f"{why}":
+            raise NoTable() from None
         raise (Lost if "locked" in f"{why}" or "busy" in f"{why}" else TableError)(f"{why}") from None
 
 

@@ -19,6 +19,13 @@ class TableError(Exception):
     """The database refuses something, as where there is no such table."""
 
 
+class NoTable(TableError):
+    """There is no such table."""
+
+    def __init__(self) -> None:
+        super().__init__("there is no such table yet: --make makes it, and --load FOLDER with workspaces in it")
+
+
 class Lost(TableError):
     """The database can't be reached, or is busy for too long. It may be there again later; what was begun is undone."""
 

@@ -39,7 +39,7 @@ class Typed(InFolder):
         output, errors = io.StringIO(), io.StringIO()
         with redirect_stdout(output), redirect_stderr(errors):
             try:
-                status = main([self.url, "--program", PROGRAM, *words])
+                status = main([self.url, "--program", PROGRAM, "--workers", "2", *words])
             except SystemExit as end:
                 status = int(end.code or 0)
         return status, output.getvalue(), errors.getvalue()
@@ -56,7 +56,7 @@ class Typed(InFolder):
         (self.folder / "in" / "wrong").write_bytes(b"{}")
         (self.folder / "in" / ".hidden").write_bytes(b"")
         (self.folder / "in" / "folder").mkdir()
-        status, output, errors = self.typed("--load", self.path("in"), self.path("lines"), "--workers", "2", "--take", self.path("out"))
+        status, output, errors = self.typed("--load", self.path("in"), self.path("lines"), "--take", self.path("out"))
         self.assertEqual((status, output), (1, "13 workspaces: 12 recalculated, 1 refused (2)\n"))
         self.assertTrue(errors.startswith("13 workspaces loaded\n") and errors.endswith("13 answers taken\nwrong: 2, refused\n"), errors)
         self.assertEqual(sorted(os.listdir(self.path("out/workspaces"))), [f"w{k:03}" for k in range(1, 13)])
@@ -64,7 +64,8 @@ class Typed(InFolder):
         self.assertEqual(self.read("out/workspaces/w007"), self.workspace(f"N←7\n{RECALC}RECALC\n"))
         self.assertEqual((self.folder / "out/workspaces/w007").stat().st_mode & 0o777, 0o600)
         rows = list(csv.reader(self.read("out/numbers.csv").decode().splitlines()))
-        self.assertEqual([row[:3] for row in rows], [["name", "number", "told"], *([f"w{k:03}", "0", "recalculated"] for k in range(1, 13)), ["wrong", "2", "refused"]])
+        wanted = [["name", "number", "told"], *([f"w{k:03}", "0", "recalculated"] for k in range(1, 13)), ["wrong", "2", "refused"]]
+        self.assertEqual([row[:3] for row in rows], wanted)
 
     def test_one_after_the_other(self) -> None:
         self.assertEqual(self.typed("--make")[:2], (0, "0 workspaces: 0 recalculated\n"))
@@ -118,7 +119,8 @@ class Typed(InFolder):
 
     def test_an_interrupt_loses_nothing(self) -> None:
         (self.folder / "in" / "w000").write_bytes(self.workspace("∇RECALC\nL:→L\n∇\n"))
-        words = [sys.executable, COMMAND, self.url, "--load", self.path("in"), self.path("lines"), "--workers", "1", "--program", PROGRAM]
+        words = [sys.executable, COMMAND, self.url, "--load", self.path("in"), self.path("lines"), "--workers", "1", "--seconds", "600",
+                 "--program", PROGRAM]
         for number, status in ((signal.SIGINT, 130), (signal.SIGTERM, 143), (signal.SIGKILL, -9)):
             with subprocess.Popen(words, stdout=subprocess.DEVNULL, stderr=subprocess.PIPE) as it:
                 assert it.stderr
@@ -128,10 +130,10 @@ class Typed(InFolder):
                 it.send_signal(number)
                 self.assertEqual(it.wait(20), status)
         self.assertEqual(self.typed()[1], "13 workspaces: 0 recalculated, 13 left\n")
-        # no worker is left that holds a workspace for a minute
+        # no worker is left that holds a workspace for ten minutes
         began = time.monotonic()
-        self.assertEqual(self.typed(self.path("lines"), "--workers", "2", "--seconds", "1")[1], "13 workspaces: 12 recalculated, 1 over its time (100)\n")
-        self.assertLess(time.monotonic() - began, 50)
+        self.assertEqual(self.typed(self.path("lines"), "--seconds", "1")[1], "13 workspaces: 12 recalculated, 1 over its time (100)\n")
+        self.assertLess(time.monotonic() - began, 300)
 
 
 class Crews(InFolder):

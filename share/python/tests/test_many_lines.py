@@ -6,7 +6,8 @@ from apl_many.lines import MOST_LINES, lines_of
 
 class Lines(unittest.TestCase):
     def test_lines(self) -> None:
-        for data, lines in ((b"", []), (b"\n", [""]), (b"A", ["A"]), (b"A\n", ["A"]), (b"A\r\n\r\nB\r", ["A", "", "B\r"]), ("2×3\n".encode(), ["2×3"])):
+        ends = b"A\r\n\r\nB\r"
+        for data, lines in ((b"", []), (b"\n", [""]), (b"A", ["A"]), (b"A\n", ["A"]), (ends, ["A", "", "B\r"]), ("2×3\n".encode(), ["2×3"])):
             self.assertEqual(lines_of(data), lines)
 
     def test_the_longest(self) -> None:

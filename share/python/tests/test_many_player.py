@@ -50,7 +50,8 @@ class Played(InFolder):
         [(_, right)] = self.small(1)
         player.play(right)
         session = player.session
-        for workspace, number in ((b"", 1), (b"{", 1), (b"{}", 2), (right.replace(b'"io":1', b'"io":2'), 2), (right.replace(b'"name":"N"', b'"name":"1"'), 4)):
+        wrong = right.replace(b'"name":"N"', b'"name":"1"')
+        for workspace, number in ((b"", 1), (b"{", 1), (b"{}", 2), (right.replace(b'"io":1', b'"io":2'), 2), (wrong, 4)):
             self.assertEqual(self.played(player, workspace), Answer(number))
         self.assertIs(player.session, session)
         self.assertEqual(player.play(right).number, FINE)

@@ -98,7 +98,7 @@ class Tables(InFolder):
         with self.assertRaises(TableError):
             open_table(str(self.folder / "text"), "t")
         self.table()
-        with self.assertRaisesRegex(TableError, "no such table: other"), open_table(f"sqlite:///{self.folder}/many.db", "other") as table:
+        with self.assertRaisesRegex(TableError, "there is no such table yet"), open_table(f"sqlite:///{self.folder}/many.db", "other") as table:
             table.counts()
 
     def test_a_busy_file_is_lost(self) -> None:
