@@ -42,7 +42,6 @@ class Task:
 class Row:
     """An answered row."""
 
-    row: int
     name: str
     answer: Answer
     worker: str
@@ -201,4 +200,4 @@ class Table(ABC):
                                  last, MANY):
             for last, name, number, seconds, worker in found:
                 [[transcript, after]] = self._run("select transcript, after from TABLE where id = ?", last)
-                yield Row(last, name, Answer(number, transcript, None if after is None else bytes(after), seconds), worker)
+                yield Row(name, Answer(number, transcript, None if after is None else bytes(after), seconds), worker)
