@@ -49,7 +49,7 @@ class PostgresTable(Table):
     def take(self, count: int) -> List[Task]:
         self._run("begin")
         return [Task(*row) for row in self._run(
-            "select id, octet_length(workspace) from TABLE where number is null order by id limit ? for update skip locked", count)]
+            "select id, length(workspace) from TABLE where number is null order by id limit ? for update skip locked", count)]
 
     def finish(self, answers: Sequence[Tuple[Task, Answer]], worker: str) -> None:
         self._answer(answers, worker)

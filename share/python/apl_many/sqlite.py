@@ -13,7 +13,7 @@ from itertools import islice
 from typing import Any, Iterator, List, Sequence, Tuple
 
 from apl_many.answers import Answer
-from apl_many.table import Lost, NoTable, Table, TableError, Task
+from apl_many.table import Lost, NoTable, Table, TableError, Task, rows_of
 
 # So long one waits while another writes.
 SECONDS = 60.0
@@ -57,8 +57,7 @@ class SqliteTable(Table):
         with errors_told(), closing(self.base.execute(statement)) as rows:
             taken = [Task(*row) for row in islice((it for it in rows if self._lock(it[0])), count)]
         # another may have answered a row after it was looked for and before it was locked
-        free = {row for row, in self._run(
-            f"select id from TABLE where number is null and id in ({', '.join(str(it.row) for it in taken)})")}
+        free = {row for row, in self._run(f"select id from TABLE where number is null and id in ({rows_of(taken)})")}
         for it in taken:
             if it.row not in free:
                 fcntl.lockf(self.locks, fcntl.LOCK_UN, 1, it.row)

@@ -12,7 +12,7 @@ from apl_many.answers import FINE, Answer
 
 NAME = re.compile("[a-z_][a-z0-9_]{0,40}")
 # So many rows are read or written at once.
-MANY = 100
+MANY, BYTES = 100, 1 << 20
 
 
 class TableError(Exception):
@@ -164,10 +164,12 @@ class Table(ABC):
         found = self._run("select lines from TABLE_lines")
         return found[0][0] if found else None
 
-    def workspace(self, task: Task) -> bytes:
-        """Returns the workspace of a row."""
-        [[data]] = self._run("select workspace from TABLE where id = ?", task.row)
-        return bytes(data)
+    def workspaces(self, tasks: Sequence[Task]) -> Iterator[Tuple[Task, bytes]]:
+        """Yields rows with their workspaces, of which several are read at once where they are small."""
+        for some in groups(tasks):
+            found = {row: data for row, data in self._run(f"select id, workspace from TABLE where id in ({rows_of(some)})")}
+            for it in some:
+                yield it, bytes(found[it.row])
 
     def _answer(self, answers: Sequence[Tuple[Task, Answer]], worker: str) -> None:
         """Writes answers. The first one of a row stays."""
@@ -196,8 +198,27 @@ class Table(ABC):
     def answered(self) -> Iterator[Row]:
         """Yields the answered rows."""
         last = -1
-        while found := self._run("select id, name, number, seconds, worker from TABLE where id > ? and number is not null order by id limit ?",
-                                 last, MANY):
-            for last, name, number, seconds, worker in found:
-                [[transcript, after]] = self._run("select transcript, after from TABLE where id = ?", last)
-                yield Row(name, Answer(number, transcript, None if after is None else bytes(after), seconds), worker)
+        while found := self._run("select id, coalesce(length(transcript), 0) + coalesce(length(after), 0) from TABLE "
+                                 "where id > ? and number is not null order by id limit ?", last, MANY):
+            last = found[-1][0]
+            for some in groups([Task(*it) for it in found]):
+                for name, number, seconds, worker, transcript, after in self._run(
+                        f"select name, number, seconds, worker, transcript, after from TABLE where id in ({rows_of(some)}) order by id"):
+                    yield Row(name, Answer(number, transcript, None if after is None else bytes(after), seconds), worker)
+
+
+def groups(tasks: Sequence[Task]) -> Iterator[List[Task]]:
+    """Yields rows in groups, each of one row, or of several that have at most BYTES together."""
+    some: List[Task] = []
+    for it in tasks:
+        if some and sum(other.size for other in some) + it.size > BYTES:
+            yield some
+            some = []
+        some.append(it)
+    if some:
+        yield some
+
+
+def rows_of(tasks: Sequence[Task]) -> str:
+    """Returns the numbers of rows as a statement lists them."""
+    return ", ".join(str(it.row) for it in tasks)

@@ -13,12 +13,12 @@ import sys
 import threading
 import time
 from dataclasses import asdict, dataclass
-from typing import List, Optional, Tuple
+from typing import Optional
 
 from apl import AplError
 from apl_many.answers import LARGE, Answer
 from apl_many.player import MOST_BYTES, Bounds, Player
-from apl_many.table import Lost, Table, TableError, Task
+from apl_many.table import Lost, Table, TableError
 from apl_many.tables import open_table
 
 # A transaction takes some such seconds, and answers some such bytes and at most so many rows.
@@ -84,10 +84,10 @@ class Worker:
     def _batch(self, table: Table, player: Player) -> int:
         """Takes rows and answers them, and returns how many. Where others have taken all that are left it waits a little."""
         began, tasks = time.monotonic(), table.take(self.count)
-        answers: List[Tuple[Task, Answer]] = []
+        answers = [(task, Answer(LARGE)) for task in tasks if task.size > MOST_BYTES]
         size = 0
-        for task in tasks:
-            answer = player.play(table.workspace(task)) if task.size <= MOST_BYTES else Answer(LARGE)
+        for task, workspace in table.workspaces([task for task in tasks if task.size <= MOST_BYTES]):
+            answer = player.play(workspace)
             answers.append((task, answer))
             size += len(answer.transcript or "") + len(answer.after or b"")
             if time.monotonic() - began >= SECONDS or size >= BYTES:

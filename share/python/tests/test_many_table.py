@@ -3,7 +3,7 @@ import unittest
 from unittest.mock import patch
 
 from apl_many.answers import FINE, MEMORY, Answer
-from apl_many.table import Counts, Lost, TableError
+from apl_many.table import BYTES, Counts, Lost, TableError, Task, groups
 from apl_many.tables import open_table
 from tests.many import InFolder
 
@@ -16,20 +16,32 @@ class Tables(InFolder):
     def test_load_keeps_what_is_there(self) -> None:
         table = self.table()
         self.assertEqual((table.load(ROWS[:4]), table.load(ROWS), table.load([("w0", b"other")])), (4, 6, 0))
-        self.assertEqual(table.workspace(table.take(1)[0]), b"0")
+        self.assertEqual([data for _, data in table.workspaces(table.take(1))], [b"0"])
         self.assertEqual(table.counts(), Counts([(None, 10)]))
 
     def test_take_and_finish(self) -> None:
         table = self.table()
         table.load(ROWS)
         tasks = table.take(3)
-        self.assertEqual([table.workspace(it) for it in tasks], [b"0", b"1", b"2"])
+        self.assertEqual(list(table.workspaces(tasks)), list(zip(tasks, (b"0", b"1", b"2"))))
         table.finish([(tasks[0], DONE), (tasks[1], Answer(MEMORY))], "me")
-        self.assertEqual([table.workspace(it) for it in table.take(2)], [b"2", b"3"])
+        self.assertEqual([data for _, data in table.workspaces(table.take(2))], [b"2", b"3"])
         counts = table.counts()
         self.assertEqual((counts.all, counts.left, counts.fine, counts.others), (10, 8, 1, [(MEMORY, 1)]))
         self.assertEqual(table.others(5), [("w1", MEMORY)])
         self.assertEqual([(it.name, it.answer, it.worker) for it in table.answered()], [("w0", DONE, "me"), ("w1", Answer(MEMORY), "me")])
+
+    def test_large_ones_are_read_alone(self) -> None:
+        tasks = [Task(row, size) for row, size in enumerate((1, BYTES, BYTES - 1, 1, 1, 2 * BYTES, 5))]
+        self.assertEqual([[it.row for it in some] for some in groups(tasks)], [[0], [1], [2, 3], [4], [5], [6]])
+        self.assertEqual(list(groups([])), [])
+        with patch("apl_many.table.BYTES", 2), patch("apl_many.table.MANY", 3):
+            table = self.table()
+            table.load(ROWS)
+            tasks = table.take(10)
+            self.assertEqual([data for _, data in table.workspaces(tasks)], [data for _, data in ROWS])
+            table.finish([(it, DONE) for it in tasks], "me")
+            self.assertEqual([it.name for it in table.answered()], [name for name, _ in ROWS])
 
     def test_the_first_answer_stays(self) -> None:
         table = self.table()
