@@ -184,7 +184,7 @@ class Page {
     /** Types what makes the suspended call go on to its next line. */
     async #step() {
         const [{ name }] = this.#levels, found = await this.session.listing(name);
-        const lines = found && stepLines(name, found.text.trimEnd().split('\n').length - 1, found.stop);
+        const lines = found && stepLines(name, found.text.split('\n').length - 2, found.stop);
         if (lines) this.typeAlone(lines);
         else this.say(found ? 'So many stops are too long for one typed line.' : `There is no function ${name} now.`);
     }
