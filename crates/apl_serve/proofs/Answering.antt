@@ -5,7 +5,7 @@ use Rattle.std.specs.Global.{Vec}
 use Rattle.apl_machine_state.specs.State.{State}
 use Rattle.apl_serve.specs.Answers.{Answers, DoesBytes, Outcome, answer_of}
 use Rattle.apl_serve.specs.Refusals.{refusal_tree}
-use Rattle.apl_serve.specs.Serving.{IsUnkept, ReadsRequest, ServesOne, Writes, WritesAnswer}
+use Rattle.apl_serve.specs.inside.Parts.{IsUnkept, ReadsRequest, ServesOne, Writes, WritesAnswer}
 use Rattle.apl_serve.specs.Trees.{line_of}
 use Rattle.apl_serve.specs.declared.error.Refusal.{Refusal}
 use Rattle.apl_serve.specs.declared.error.Refusal.TheVariants as refusal

@@ -1,5 +1,5 @@
 -- What the tree of a request does, its bytes do.
-use Rattle.std.proofs.Common.{◌≡◌, ◌≤◌, ◌⊎◌, ℕ, List, Option, Some, None, length, inl, inr}
+use Rattle.std.proofs.Common.{◌≡◌, ◌≤◌, ◌⊎◌, ℕ, List, Option, Some, None, length, inl, inr, refl}
 use Rattle.std.specs.Prelude.{Result, Ok, Err}
 use Rattle.serde_json.specs.Data.{Data}
 use Rattle.apl_machine_state.specs.State.{State}
@@ -8,6 +8,7 @@ use Rattle.apl_serve.specs.Answers.{Answered, Does, DoesBytes, Outcome, listing_
 use Rattle.apl_serve.specs.Requests.{Request, Line, Advance, Interrupt, Names, Indicator, Listing, Value, Save, Open, request_of}
 use Rattle.apl_serve.specs.declared.error.Refusal.{Refusal}
 use Rattle.apl_serve.specs.declared.error.Refusal.TheVariants as refusal
+use Rattle.apl_serve.specs.inside.Parts.{IsUnread}
 
 either : {A B : Type 0} → (A → ⊥) → (B → ⊥) → A ⊎ B → ⊥
 either left right (inl a) = left a
@@ -78,7 +79,7 @@ pub bytes_done : (outcome : Outcome) (request : List ℕ) (tree : Data) (s s' : 
 bytes_done (Ok text) request tree s s' few json does = (few, tree, json, does)
 bytes_done (Err refusal.Length) request tree s s' few json does = absurd (short (request_of tree) s s' does)
 bytes_done (Err refusal.Json) request tree s s' few json does = absurd (readable (request_of tree) s s' does)
-bytes_done (Err refusal.Memory) request tree s s' few json does = inr (tree, json, does)
+bytes_done (Err refusal.Memory) request tree s s' few json does = inr (few, tree, json, does)
 bytes_done (Err refusal.Request) request tree s s' few json does = (few, tree, json, does)
 bytes_done (Err refusal.Line) request tree s s' few json does = (few, tree, json, does)
 bytes_done (Err refusal.Running) request tree s s' few json does = (few, tree, json, does)
@@ -86,3 +87,16 @@ bytes_done (Err refusal.Function) request tree s s' few json does = (few, tree, 
 bytes_done (Err refusal.Value) request tree s s' few json does = (few, tree, json, does)
 bytes_done (Err refusal.Answer) request tree s s' few json does = (few, tree, json, does)
 bytes_done (Err (refusal.Load e)) request tree s s' few json does = (few, tree, json, does)
+
+-- the bytes of a request that aren't read
+pub bytes_unread : (e : Refusal) (request : List ℕ) (s : State) → length request ≤ most → IsUnread request e → DoesBytes request s (Err e) s
+bytes_unread refusal.Json request s few unread = (few, unread, refl)
+bytes_unread refusal.Memory request s few unread = inl refl
+bytes_unread refusal.Length request s few unread = absurd unread
+bytes_unread refusal.Request request s few unread = absurd unread
+bytes_unread refusal.Line request s few unread = absurd unread
+bytes_unread refusal.Running request s few unread = absurd unread
+bytes_unread refusal.Function request s few unread = absurd unread
+bytes_unread refusal.Value request s few unread = absurd unread
+bytes_unread refusal.Answer request s few unread = absurd unread
+bytes_unread (refusal.Load e) request s few unread = absurd unread

@@ -4,9 +4,10 @@ use Rattle.std.specs.Prelude.{IsTrue, Result, Ok, Err}
 use Rattle.apl_devices.specs.Devices.{Extends}
 use Rattle.apl_machine_state.specs.State.{State}
 use Rattle.apl_serve.specs.Answers.{Answers}
-use Rattle.apl_serve.specs.Serving.{BeginsWith, BeginWith, AnswersAll, ReadPiece, EndsServing, endless, HasServed, StoppedReading, FailedToWrite, ServesOne}
+use Rattle.apl_serve.specs.Serving.{BeginsWith, BeginWith, AnswersAll, ReadPiece, EndsServing, endless, HasServed, StoppedReading, FailedToWrite}
 use Rattle.apl_serve.specs.declared.error.ServeError.{ServeError}
 use Rattle.apl_serve.specs.declared.error.ServeError.TheVariants.{Read, Write, TooMany}
+use Rattle.apl_serve.specs.inside.Parts.{ServesOne}
 
 -- So far: so many requests were read, and the answers to all of them written.
 pub record Served (s s' : State) (before after : List ℕ) (tells : Bool) (old new : List ℕ) (count : ℕ) : Type 0 where

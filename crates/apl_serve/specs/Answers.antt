@@ -1,9 +1,8 @@
 -- What a request does to the state of a session, and what it is answered. Memory may run out at any time; nothing that was written is lost.
-use Rattle.std.specs.Prelude.{◌≡◌, ◌≢◌, ◌⊎◌, ℕ, ◌≤◌, ◌<◌, List, [], ◌∷◌, ◌++◌, length, codes, IsTrue, IsFalse, Option, Some, None, option_map, option_and_then, Result, Ok, Err, ⊤}
+use Rattle.std.specs.Prelude.{◌≡◌, ◌≢◌, ◌⊎◌, ℕ, ◌≤◌, ◌<◌, List, [], ◌++◌, length, codes, IsTrue, IsFalse, Option, Some, None, option_map, option_and_then, Result, Ok, Err, ⊤}
 use Rattle.serde_json.specs.Data.{Data}
 use Rattle.serde_json.specs.Find.{as_null}
 use Rattle.apl_charset.specs.Decoding.{decoded}
-use Rattle.apl_arrays.specs.Cells.{Arr}
 use Rattle.apl_defn.specs.Definitions.{Text}
 use Rattle.apl_machine_state.specs.declared.output.Progress.{Progress}
 use Rattle.apl_machine_state.specs.declared.output.Progress.TheVariants.{Idle}
@@ -13,7 +12,6 @@ use Rattle.apl_session.specs.Defining.{closed, name_in}
 use Rattle.apl_session.specs.Events.{typed}
 use Rattle.apl_workspace_file.specs.Json.{IsJson}
 use Rattle.apl_workspace_file.specs.Trees.{list_tree}
-use Rattle.apl_workspace.specs.Numbers.{load_number}
 use Rattle.apl_workspace.specs.Refusals.{IsUnloaded}
 use Rattle.apl_workspace.specs.Saved.{IsLoaded, IsSaved, IsSavedAs, settled}
 use Rattle.apl_workspace.specs.declared.error.LoadError.{LoadError}
@@ -40,12 +38,12 @@ Tells s progress (Err e) s' = ⊥
 abbrev pub Types : List ℕ → State → Outcome → State → Type 0
 Types line s (Err refusal.Line) s' = (¬ IsOneLine line) × (s' ≡ s)
 Types line s (Err refusal.Running) s' = IsOneLine line × IsFalse (is_idle s) × (s' ≡ s)
-Types line s (Err refusal.Memory) s' = s' ≡ s
+Types line s (Err refusal.Memory) s' = IsOneLine line × IsTrue (is_idle s) × (s' ≡ s)
 Types line s outcome s' = IsOneLine line × IsTrue (is_idle s) × Tells (typed s line) (progress_at (typed s line)) outcome s'
 
 -- At most so many steps are made, or less where memory runs out.
 abbrev pub Advances : ℕ → State → Outcome → State → Type 0
-Advances count s (Err refusal.Memory) s' = (done : ℕ) × (done ≤ count) × (s' ≡ steps done s)
+Advances count s (Err refusal.Memory) s' = (done : ℕ) × (done < count) × (s' ≡ steps done s)
 Advances count s outcome s' = Tells (steps count s) (steps_progress count s) outcome s'
 
 -- What runs is abandoned.
@@ -63,19 +61,7 @@ IsOpened tree s = IsOpenedBy (as_null tree) tree s
 
 -- the tree stands for no state, for this reason
 abbrev pub IsUnopened : Data → LoadError → Type 0
-IsUnopened tree e = (bytes : List ℕ) × IsJson bytes tree × IsUnloaded bytes e × (e ≢ load.Memory)
-
--- For private clauses: why bytes aren't opened.
-abbrev pub IsShut : List ℕ → Refusal → Type 0
-IsShut bytes (refusal.Load e) = IsUnloaded bytes e × (e ≢ load.Memory)
-IsShut bytes refusal.Memory = Unit {0}
-IsShut bytes e = ⊥
-
--- For private clauses: why a tree isn't opened.
-abbrev pub IsClosed : Data → Refusal → Type 0
-IsClosed tree (refusal.Load e) = IsUnopened tree e
-IsClosed tree refusal.Memory = Unit {0}
-IsClosed tree e = ⊥
+IsUnopened tree e = ((s : State) → ¬ IsOpened tree s) × ((bytes : List ℕ) × IsJson bytes tree × IsUnloaded bytes e × (e ≢ load.Memory))
 
 -- The session begins anew in the state that a tree stands for.
 abbrev pub Opens : Data → State → Outcome → State → Type 0
@@ -92,9 +78,9 @@ Answered None e (Ok text) = ⊥
 
 -- The file of the workspace is answered, where nothing runs. What is loaded of it is the same state, without its open definition, all its output taken.
 abbrev pub Saves : State → Outcome → Type 0
-Saves s (Ok text) = (file : List ℕ) × IsSavedAs file (closed s) × IsLoaded file (settled s) × (text ≡ codes "{\"workspace\":" ++ file ++ codes "}\n")
+Saves s (Ok text) = IsTrue (is_idle s) × ((file : List ℕ) × IsSavedAs file (closed s) × IsLoaded file (settled s) × (text ≡ codes "{\"workspace\":" ++ file ++ codes "}\n"))
 Saves s (Err refusal.Running) = IsFalse (is_idle s)
-Saves s (Err refusal.Memory) = Unit {0}
+Saves s (Err refusal.Memory) = IsTrue (is_idle s)
 Saves s (Err e) = ⊥
 
 -- the name that bytes spell
@@ -120,22 +106,20 @@ Does (Some (Listing name)) s outcome s' = Answered (listing_answer s name) refus
 Does (Some (Value name)) s outcome s' = Answered (value_answer s name) refusal.Value outcome × (s' ≡ s)
 Does (Some Save) s outcome s' = Saves s outcome × (s' ≡ s)
 
--- For private clauses: the bytes of a request aren't read, for this reason.
-abbrev pub IsUnread : List ℕ → Refusal → Type 0
-IsUnread bytes refusal.Json = (tree : Data) → ¬ IsJson bytes tree
-IsUnread bytes refusal.Memory = Unit {0}
-IsUnread bytes e = ⊥
-
 -- the most bytes of a request
 abbrev pub most : ℕ
 most = 100000000
 
--- What the bytes of a request do in a state.
+-- A request is read and done.
+abbrev pub DoesRead : List ℕ → State → Outcome → State → Type 0
+DoesRead request s outcome s' = (length request ≤ most) × ((tree : Data) × IsJson request tree × Does (request_of tree) s outcome s')
+
+-- What the bytes of a request do in a state. There may be no memory to read them.
 abbrev pub DoesBytes : List ℕ → State → Outcome → State → Type 0
 DoesBytes request s (Err refusal.Length) s' = (most < length request) × (s' ≡ s)
-DoesBytes request s (Err refusal.Json) s' = ((tree : Data) → ¬ IsJson request tree) × (s' ≡ s)
-DoesBytes request s (Err refusal.Memory) s' = (s' ≡ s) ⊎ ((tree : Data) × IsJson request tree × Does (request_of tree) s (Err refusal.Memory) s')
-DoesBytes request s outcome s' = (length request ≤ most) × ((tree : Data) × IsJson request tree × Does (request_of tree) s outcome s')
+DoesBytes request s (Err refusal.Json) s' = (length request ≤ most) × ((tree : Data) → ¬ IsJson request tree) × (s' ≡ s)
+DoesBytes request s (Err refusal.Memory) s' = (s' ≡ s) ⊎ DoesRead request s (Err refusal.Memory) s'
+DoesBytes request s outcome s' = DoesRead request s outcome s'
 
 -- what is written
 abbrev pub answer_of : Outcome → List ℕ

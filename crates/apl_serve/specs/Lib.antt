@@ -3,3 +3,4 @@ pub mod Requests
 pub mod Trees
 pub mod Answers
 pub mod Serving
+pub mod inside

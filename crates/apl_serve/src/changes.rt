@@ -5,8 +5,9 @@ ghost use Rattle.serde_json.specs.Read.{max_depth};
 ghost use Rattle.serde_json.specs.View.{view};
 ghost use Rattle.apl_machine_state.specs.State.{clear, progress_at};
 ghost use Rattle.apl_kept.specs.Keeping.{BeginsWith};
-ghost use Rattle.apl_serve.specs.Answers.{Advances, Interrupts, IsClosed, IsOpened, IsShut, Opens, Tells, Types};
+ghost use Rattle.apl_serve.specs.Answers.{Advances, Interrupts, IsOpened, Opens, Tells, Types};
 ghost use Rattle.apl_serve.specs.Trees.{line_of, told_tree};
+ghost use Rattle.apl_serve.specs.inside.Parts.{IsClosed, IsShut};
 
 use crate::answer::line_of;
 use crate::error::Refusal;

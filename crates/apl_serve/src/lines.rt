@@ -1,6 +1,7 @@
 //! Requests that are read.
 ghost use Rattle.std.specs.Prelude.{◌≡◌, ◌≢◌, ◌==◌, length, if◌then◌else◌, IfErr, IfOk, IsTrue};
-ghost use Rattle.apl_serve.specs.Serving.{DropsLine, IsShort, ReadsRequest, reader_failed};
+ghost use Rattle.apl_serve.specs.Serving.{reader_failed};
+ghost use Rattle.apl_serve.specs.inside.Parts.{DropsLine, IsShort, ReadsRequest};
 
 use crate::error::{Refusal, ServeError};
 use apl_devices::{Failed, Source, read_byte};

@@ -5,9 +5,10 @@ ghost use Rattle.serde_json.specs.Read.{max_depth};
 ghost use Rattle.serde_json.specs.Find.{as_bool, as_object, as_str};
 ghost use Rattle.serde_json.specs.View.{view};
 ghost use Rattle.apl_workspace_file.specs.Json.{IsJson};
-ghost use Rattle.apl_serve.specs.Answers.{Does, DoesBytes, IsUnread, most};
+ghost use Rattle.apl_serve.specs.Answers.{Does, DoesBytes, most};
 ghost use Rattle.apl_serve.specs.Requests as spec;
 ghost use Rattle.apl_serve.specs.Requests.{advance_of, asked, look_at, only_member, open_of, request_of, sight_of, where_true};
+ghost use Rattle.apl_serve.specs.inside.Parts.{IsUnread};
 
 use crate::changes::{advance, interrupt, open_anew, type_line};
 use crate::error::Refusal;

@@ -1,7 +1,8 @@
 //! A session is served.
 ghost use Rattle.std.specs.Prelude.{◌≡◌, ◌≤◌, length, IsTrue};
 ghost use Rattle.apl_serve.specs.Answers.{most};
-ghost use Rattle.apl_serve.specs.Serving.{EndsServing, ServesOne, Writes, WritesAnswer, reader_failed, writer_failed};
+ghost use Rattle.apl_serve.specs.Serving.{EndsServing, reader_failed, writer_failed};
+ghost use Rattle.apl_serve.specs.inside.Parts.{ServesOne, Writes, WritesAnswer};
 
 use crate::error::ServeError;
 use crate::lines::{Line, read_request};
