@@ -76,6 +76,11 @@ class Session:
                 raise Interrupted(result)
         return result
 
+    @property
+    def next_line(self) -> int:
+        """The number of the next line of the definition that is open, 0 where none is."""
+        return self._next
+
     def interrupt(self) -> None:
         """Has the line that runs be interrupted, if one does: for other threads and for signal handlers."""
         self._wants_interrupt = True
