@@ -4,7 +4,7 @@ from math import prod
 from typing import Any, Dict, List, Optional
 
 from apl import Died, Function, Level, Line, Refused, Result, Session, Variable
-from apl.commands import Library, NotDone, listed, path_of, when
+from apl.commands import Library, NotDone, described, workspaces
 from apl.pipe import Keyboard
 from ipykernel.kernelapp import IPKernelApp
 from ipykernel.kernelbase import Kernel
@@ -61,10 +61,11 @@ class AplKernel(Kernel):
     @staticmethod
     def again(library: Library, name: str) -> str:
         """Has a fresh session take the workspace of a name as its file has it, and returns what is told of that."""
+        path = library.path(name)
         try:
-            if name and os.path.exists(path_of(library.folder, name)):
+            if name and os.path.exists(path):
                 library.load(name)
-                return f"The session begins with the workspace {name} as it was saved {when(path_of(library.folder, name))}."
+                return f"The session begins with the workspace {name}: {described(path)}."
         except (NotDone, OSError, Refused) as error:
             return f"The session begins with a clear workspace: {error}."
         return "The session begins with a clear workspace."
@@ -164,8 +165,7 @@ class AplKernel(Kernel):
         except NotDone as error:
             raise Ended("NOT DONE", str(error), f"{RED}{error}{PLAIN}") from None
         if done is not None or library.name != before:
-            has_file = bool(library.name) and os.path.exists(path_of(library.folder, library.name))
-            self.note.write(str(library.folder), library.name if has_file else "")
+            self.note.write(library.folder, library.name if library.name and os.path.exists(library.path(library.name)) else "")
         if done:
             output.flush()
             output.send("".join(f"{it}\n" for it in done))
@@ -186,7 +186,7 @@ class AplKernel(Kernel):
         files: List[str] = []
         try:
             library = self.begun()
-            names, files = [it.name for it in library.session.names()], listed(library.folder)
+            names, files = [it.name for it in library.session.names()], workspaces(library.folder)
         except (OSError, Died, Refused):
             # what needs no session can still be told
             pass
@@ -216,7 +216,7 @@ class AplKernel(Kernel):
                 header, *lines = session.listing(name)
                 return "\n".join([f"    ∇ {header}", *(f"{f'[{k}]':<3} {it}" for k, it in enumerate(lines, 1)), "    ∇"])
             if isinstance(found[0], Variable):
-                return described(found[0], session)
+                return told_of(found[0], session)
         except (OSError, Died, Refused):
             pass
         return ""
@@ -251,7 +251,7 @@ def below(indicator: List[Level]) -> List[str]:
     return ["      )SI", *standing, f"{DIM}{HINT}{PLAIN}"] if standing else []
 
 
-def described(variable: Variable, session: Session) -> str:
+def told_of(variable: Variable, session: Session) -> str:
     """Returns a variable's type and shape, and its value as the machine shows it, where that isn't large."""
     shape = " ".join(map(str, variable.shape))
     told = f"{variable.name}: {variable.type}{f', shape {shape}' if shape else ', a scalar'}"

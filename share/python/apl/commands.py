@@ -1,25 +1,28 @@
 """The commands for files, which a front end does in the machine's place: )SAVE, )LOAD, )LIB and )WSID.
 
-A workspace has a name, and its file stands in a folder: that of the name LEDGER is LEDGER.json.
+A workspace has the name of its file, which stands in one folder.
 """
 import os
 import re
 import time
 from contextlib import suppress
 from dataclasses import dataclass
+from hashlib import sha256
 from typing import List, Optional
 
 from apl.errors import AplError, NotSaved, Refused
+from apl.files import digest, save_file
 from apl.session import PathLike, Session
 
-SUFFIX = ".json"
 WORDS = (")LIB", ")LOAD", ")SAVE", ")WSID")
 LINE = re.compile(r" *\)(?:(LIB)|(LOAD) +(\S+)|(SAVE|WSID)(?: +(\S+))?) *", re.IGNORECASE)
 CLEARS = re.compile(r" *\)CLEAR *", re.IGNORECASE)
-NAME = re.compile(r"[^/\\.\0][^/\\\0]*")
+NAME = re.compile(r"[^/.\s\0][^/\s\0]*")
 # How the file of a workspace begins: each of its keys may be the first.
 BEGINS = re.compile(rb'\s*\{\s*"(?:(?:contexts|functions|variables)"\s*:\s*\[|(?:io|version)"\s*:\s*\d)')
 CLEAR = "CLEAR WS"
+# The digest of no file.
+NO_FILE = b""
 
 
 class NotDone(AplError):
@@ -37,102 +40,116 @@ class Command:
 def command(line: str) -> Optional[Command]:
     """Returns the command that a line is. It is None where the line is for the machine, which reports a command that isn't well formed."""
     found = LINE.fullmatch(line)
-    if not found:
+    name = (found[3] or found[5] or "") if found else ""
+    if not found or name and not NAME.fullmatch(name):
         return None
-    word, name = (found[1] or found[2] or found[4]).upper(), found[3] or found[5] or ""
-    if name.lower().endswith(SUFFIX):
-        name = name[:-len(SUFFIX)]
-    is_named = bool(NAME.fullmatch(name)) or not name and not (found[3] or found[5])
-    return Command(word, name) if is_named else None
+    return Command((found[1] or found[2] or found[4]).upper(), name)
 
 
-def path_of(folder: PathLike, name: str) -> str:
-    """Returns the path of the file of the workspace with this name."""
-    return os.path.join(folder, name + SUFFIX)
+def workspaces(folder: PathLike) -> List[str]:
+    """Returns the names of the workspaces in a folder, in ascending order. Raises OSError."""
+    return sorted(it for it in os.listdir(folder) if NAME.fullmatch(it) and is_workspace(os.path.join(folder, it)))
 
 
-def listed(folder: PathLike) -> List[str]:
-    """Returns the names of the workspaces whose files stand in a folder, in ascending order. Raises OSError."""
-    names = [it[:-len(SUFFIX)] for it in os.listdir(folder) if it.endswith(SUFFIX)]
-    return sorted(it for it in names if NAME.fullmatch(it) and " " not in it and begins(path_of(folder, it)))
-
-
-def begins(path: str) -> bool:
+def is_workspace(path: str) -> bool:
     """Whether a file begins as that of a workspace."""
     with suppress(OSError):
         if os.path.isfile(path):
             with open(path, "rb") as file:
-                return bool(BEGINS.match(file.read(1_000)))
+                return bool(BEGINS.match(file.read(256)))
     return False
 
 
-def when(path: str) -> str:
-    """Returns the day and time at which a file was written. Raises OSError."""
-    return time.strftime("%Y-%m-%d %H:%M:%S", time.localtime(os.stat(path).st_mtime))
+def described(path: str) -> str:
+    """Returns the size of a workspace's file and when it was saved. Raises OSError."""
+    told = os.stat(path)
+    return f"{told.st_size:,} bytes, saved {time.strftime('%Y-%m-%d %H:%M:%S', time.localtime(told.st_mtime))}"
 
 
 class Library:
-    """The workspaces of a folder. name is that of the session's own one, "" for a clear one."""
+    """The workspaces of a folder. name is that of the session's own one, "" for one without a name."""
 
     def __init__(self, session: Session, folder: PathLike = ".") -> None:
-        self.session, self.folder, self.name = session, folder, ""
+        self.session, self.folder, self.name = session, os.path.abspath(folder), ""
+        # what the file of this name is to hold until the workspace is saved there
+        self.known = NO_FILE
+
+    def path(self, name: str) -> str:
+        """Returns the path of the file of a workspace, through links."""
+        return os.path.realpath(os.path.join(self.folder, name))
 
     def do(self, line: str) -> Optional[List[str]]:
         """Does a command for files, and returns the lines to show. Returns None where the line is for the machine.
 
         It is for lines outside a definition alone. )CLEAR is for the machine, but takes the workspace's name away too. Raises NotDone where
-        a command can't be done, and what `Session.save` and `Session.open` raise besides.
+        a command can't be done, and Died or Refused where the session can't answer.
         """
         if CLEARS.fullmatch(line):
             self.name = ""
         found = command(line)
         if found is None:
             return None
+        if found.word == "LIB":
+            return self.listed()
+        if found.word == "LOAD":
+            return self.load(found.name)
+        return self.save(found.name) if found.word == "SAVE" else self.identify(found.name)
+
+    def listed(self) -> List[str]:
+        """Returns the lines that tell the workspaces of the folder. Raises NotDone."""
         try:
-            if found.word == "LIB":
-                return listed(self.folder)
-            if found.word == "LOAD":
-                return self.load(found.name)
-            return self.save(found.name) if found.word == "SAVE" else self.identify(found.name)
+            names = workspaces(self.folder)
+            width = max(map(len, names), default=0)
+            return [f"{it:<{width}}  {described(self.path(it))}" for it in names] or ["no workspaces here"]
         except OSError as error:
-            raise NotDone(f"NOT DONE: {error.strerror or error}") from None
+            raise NotDone(f"{self.folder}: {reason(error)}") from None
 
     def save(self, name: str = "") -> List[str]:
-        """Saves the workspace under a name, its own one where none is given, and returns the lines to show.
-
-        Only the file of its own name is replaced: `)WSID NAME` before says that another one is meant. Raises NotDone or OSError, as `do`.
-        """
-        to, is_own = name or self.name, name in ("", self.name)
-        path = path_of(self.folder, to)
-        if not to or not is_own and os.path.lexists(path):
-            raise NotDone(f"NOT SAVED, THIS WS IS {self.name or CLEAR}")
+        """Saves the workspace in its file, or in a new one of this name, and returns the lines to show. Raises NotDone."""
+        to, path = name or self.name, self.path(name or self.name)
+        if not to:
+            raise NotDone("this workspace has no name yet: )SAVE NAME gives it one")
+        if to != self.name and os.path.lexists(path):
+            raise NotDone(f"not saved: {to} is there already. )WSID {to} and then )SAVE write over it")
         try:
-            self.session.save(path, is_new=not is_own)
+            saved = self.session.workspace()
+            save_file(path, saved, self.known if to == self.name else NO_FILE)
+            self.name, self.known = to, sha256(saved).digest()
+            return [f"{to}: {described(path)}"]
         except (NotSaved, OSError) as error:
-            raise NotDone(f"NOT SAVED: {getattr(error, 'strerror', None) or error}") from None
-        self.name = to
-        return [f"{when(path)} {to}"]
+            raise NotDone(f"not saved: {reason(error)}") from None
 
     def load(self, name: str) -> List[str]:
-        """Replaces the workspace by that of a name, and returns the lines to show. Raises NotDone or OSError, as `do`."""
-        path = path_of(self.folder, name)
+        """Replaces the workspace by that of a name, and returns the lines to show. Raises NotDone."""
+        path = self.path(name)
         try:
-            self.session.open(path)
+            with open(path, "rb") as file:
+                data = file.read()
+            self.session.open(data)
+            self.name, self.known = name, sha256(data).digest()
+            return [f"{name}: {described(path)}"]
         except FileNotFoundError:
-            raise NotDone("WS NOT FOUND") from None
+            raise NotDone(f"there is no {name}: )LIB lists the workspaces of this folder") from None
         except OSError as error:
-            raise NotDone(f"NOT LOADED: {error.strerror or error}") from None
+            raise NotDone(f"{name}: {reason(error)}") from None
         except Refused as refused:
             if refused.reason != "load":
                 raise
-            raise NotDone(f"NOT LOADED: {name}{SUFFIX} is no workspace (rule {refused.number} of docs/WORKSPACE.md)") from None
-        self.name = name
-        return [f"SAVED {when(path)}"]
+            raise NotDone(f"{name} is no workspace: it breaks rule {refused.number} of docs/WORKSPACE.md") from None
 
     def identify(self, name: str = "") -> List[str]:
-        """Returns the line that tells the workspace's name. Where one is given, the workspace has it from then on."""
-        was = self.name or CLEAR
+        """Returns the line that tells the workspace's name. Where another is given, the workspace has that, whose file )SAVE writes over."""
         if not name:
-            return [f"IS {was}"]
-        self.name = name
-        return [f"WAS {was}"]
+            return [self.name or CLEAR]
+        if name == self.name:
+            return [name]
+        try:
+            self.name, self.known = name, digest(self.path(name)) or NO_FILE
+        except OSError as error:
+            raise NotDone(f"{name}: {reason(error)}") from None
+        return [f"{name}, which is there: )SAVE writes over it" if self.known else f"{name}, not saved yet"]
+
+
+def reason(error: Exception) -> str:
+    """Returns why a file can't be read or written."""
+    return getattr(error, "strerror", None) or str(error)

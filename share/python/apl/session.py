@@ -21,8 +21,6 @@ PathLike = Union[str, "os.PathLike[str]"]
 # longer; and the seconds that one should take.
 FIRST, MOST, SLICE = 2_000, 20_000, 0.005
 MOST_STEPS = 2**63
-# The digest of no file.
-NO_FILE = b""
 Show = Callable[[List[Line]], None]
 NAME = re.compile("⎕IO|[A-Za-z∆⍙_][0-9A-Za-z∆⍙_]{0,31}")
 
@@ -133,15 +131,15 @@ class Session:
         self._pipe.kept = answer[len(head):-len(b"}\n")]
         return self._pipe.kept
 
-    def save(self, path: PathLike, is_new: bool = False) -> None:
-        """Saves the workspace in a file, whole or not at all, as `apl --save` does. is_new asks that no file stands there.
+    def save(self, path: PathLike) -> None:
+        """Saves the workspace in a file, whole or not at all, as `apl --save` does.
 
         Raises NotSaved where another is to save in it, or has changed it since this session opened it or saved in it; OSError where it
         can't be written; Refused while a line runs. The file then holds what it held.
         """
         with self._alone():
             real, saved = os.path.realpath(path), self.workspace()
-            save_file(real, saved, NO_FILE if is_new else self._digests.get(real))
+            save_file(real, saved, self._digests.get(real))
             self._digests[real] = sha256(saved).digest()
 
     def open(self, workspace: Union[PathLike, bytes]) -> None:
