@@ -83,7 +83,8 @@ class AplKernel(Kernel):
             except Died as died:
                 return self.told(Ended("SHUT DOWN", "the kernel ends") if self.is_ending else self.begin_again(str(died)), silent)
             except OSError as error:
-                return self.told(Ended("NO PROGRAM", str(error), f"The program {self.program} can't be run: {error.strerror or error}"), silent)
+                why = f"The program {self.program} can't be run: {error.strerror or error}"
+                return self.told(Ended("NO PROGRAM", str(error), why), silent)
             finally:
                 keyboard.struck = 0.0
 
@@ -128,7 +129,7 @@ class AplKernel(Kernel):
                 if session.next_line or line.strip(" ") and not self.of_files(library, line, output):
                     self.line(session, line, output, keyboard, silent)
             if session.next_line:
-                raise Ended("OPEN DEFINITION", "it isn't closed by ∇", f"{RED}The definition isn't closed by ∇, so nothing is defined.{PLAIN}")
+                raise Ended("OPEN DEFINITION", "not closed by ∇", f"{RED}The definition isn't closed by ∇, so nothing is defined.{PLAIN}")
         finally:
             output.flush()
             if session.next_line:

@@ -41,8 +41,9 @@ def may_begin(lines: Sequence[str]) -> int:
 
 
 class Output:
-    """What a cell writes, sent in pieces while it runs. Of each line that is typed the last lines are kept until it has ended, where they may
-    be those of a report."""
+    """What a cell writes, sent in pieces while it runs.
+
+    Of each line that is typed the last lines are kept until it has ended, where they may be those of a report."""
 
     def __init__(self, send: Callable[[str], None]) -> None:
         self.send, self.sent, self.when = send, 0, 0.0

@@ -9,16 +9,19 @@ from contextlib import contextmanager, suppress
 from pathlib import Path
 from typing import Any, Iterator, List
 
-import nbformat
-from nbformat.v4 import new_code_cell, new_markdown_cell, new_notebook
+from tests.kernels import notebook
 
 sys.path.append(str(Path(__file__).resolve().parents[2] / "page/tests"))
 import browser  # noqa: E402  pylint: disable=wrong-import-position
 
-SPEC = {"kernelspec": {"name": "nadrizom", "display_name": "APL (Nadrizom)", "language": "apl"}}
 MEAN = "∇Z←MEAN V\nZ←(+/V)÷⍴V\n∇"
-READY = "window.Jupyter && Jupyter.notebook && Jupyter.notebook._fully_loaded && Jupyter.notebook.kernel && Jupyter.notebook.kernel.info_reply.banner"
+READY = "window.Jupyter && Jupyter.notebook && Jupyter.notebook._fully_loaded && Jupyter.notebook.kernel?.info_reply.banner"
 SHIFT, CONTROL, INTERRUPTED_IN = 8, 2, 2.0
+
+
+def has_browser() -> bool:
+    """Whether Chromium is installed."""
+    return browser.found() is not None
 
 
 class Notebook(browser.Tab):
@@ -34,13 +37,14 @@ class Notebook(browser.Tab):
         self.run(f"Jupyter.notebook.select({number}); Jupyter.notebook.edit_mode()")
         self.until(f"Jupyter.notebook.get_selected_index() === {number} && document.activeElement.closest('.CodeMirror')")
 
-    def text(self, number: int) -> str:
+    def source(self, number: int) -> str:
         """Returns what is typed in a cell."""
         return str(self.run(f"Jupyter.notebook.get_cell({number}).get_text()"))
 
     def output(self, number: int) -> str:
         """Returns what is shown below a cell."""
-        return str(self.run(f"Jupyter.notebook.get_cell({number}).element.find('.output_area').toArray().map(it => it.innerText.trim()).join('\\n')"))
+        areas = f"Jupyter.notebook.get_cell({number}).element.find('.output_area').toArray()"
+        return str(self.run(f"{areas}.map(it => it.innerText.trim()).join('\\n')"))
 
     def ended(self, seconds: float = browser.SECONDS) -> None:
         """Waits until no cell runs."""
@@ -58,8 +62,8 @@ class Place:
         self.folder, self.port, token = folder, free_port(), secrets.token_hex(8)
         self.address = f"http://127.0.0.1:{self.port}/notebooks/{{}}?token={token}"
         self.pictures = os.environ.get("PICTURES", "")
-        words = ["--no-browser", "--ip=127.0.0.1", f"--port={self.port}", "--port-retries=0", "--allow-root", f"--NotebookApp.token={token}",
-                 f"--notebook-dir={folder}"]
+        words = ["--no-browser", "--ip=127.0.0.1", f"--port={self.port}", "--port-retries=0", "--allow-root",
+                 f"--NotebookApp.token={token}", f"--notebook-dir={folder}"]
         self.log = open(f"{folder}/server.log", "w", encoding="utf-8")
         self.server = subprocess.Popen([sys.executable, "-m", "notebook", *words], stdout=self.log, stderr=self.log)
         self.browser = browser.Browser()
@@ -80,10 +84,9 @@ class Place:
         raise TimeoutError("the notebook server doesn't begin")
 
     @contextmanager
-    def notebook(self, name: str, *cells: str) -> Iterator[Notebook]:
+    def opened(self, name: str, *cells: str) -> Iterator[Notebook]:
         """Opens a notebook with these cells."""
-        made = [new_markdown_cell(it[2:]) if it.startswith("# ") else new_code_cell(it) for it in cells]
-        nbformat.write(new_notebook(cells=made, metadata=SPEC), f"{self.folder}/{name}.ipynb")
+        Path(self.folder, f"{name}.ipynb").write_text(notebook(*cells), encoding="utf-8")
         tab = Notebook(self.browser, self.address.format(f"{name}.ipynb"))
         try:
             yield tab
@@ -116,13 +119,13 @@ def same(got: object, wanted: object) -> None:
 
 def typing(place: Place) -> str:
     """A cell is typed by its keys, run, and a name completed."""
-    with place.notebook("typing", MEAN, "", "", "") as tab:
+    with place.opened("typing", MEAN, "", "", "") as tab:
         tab.cell(0)
         tab.press("Enter", SHIFT)
         tab.ended()
         tab.cell(1)
         tab.keys("2 3`r`i6")
-        same(tab.text(1), "2 3⍴⍳6")
+        same(tab.source(1), "2 3⍴⍳6")
         tab.press("Enter", SHIFT)
         tab.shown(1, "4 5 6")
         tab.cell(2)
@@ -132,17 +135,17 @@ def typing(place: Place) -> str:
         tab.keys(" 4 6")
         tab.press("Enter", SHIFT)
         tab.shown(2, "50")
-        same((tab.text(2), tab.output(1)), ("10×MEAN 4 6", "1 2 3\n4 5 6"))
+        same((tab.source(2), tab.output(1)), ("10×MEAN 4 6", "1 2 3\n4 5 6"))
     return "keys behind the backquote, Shift+Enter, Tab"
 
 
 def bar(place: Place) -> str:
     """The bar types a character, and tells its name, key and example."""
-    with place.notebook("bar", "") as tab:
+    with place.opened("bar", "") as tab:
         tab.cell(0)
         tab.click("#apl-bar button[aria-label^='count']")
         tab.keys("5")
-        same((tab.text(0), tab.run("document.activeElement.closest('.CodeMirror') !== null")), ("⍳5", True))
+        same((tab.source(0), tab.run("document.activeElement.closest('.CodeMirror') !== null")), ("⍳5", True))
         same(tab.run("document.getElementById('apl-hint').textContent"), "⍳  count, index of   key ` i   ⍳5  gives  1 2 3 4 5")
         tab.until("[...document.fonts].some(it => it.family === 'APL' && it.status === 'loaded')")
         count = tab.run("document.querySelectorAll('#apl-bar button').length")
@@ -151,7 +154,7 @@ def bar(place: Place) -> str:
 
 def help_at_the_cursor(place: Place) -> str:
     """Shift+Tab tells what stands at the cursor."""
-    with place.notebook("help", f"{MEAN}\nM←2 2⍴⍳4", "MEAN M", "2 ⍴") as tab:
+    with place.opened("help", f"{MEAN}\nM←2 2⍴⍳4", "MEAN M", "2 ⍴") as tab:
         tab.run("Jupyter.notebook.execute_cells([0])")
         tab.ended()
         seen: List[str] = []
@@ -168,7 +171,9 @@ def help_at_the_cursor(place: Place) -> str:
 
 def fault(place: Place) -> str:
     """A fault is shown with its caret and the state indicator, and "run all" stops there."""
-    with place.notebook("fault", "# A bill", "MARKS←2 4 9\n+/MARKS\n(⍳3)∘.×⍳4", f"{MEAN}\nMEAN MARKS", "10×MEAN 1 2", "'not reached'", "V←1 3\n→⎕LC", "M←2 3⍴⍳6\nM") as tab:
+    cells = ["# A bill", "MARKS←2 4 9\n+/MARKS\n(⍳3)∘.×⍳4", f"{MEAN}\nMEAN MARKS", "10×MEAN 1 2", "'not reached'", "V←1 3\n→⎕LC",
+             "M←2 3⍴⍳6\nM"]
+    with place.opened("fault", *cells) as tab:
         tab.run("Jupyter.notebook.execute_all_cells()")
         tab.shown(3, "MEAN[1] *")
         time.sleep(0.5)
@@ -185,7 +190,7 @@ def fault(place: Place) -> str:
 
 def interrupt(place: Place) -> str:
     """The button interrupts a loop; what it has written is seen before."""
-    with place.notebook("interrupt", "∇SPIN\n'it spins'\nL:→L\n∇\nSPIN", ")SI\n→\n'goes on'") as tab:
+    with place.opened("interrupt", "∇SPIN\n'it spins'\nL:→L\n∇\nSPIN", ")SI\n→\n'goes on'") as tab:
         tab.run("Jupyter.notebook.execute_cells([0])")
         tab.shown(0, "it spins")
         time.sleep(0.3)
@@ -202,7 +207,7 @@ def interrupt(place: Place) -> str:
 
 def restart(place: Place) -> str:
     """A restart begins with the saved workspace, and a notebook that is opened again shows what it showed."""
-    with place.notebook("restart", "A←6\n)SAVE ledger\nA←7", "A", ")LIB") as tab:
+    with place.opened("restart", "A←6\n)SAVE ledger\nA←7", "A", ")LIB") as tab:
         tab.run("Jupyter.notebook.execute_cells([0])")
         tab.ended()
         tab.run("Jupyter.notebook.kernel.restart()")

@@ -1,4 +1,5 @@
 """A kernel that a test starts and asks, as a notebook does."""
+import json
 import os
 import time
 from dataclasses import dataclass, field
@@ -7,6 +8,14 @@ from typing import Any, Callable, Dict, List, Optional
 from jupyter_client.manager import KernelManager
 
 SECONDS = 60.0
+
+
+def notebook(*cells: str) -> str:
+    """Returns the file of a notebook with these cells, of which those that begin with # are text."""
+    code: Dict[str, Any] = {"cell_type": "code", "execution_count": None, "outputs": []}
+    made = [{**({"cell_type": "markdown"} if it.startswith("#") else code), "metadata": {}, "source": it} for it in cells]
+    spec = {"name": "nadrizom", "display_name": "APL (Nadrizom)", "language": "apl"}
+    return json.dumps({"cells": made, "metadata": {"kernelspec": spec}, "nbformat": 4, "nbformat_minor": 4})
 
 
 @dataclass
@@ -26,9 +35,9 @@ class Kernel:
     """A kernel in a folder."""
 
     def __init__(self, folder: str) -> None:
-        self.manager = KernelManager(kernel_name="nadrizom")
+        self.manager: Any = KernelManager(kernel_name="nadrizom")  # type: ignore[no-untyped-call]
         self.manager.start_kernel(cwd=folder)
-        self.client = self.manager.client()
+        self.client: Any = self.manager.client()
         self.client.start_channels()
         self.client.wait_for_ready(timeout=SECONDS)
 

@@ -13,7 +13,7 @@ from contextlib import contextmanager
 from pathlib import Path
 from typing import Iterator, List
 
-from tests.kernels import Kernel, Ran
+from tests.kernels import Kernel, Ran, notebook
 
 MEAN = "∇Z←MEAN V\nZ←(+/V)÷⍴V\n∇"
 SPIN = "∇SPIN\nX←'it spins'\nX\nL:→L\n∇\nSPIN\n'not reached'"
@@ -60,8 +60,8 @@ def faults() -> str:
         same(plain(ran)[:-1], ["DOMAIN ERROR", "MEAN[1] Z←(+/V)÷⍴V", "               ^", "      )SI", "MEAN[1] *"])
         same(it.end(second).text, "")
         same(it.run("V←1 3\n→⎕LC").text, "20\n")
-        for line, report in [("A[7]", ["VALUE ERROR", "      A[7]", "      ^"]), ("1 ◊", ["CHARACTER ERROR"]), (")NONE", ["INCORRECT COMMAND"]),
-                             ("∇F F F F", ["DEFN ERROR"]), ("∇F\n'A\n∇", ["DEFN ERROR"])]:
+        for line, report in [("A[7]", ["VALUE ERROR", "      A[7]", "      ^"]), ("1 ◊", ["CHARACTER ERROR"]),
+                             (")NONE", ["INCORRECT COMMAND"]), ("∇F F F F", ["DEFN ERROR"]), ("∇F\n'A\n∇", ["DEFN ERROR"])]:
             ran = it.run(f"{line}\n'not reached'")
             same((ran.status, ran.text, plain(ran), ran.name), ("error", "", report, report[0]))
         ran = it.run("∇NOTE\n1")
@@ -123,7 +123,8 @@ def help_while_typing() -> str:
     """Completion, what stands at the cursor, and whether a definition is open."""
     with kernel() as it:
         it.run(f"{MEAN}\nMATRIX←2 2⍴⍳4\n)SAVE ledger")
-        for code, wanted in [("2+`r", ["2+⍴"]), ("1+M", ["1+MATRIX", "1+MEAN"]), (")s", [")SAVE", ")SI"]), ("⎕T", ["⎕TRACE"]), (")LOAD l", [")LOAD ledger"])]:
+        for code, wanted in [("2+`r", ["2+⍴"]), ("1+M", ["1+MATRIX", "1+MEAN"]), (")s", [")SAVE", ")SI"]), ("⎕T", ["⎕TRACE"]),
+                             (")LOAD l", [")LOAD ledger"])]:
             same(it.complete(code), wanted)
         same(it.inspect("2+MEAN 3", 6), "    ∇ Z←MEAN V\n[1] Z←(+/V)÷⍴V\n    ∇")
         same(it.inspect("MATRIX", 3), "MATRIX: numbers, shape 2 2\n\n1 2\n3 4")
@@ -205,7 +206,8 @@ def no_program() -> str:
         told["env"]["APL"] = f"{room}/none"
         (Path(room) / "kernels/nadrizom/kernel.json").write_text(json.dumps(told), encoding="utf-8")
         code = "from tests.kernels import Kernel; it = Kernel('.'); print(*it.run('2').error); it.close(); del it"
-        got = subprocess.run([sys.executable, "-c", code], env={**os.environ, "JUPYTER_PATH": room}, stdout=subprocess.PIPE, text=True, check=True).stdout
+        env = {**os.environ, "JUPYTER_PATH": room}
+        got = subprocess.run([sys.executable, "-c", code], env=env, stdout=subprocess.PIPE, text=True, check=True).stdout
         same(got, f"The program {room}/none can't be run: No such file or directory\n")
     return "told"
 
@@ -237,15 +239,12 @@ def times() -> str:
 
 def run_all() -> str:
     """`jupyter nbconvert --execute` stops at a fault, and else writes what the cells show."""
-    import nbformat  # pylint: disable=import-outside-toplevel
-    from nbformat.v4 import new_code_cell, new_notebook  # pylint: disable=import-outside-toplevel
-    spec = {"kernelspec": {"name": "nadrizom", "display_name": "APL (Nadrizom)", "language": "apl"}}
     said = []
     for last in ("MEAN 4 6 8", "MEAN 1 2"):
         with tempfile.TemporaryDirectory() as folder:
-            nbformat.write(new_notebook(cells=[new_code_cell(MEAN), new_code_cell(last), new_code_cell(")SAVE later")], metadata=spec), f"{folder}/it.ipynb")
-            ran = subprocess.run([sys.executable, "-m", "nbconvert", "--execute", "--to", "markdown", "--stdout", "it.ipynb"], cwd=folder, check=False,
-                                 stdout=subprocess.PIPE, stderr=subprocess.PIPE, text=True)
+            Path(folder, "it.ipynb").write_text(notebook(MEAN, last, ")SAVE later"), encoding="utf-8")
+            words = [sys.executable, "-m", "nbconvert", "--execute", "--to", "markdown", "--stdout", "it.ipynb"]
+            ran = subprocess.run(words, cwd=folder, check=False, stdout=subprocess.PIPE, stderr=subprocess.PIPE, text=True)
             said.append((ran.returncode, "    6\n" in ran.stdout, "DOMAIN ERROR" in ran.stderr, os.path.exists(f"{folder}/later")))
     same(said, [(0, True, False, True), (1, False, True, False)])
     return "nbconvert --execute: status 0, and 1 at a fault"

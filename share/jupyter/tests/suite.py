@@ -1,7 +1,7 @@
 """Jupyter's own tests of a kernel (jupyter_kernel_test), for this one."""
 import unittest
 
-import jupyter_kernel_test
+import jupyter_kernel_test  # type: ignore[import]
 
 
 class Suite(jupyter_kernel_test.KernelTests):  # type: ignore[misc]

@@ -1,6 +1,6 @@
 """The lines of a cell, and what they write."""
 import unittest
-from typing import List
+from typing import List, Sequence, Tuple
 from unittest.mock import patch
 
 from apl import Array, Level, Line
@@ -32,10 +32,12 @@ class Reports(unittest.TestCase):
         here = [Level("F", 1, True), Level("G", 2, False)]
         self.assertEqual(report_at_end("F 1", in_call, here), in_call)
         self.assertEqual(report_at_end("A[7]", typed, here), typed)
-        for written, indicator in [
+        others: List[Tuple[Sequence[str], List[Level]]] = [
             (in_call, []), (in_call, [Level("F", 2, True)]), (in_call, [Level("F", 1, False)]), (typed[1:], []), (("DOMAIN ERROR",), []),
-            (("DOMAIN ERROR", "      A[7]", "       ^ "), []), (("DOMAIN", "      A[7]", "       ^"), []), (("DOMAIN ERROR", "A[7]", "^"), []), ((), []),
-        ]:
+            (("DOMAIN ERROR", "      A[7]", "       ^ "), []), (("DOMAIN", "      A[7]", "       ^"), []),
+            (("DOMAIN ERROR", "A[7]", "^"), []), ((), []),
+        ]
+        for written, indicator in others:
             self.assertEqual(report_at_end("F", written, indicator), ())
 
     def test_reports_of_one_line(self) -> None:
@@ -44,7 +46,9 @@ class Reports(unittest.TestCase):
             self.assertEqual(report_at_end(f"'{name}'", [name], []), ())
 
     def test_what_may_begin_one(self) -> None:
-        for lines, count in [([], 0), (["1"], 0), (["RANK ERROR"], 1), (["RANK ERROR", "A"], 2), (["RANK ERROR", "A", "^"], 3), (["DEFN ERROR"], 1)]:
+        cases: List[Tuple[List[str], int]] = [
+            ([], 0), (["1"], 0), (["RANK ERROR"], 1), (["RANK ERROR", "A"], 2), (["RANK ERROR", "A", "^"], 3), (["DEFN ERROR"], 1)]
+        for lines, count in cases:
             self.assertEqual(may_begin(lines), count, lines)
 
 
@@ -53,7 +57,7 @@ class Outputs(unittest.TestCase):
         self.sent: List[str] = []
         self.output = Output(self.sent.append)
         self.now = 10.0
-        clock = patch.object(output.time, "monotonic", lambda: self.now)
+        clock = patch("aplkernel.output.time.monotonic", lambda: self.now)
         clock.start()
         self.addCleanup(clock.stop)
 
@@ -97,15 +101,15 @@ class Outputs(unittest.TestCase):
 
 class Tables(unittest.TestCase):
     def test_which(self) -> None:
-        for shape in [(1, 1), (200, 10), (2, 1000)]:
-            self.assertTrue(has_table(shape), shape)
-        for shape in [(), (3,), (0, 2), (2, 0), (1, 2, 3), (201, 1), (200, 11)]:
-            self.assertFalse(has_table(shape), shape)
+        tables: List[Tuple[int, ...]] = [(1, 1), (200, 10), (2, 1000)]
+        others: List[Tuple[int, ...]] = [(), (3,), (0, 2), (2, 0), (1, 2, 3), (201, 1), (200, 11)]
+        self.assertEqual(([has_table(it) for it in tables], [has_table(it) for it in others]), ([True] * 3, [False] * 7))
 
     def test_tables(self) -> None:
         self.assertRegex(table(Array((2, 2), (1, -2, 3, 4))),
                          "^<table[^>]*><tr><td>1</td><td>¯2</td></tr><tr><td>3</td><td>4</td></tr></table>$")
-        self.assertRegex(table(Array((2, 3), "<A B &")), "^<table[^>]*><tr><td[^>]*>&lt;A </td></tr><tr><td[^>]*>B &amp;</td></tr></table>$")
+        self.assertRegex(table(Array((2, 3), "<A B &")),
+                         "^<table[^>]*><tr><td[^>]*>&lt;A </td></tr><tr><td[^>]*>B &amp;</td></tr></table>$")
 
 
 if __name__ == "__main__":

@@ -25,8 +25,9 @@ class Completions(unittest.TestCase):
     def test_completions(self) -> None:
         names, files = ["MEAN", "MEDIAN", "∆x"], ["ledger", "list"]
         for before, texts, length in [
-            ("2+`r", ["⍴"], 2), ("``", ["`"], 2), ("2+ME", ["MEAN", "MEDIAN"], 2), ("∆", ["∆x"], 1), ("2+", [], 0), ("X", [], 1), (")s", [")SAVE", ")SI"], 2),
-            ("A\n )L", [")LIB", ")LOAD"], 2), ("A)M", ["MEAN", "MEDIAN"], 1), ("⎕s", ["⎕STOP"], 2), ("⎕", list(SYSTEM), 1), (")LOAD l", files, 1),
+            ("2+`r", ["⍴"], 2), ("``", ["`"], 2), ("2+ME", ["MEAN", "MEDIAN"], 2), ("∆", ["∆x"], 1), ("2+", [], 0), ("X", [], 1),
+            (")s", [")SAVE", ")SI"], 2), ("A\n )L", [")LIB", ")LOAD"], 2), ("A)M", ["MEAN", "MEDIAN"], 1), ("⎕s", ["⎕STOP"], 2),
+            ("⎕", list(SYSTEM), 1), (")LOAD l", files, 1),
             ("1\n)save le", ["ledger"], 2), (")LOAD ", files, 0), ("'`x", [], 1),
         ]:
             found = self.words.complete(before, names, files)
@@ -49,8 +50,9 @@ class Reference(unittest.TestCase):
 
     def test_tokens(self) -> None:
         for code, cursor, token in [
-            ("MEAN 3", 0, "MEAN"), ("MEAN 3", 2, "MEAN"), ("MEAN 3", 4, "MEAN"), ("⍴M", 0, "⍴"), ("⍴M", 1, "⍴"), ("⍴M", 2, "M"), ("+/V", 1, "+"), ("+/V", 2, "/"),
-            ("⎕IO←0", 3, "⎕IO"), ("⎕IO←0", 4, "←"), ("⎕←1", 1, "⎕"), ("A\n )si", 4, ")SI"), ("(A)", 3, ")"), ("'A B'", 2, "'"), ("¯12", 3, "¯"), ("", 0, ""), ("A  ", 3, ""),
+            ("MEAN 3", 0, "MEAN"), ("MEAN 3", 2, "MEAN"), ("MEAN 3", 4, "MEAN"), ("⍴M", 0, "⍴"), ("⍴M", 1, "⍴"), ("⍴M", 2, "M"),
+            ("+/V", 1, "+"), ("+/V", 2, "/"), ("⎕IO←0", 3, "⎕IO"), ("⎕IO←0", 4, "←"), ("⎕←1", 1, "⎕"), ("A\n )si", 4, ")SI"),
+            ("(A)", 3, ")"), ("'A B'", 2, "'"), ("¯12", 3, "¯"), ("", 0, ""), ("A  ", 3, ""),
         ]:
             self.assertEqual(token_at(code, cursor), token, (code, cursor))
 

@@ -6,6 +6,7 @@ Each trial has a line. Statuses: 0 where all is right, else 1.
 """
 import sys
 import tempfile
+from functools import partial
 from importlib.util import find_spec
 from pathlib import Path
 from queue import Empty
@@ -29,7 +30,7 @@ def missing() -> str:
     from tests import classic  # pylint: disable=import-outside-toplevel
     if not find_spec("notebook"):
         return "jupyter-notebook"
-    return "" if classic.browser.found() else "chromium"
+    return "" if classic.has_browser() else "chromium"
 
 
 def main(only: Sequence[str]) -> int:
@@ -48,7 +49,8 @@ def main(only: Sequence[str]) -> int:
         from tests import suite  # pylint: disable=import-outside-toplevel
         found.append(tried("suite", suite.run))
     elif chosen("suite"):
-        print("kernel: jupyter_kernel_test isn't installed, so Jupyter's own tests aren't done: apt-get install python3-jupyter-kernel-test")
+        print("kernel: jupyter_kernel_test isn't installed, so Jupyter's own tests aren't done: "
+              "apt-get install python3-jupyter-kernel-test")
     found += in_notebook(only)
     print(f"kernel: {sum(found)} of {len(found)} trials are right")
     return 0 if all(found) and found else 1
@@ -67,7 +69,7 @@ def in_notebook(only: Sequence[str]) -> List[bool]:
     with tempfile.TemporaryDirectory() as folder:
         place = classic.Place(folder)
         try:
-            return [tried(f"in the notebook: {it.__name__}", lambda it=it: it(place)) for it in chosen]
+            return [tried(f"in the notebook: {it.__name__}", partial(it, place)) for it in chosen]
         finally:
             place.close()
 

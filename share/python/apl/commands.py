@@ -138,7 +138,7 @@ class Library:
             raise NotDone(f"{name} is no workspace: it breaks rule {refused.number} of docs/WORKSPACE.md") from None
 
     def identify(self, name: str = "") -> List[str]:
-        """Returns the line that tells the workspace's name. Where another is given, the workspace has that, whose file )SAVE writes over."""
+        """Returns the line that tells the workspace's name. Where another is given, the workspace has it, and )SAVE writes its file."""
         if not name:
             return [self.name or CLEAR]
         if name == self.name:
