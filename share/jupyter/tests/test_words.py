@@ -6,6 +6,7 @@ import unittest
 from pathlib import Path
 
 from apl.arrays import LANGUAGE
+from apl.commands import WORDS
 from aplkernel import spec
 from aplkernel.memory import Note
 from aplkernel.reference import entries, plain, token_at
@@ -40,7 +41,7 @@ class Reference(unittest.TestCase):
     def test_every_character_has_an_entry(self) -> None:
         known = set("!'()*+,-./:;<=>[\\]_|~") | {it for it in LANGUAGE if ord(it) > 126}
         self.assertEqual(known - set(entries()), set())
-        self.assertLessEqual({*COMMANDS} - {")LIB", ")LOAD", ")SAVE", ")WSID"} | {*SYSTEM}, set(entries()))
+        self.assertEqual({it for it in entries() if len(it) > 1}, {*COMMANDS, *SYSTEM} - {*WORDS})
 
     def test_entries(self) -> None:
         for sign, titles in [("⍴", ["⍴B shape", "A⍴B reshape"]), ("⍋", ["⍋B grade up · ⍒B grade down"]), ("⎕IO", ["⎕IO index origin"]),
