@@ -2,7 +2,8 @@
 
 usage: python3 spec.py FOLDER PROGRAM
 
-FOLDER gets kernel.json, which names this Python, this package and PROGRAM; kernel.js, the bar of the classic notebook; and its font.
+FOLDER gets kernel.json, which names this Python, this package and PROGRAM; kernel.js, the bar of the classic notebook; and its font. Where
+Jupyter doesn't look for kernels there, that is told.
 """
 import json
 import shutil
@@ -43,5 +44,14 @@ def lay(folder: Path, program: str) -> None:
     shutil.copyfile(SHARE / "page/apl.woff2", folder / "apl.woff2")
 
 
+def is_found(folder: Path) -> bool:
+    """Whether Jupyter looks for kernels where this folder of one stands."""
+    from jupyter_core.paths import jupyter_path  # pylint: disable=import-outside-toplevel
+    found = jupyter_path("kernels")  # type: ignore[no-untyped-call]
+    return folder.parent.resolve() in [Path(it).resolve() for it in found]
+
+
 if __name__ == "__main__":
     lay(Path(sys.argv[1]), sys.argv[2])
+    if not is_found(Path(sys.argv[1])):
+        print(f"Jupyter finds the kernel where it is started with JUPYTER_PATH={Path(sys.argv[1]).parents[1]}")
