@@ -16,7 +16,7 @@ define(['module', 'base/js/namespace'], function (module, Jupyter) {
         editor.focus();
     }
 
-    // The key behind a backquote types its character. Another key types itself.
+    // The key behind a backquote types its character. Another key does what it does.
     function bind(editor) {
         if (editor.hasAplKeys) return;
         editor.hasAplKeys = true;
@@ -33,6 +33,7 @@ define(['module', 'base/js/namespace'], function (module, Jupyter) {
                 event.preventDefault();
             }
         });
+        editor.on('keydown', (_, event) => { isPrefixed = isPrefixed && (event.key.length === 1 || event.key === 'Shift'); });
         editor.on('blur', () => { isPrefixed = false; });
     }
 

@@ -29,7 +29,7 @@ class Notebook(browser.Tab):
 
     def settled(self) -> None:
         """Waits until the kernel answers."""
-        self.until(READY)
+        self.until(READY, 4 * browser.SECONDS)
         self.until("document.getElementById('apl-bar')")
 
     def cell(self, number: int) -> None:
@@ -128,6 +128,11 @@ def typing(place: Place) -> str:
         same(tab.source(1), "2 3⍴⍳6")
         tab.press("Enter", SHIFT)
         tab.shown(1, "4 5 6")
+        tab.cell(3)
+        tab.keys("``i`")
+        tab.press("ArrowLeft")
+        tab.keys("i`+")
+        same(tab.source(3), "`i+i")
         tab.cell(2)
         tab.keys("10`-MEA")
         tab.press("Tab")
