@@ -4,7 +4,7 @@ from math import prod
 from typing import Any, Dict, List, Optional
 
 from apl import Died, Function, Level, Line, Refused, Result, Session, Variable
-from apl.commands import Library, NotDone, described, workspaces
+from apl.commands import WORDS, Library, NotDone, workspaces
 from apl.pipe import Keyboard
 from ipykernel.kernelapp import IPKernelApp
 from ipykernel.kernelbase import Kernel
@@ -61,11 +61,10 @@ class AplKernel(Kernel):
     @staticmethod
     def again(library: Library, name: str) -> str:
         """Has a fresh session take the workspace of a name as its file has it, and returns what is told of that."""
-        path = library.path(name)
         try:
-            if name and os.path.exists(path):
+            if name and os.path.exists(library.path(name)):
                 library.load(name)
-                return f"The session begins with the workspace {name}: {described(path)}."
+                return f"The session begins with the workspace {name}: {library.described()}."
         except (NotDone, OSError, Refused) as error:
             return f"The session begins with a clear workspace: {error}."
         return "The session begins with a clear workspace."
@@ -201,8 +200,9 @@ class AplKernel(Kernel):
         """Tells what stands at the cursor: a function's lines, a variable's value, an entry of the reference."""
         token = reference.token_at(code, cursor_pos)
         entries = self.entries.get(token, [])
-        told = [it.told() for it in self.known if it.character == token]
-        text = self.of_name(token) if not entries else "\n\n".join([*told, *map(reference.plain, entries)])
+        told = [it.told() for it in self.known if it.character == token] + [f"{token}  {WORDS[it]}" for it in WORDS if it == token]
+        found = [*told, *map(reference.plain, entries)] or [self.of_name(token)]
+        text = "\n\n".join(found)
         data = {"text/plain": text, **({"text/markdown": "\n\n".join([*told, *entries])} if entries else {})} if text else {}
         return {"status": "ok", "found": bool(text), "data": data, "metadata": {}}
 

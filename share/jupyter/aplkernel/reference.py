@@ -31,7 +31,8 @@ def signs_of(title: str) -> List[str]:
     found = list(TITLES.get(title, ""))
     for span in SPAN.findall(title):
         of_span = IN_SPAN.findall(AXIS.sub("", span) or span)
-        found += ["∇"] if "∇" in of_span else of_span
+        # of a command's and of a definition's span the rest is how it is written
+        found += of_span[:1] if span.startswith(")") else ["∇"] if "∇" in of_span else of_span
     return found
 
 

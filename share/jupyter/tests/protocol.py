@@ -18,6 +18,7 @@ from tests.kernels import Kernel, Ran, notebook
 MEAN = "∇Z←MEAN V\nZ←(+/V)÷⍴V\n∇"
 SPIN = "∇SPIN\nX←'it spins'\nX\nL:→L\n∇\nSPIN\n'not reached'"
 INTERRUPTED_IN, CELLS, CELL_IN = 0.5, 200, 0.05
+WHEN = r"\d{4}-\d\d-\d\d \d\d:\d\d"
 SAVED = r"\d+ bytes, saved \d{4}-\d\d-\d\d \d\d:\d\d:\d\d"
 COLOURS = re.compile("\x1b\\[[0-9]*m")
 
@@ -129,6 +130,7 @@ def help_while_typing() -> str:
         same(it.inspect("2+MEAN 3", 6), "    ∇ Z←MEAN V\n[1] Z←(+/V)÷⍴V\n    ∇")
         same(it.inspect("MATRIX", 3), "MATRIX: numbers, shape 2 2\n\n1 2\n3 4")
         assert it.inspect("⍴M", 1).startswith("⍴  shape, reshape   key ` r"), it.inspect("⍴M", 1)
+        assert it.inspect(")save", 3).startswith(")SAVE  saves the workspace in its file"), it.inspect(")save", 3)
         same(it.inspect("NONE", 1), "")
         for code, status in [("∇F", "incomplete"), ("∇F\n∇", "complete"), ("2+", "complete")]:
             same(it.reply(it.client.is_complete(code))["status"], status)
@@ -139,7 +141,8 @@ def files() -> str:
     """The commands for files, in the notebook's folder."""
     with kernel() as it:
         ran = it.run(")WSID\nA←5\n)SAVE ledger\n)LIB\n)WSID\n)CLEAR\n)WSID\n)LOAD ledger\nA")
-        assert re.fullmatch(f"CLEAR WS\nledger: {SAVED}\nledger  {SAVED}\nledger\nCLEAR WS\nledger: {SAVED}\n5\n", ran.text), ran.text
+        rows = f"ledger saved {WHEN}:\\d\\d: 108 bytes\nledger  108 bytes  {WHEN}\nledger\nCLEAR WS\nledger: {SAVED}\n5\n"
+        assert re.fullmatch(f"CLEAR WS\n{rows}", ran.text), ran.text
         ran = it.run(")LOAD none\n'not reached'")
         same((ran.status, ran.text, plain(ran)), ("error", "", ["there is no none: )LIB lists the workspaces of this folder"]))
         other = Kernel(folder_of(it))

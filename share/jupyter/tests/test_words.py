@@ -9,7 +9,7 @@ from apl.arrays import LANGUAGE
 from apl.commands import WORDS
 from aplkernel import spec
 from aplkernel.memory import Note
-from aplkernel.reference import entries, plain, token_at
+from aplkernel.reference import entries, plain, signs_of, token_at
 from aplkernel.words import COMMANDS, SYSTEM, Words, signs
 
 
@@ -41,7 +41,9 @@ class Reference(unittest.TestCase):
     def test_every_character_has_an_entry(self) -> None:
         known = set("!'()*+,-./:;<=>[\\]_|~") | {it for it in LANGUAGE if ord(it) > 126}
         self.assertEqual(known - set(entries()), set())
-        self.assertEqual({it for it in entries() if len(it) > 1}, {*COMMANDS, *SYSTEM} - {*WORDS})
+        self.assertEqual({it for it in entries() if it[0] == "⎕" and it != "⎕"}, {*SYSTEM})
+        self.assertLessEqual({*COMMANDS} - {*WORDS}, set(entries()))
+        self.assertEqual(signs_of("`)SAVE [NAME]`, `)LIB`") + signs_of("`∇F[⎕]∇` show"), [")SAVE", ")LIB", "∇"])
 
     def test_entries(self) -> None:
         for sign, titles in [("⍴", ["⍴B shape", "A⍴B reshape"]), ("⍋", ["⍋B grade up · ⍒B grade down"]), ("⎕IO", ["⎕IO index origin"]),

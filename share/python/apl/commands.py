@@ -8,13 +8,19 @@ import time
 from contextlib import suppress
 from dataclasses import dataclass
 from hashlib import sha256
-from typing import List, Optional
+from typing import List, Optional, Tuple
 
 from apl.errors import AplError, NotSaved, Refused
 from apl.files import digest, save_file
 from apl.session import PathLike, Session
 
-WORDS = (")LIB", ")LOAD", ")SAVE", ")WSID")
+# What each command does.
+WORDS = {
+    ")LIB": "lists the workspaces of the folder",
+    ")LOAD": "NAME: goes on with the workspace of this file",
+    ")SAVE": "saves the workspace in its file; with a NAME, in a new file, whose name it then has",
+    ")WSID": "tells the workspace's name; with a NAME, gives it another, whose file )SAVE then writes over",
+}
 LINE = re.compile(r" *\)(?:(LIB)|(LOAD) +(\S+)|(SAVE|WSID)(?: +(\S+))?) *", re.IGNORECASE)
 CLEARS = re.compile(r" *\)CLEAR *", re.IGNORECASE)
 NAME = re.compile(r"[^/.\s\0][^/\s\0]*")
@@ -60,10 +66,10 @@ def is_workspace(path: str) -> bool:
     return False
 
 
-def described(path: str) -> str:
-    """Returns the size of a workspace's file and when it was saved. Raises OSError."""
+def told_of(path: str, form: str = "%Y-%m-%d %H:%M:%S") -> Tuple[str, str]:
+    """Returns the size of a workspace's file, and when it was saved. Raises OSError."""
     told = os.stat(path)
-    return f"{told.st_size:,} bytes, saved {time.strftime('%Y-%m-%d %H:%M:%S', time.localtime(told.st_mtime))}"
+    return f"{told.st_size:,} bytes", time.strftime(form, time.localtime(told.st_mtime))
 
 
 class Library:
@@ -98,9 +104,9 @@ class Library:
     def listed(self) -> List[str]:
         """Returns the lines that tell the workspaces of the folder. Raises NotDone."""
         try:
-            names = workspaces(self.folder)
-            width = max(map(len, names), default=0)
-            return [f"{it:<{width}}  {described(self.path(it))}" for it in names] or ["no workspaces here"]
+            rows = [(it, *told_of(self.path(it), "%Y-%m-%d %H:%M")) for it in workspaces(self.folder)]
+            widths = [max((len(it[column]) for it in rows), default=0) for column in (0, 1)]
+            return [f"{name:<{widths[0]}}  {size:>{widths[1]}}  {when}" for name, size, when in rows] or ["no workspaces here"]
         except OSError as error:
             raise NotDone(f"{self.folder}: {reason(error)}") from None
 
@@ -115,7 +121,8 @@ class Library:
             saved = self.session.workspace()
             save_file(path, saved, self.known if to == self.name else NO_FILE)
             self.name, self.known = to, sha256(saved).digest()
-            return [f"{to}: {described(path)}"]
+            size, when = told_of(path)
+            return [f"{to} saved {when}: {size}"]
         except (NotSaved, OSError) as error:
             raise NotDone(f"not saved: {reason(error)}") from None
 
@@ -127,7 +134,7 @@ class Library:
                 data = file.read()
             self.session.open(data)
             self.name, self.known = name, sha256(data).digest()
-            return [f"{name}: {described(path)}"]
+            return [f"{name}: {self.described()}"]
         except FileNotFoundError:
             raise NotDone(f"there is no {name}: )LIB lists the workspaces of this folder") from None
         except OSError as error:
@@ -136,6 +143,11 @@ class Library:
             if refused.reason != "load":
                 raise
             raise NotDone(f"{name} is no workspace: it breaks rule {refused.number} of docs/WORKSPACE.md") from None
+
+    def described(self) -> str:
+        """Returns the size of the workspace's file and when it was saved. Raises OSError."""
+        size, when = told_of(self.path(self.name))
+        return f"{size}, saved {when}"
 
     def identify(self, name: str = "") -> List[str]:
         """Returns the line that tells the workspace's name. Where another is given, the workspace has it, and )SAVE writes its file."""

@@ -7,6 +7,7 @@ from apl import Value
 from apl.commands import Command, Library, NotDone, command, workspaces
 from tests.support import OfSession
 
+WHEN = r"\d{4}-\d\d-\d\d \d\d:\d\d"
 SAVED = r"\d+ bytes, saved \d{4}-\d\d-\d\d \d\d:\d\d:\d\d"
 
 
@@ -49,7 +50,7 @@ class Files(OfSession):
 
     def test_saved_and_loaded(self) -> None:
         self.typed("A←2 3⍴⍳6", "∇Z←F X", "Z←1÷X", "∇", "10+F 0")
-        self.assertRegex(self.done(")SAVE ledger")[0], f"^ledger: {SAVED}$")
+        self.assertRegex(self.done(")SAVE ledger")[0], rf"^ledger saved {WHEN}:\d\d: \d+ bytes$")
         self.assertEqual((self.done(")WSID"), os.listdir(self.folder)), (["ledger"], ["ledger"]))
         self.assertIsNone(self.library.do(")CLEAR"))
         self.typed(")CLEAR")
@@ -118,7 +119,8 @@ class Files(OfSession):
         (self.folder / "NOTES").write_text('{"cells":[]}')
         (self.folder / "FOLDER").mkdir()
         self.assertEqual(workspaces(self.folder), ["A", "B", "B.json", "KEYS"])
-        self.assertRegex("\n".join(self.done(")LIB")), f"^A       {SAVED}\nB       {SAVED}\nB.json  {SAVED}\nKEYS    {SAVED}$")
+        rows = rf"^A       64 bytes  {WHEN}\nB       64 bytes  {WHEN}\nB.json  64 bytes  {WHEN}\nKEYS    27 bytes  {WHEN}$"
+        self.assertRegex("\n".join(self.done(")LIB")), rows)
 
     def test_links(self) -> None:
         (self.folder / "far").mkdir()
