@@ -75,7 +75,7 @@ class Place:
 
     def begin(self) -> None:
         """Waits until the server is there."""
-        end = time.monotonic() + browser.SECONDS
+        end = time.monotonic() + 4 * browser.SECONDS
         while time.monotonic() < end:
             with suppress(OSError):
                 socket.create_connection(("127.0.0.1", self.port), 1).close()

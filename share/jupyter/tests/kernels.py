@@ -56,8 +56,13 @@ class Kernel:
         return str(self.client.execute(code))
 
     def run(self, code: str, meanwhile: Optional[Callable[[Ran], None]] = None) -> Ran:
-        """Runs a cell, and returns what it came to. meanwhile is called after each thing that it shows."""
-        return self.end(self.begin(code), meanwhile)
+        """Runs a cell, and returns what it came to. meanwhile is called after each thing that it shows.
+
+        What comes too soon behind an error isn't run by any kernel of ipykernel, and is sent again."""
+        while True:
+            ran = self.end(self.begin(code), meanwhile)
+            if ran.status != "aborted":
+                return ran
 
     def end(self, name: str, meanwhile: Optional[Callable[[Ran], None]] = None) -> Ran:
         """Waits until a cell has ended."""

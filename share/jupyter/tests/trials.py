@@ -67,7 +67,11 @@ def in_notebook(only: Sequence[str]) -> List[bool]:
     if not chosen:
         return []
     with tempfile.TemporaryDirectory() as folder:
-        place = classic.Place(folder)
+        try:
+            place = classic.Place(folder)
+        except (OSError, TimeoutError) as error:
+            print(f"kernel: in the notebook FAILED: {error}", flush=True)
+            return [False]
         try:
             return [tried(f"in the notebook: {it.__name__}", partial(it, place)) for it in chosen]
         finally:
