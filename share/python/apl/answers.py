@@ -17,12 +17,13 @@ class Result:
 
     told is "idle" where it ended, "stopped" where it ended at a line that ⎕STOP names, "interrupted" where it was abandoned, and
     "definition" where a definition is open, whose next line has the number next_line. A line that faults ends: its report stands among
-    the lines.
+    the lines. steps is how many steps an interrupted line had made: `run(line, steps)` interrupts it there again.
     """
 
     lines: Tuple[Line, ...]
     told: str
     next_line: int = 0
+    steps: int = 0
 
     @property
     def text(self) -> str:

@@ -8,7 +8,7 @@ import threading
 import time
 from contextlib import contextmanager, suppress
 from hashlib import sha256
-from typing import Any, Dict, Iterator, List, Optional, Sequence, Union
+from typing import Any, Callable, Dict, Iterator, List, Optional, Sequence, Union
 
 from apl.answers import Function, Level, Line, Name, Result, Unset, Variable
 from apl.arrays import Array, Value
@@ -20,6 +20,8 @@ PathLike = Union[str, "os.PathLike[str]"]
 # How many steps the first slice of a line makes, and the most that one makes, so that an interrupt waits for few where steps suddenly take
 # longer; and the seconds that one should take.
 FIRST, MOST, SLICE = 2_000, 20_000, 0.005
+MOST_STEPS = 2**63
+Show = Callable[[List[Line]], None]
 NAME = re.compile("⎕IO|[A-Za-z∆⍙_][0-9A-Za-z∆⍙_]{0,31}")
 
 
@@ -58,14 +60,16 @@ class Session:
         """Ends the program. What isn't saved is lost."""
         self._pipe.close()
 
-    def run(self, line: str) -> Result:
+    def run(self, line: str, steps: Optional[int] = None, show: Optional[Show] = None) -> Result:
         """Types a line, and returns what it came to.
 
-        Raises Refused where the line is too long or has a line feed, where another thread's line runs, and where memory runs out, which
-        abandons the line; Interrupted where a KeyboardInterrupt comes; Died where the program ends.
+        steps is the most that it makes before it is interrupted. show is called with the lines of each slice of steps as soon as they are
+        written, also with none; the result then has no lines. Raises Refused where the line is too long or has a line feed, where another
+        thread's line runs, and where memory runs out, which abandons the line; Interrupted where a KeyboardInterrupt comes; Died where the
+        program ends.
         """
         with self._alone() as keyboard:
-            result = self._run(line, self._seconds, keyboard)
+            result = self._run(line, self._seconds, keyboard, steps, show)
             if keyboard.struck:
                 raise Interrupted(result)
         return result
@@ -170,32 +174,37 @@ class Session:
             finally:
                 self._line.release()
 
-    def _run(self, line: str, seconds: Optional[float], keyboard: Optional[Keyboard]) -> Result:
+    def _run(self, line: str, seconds: Optional[float], keyboard: Optional[Keyboard], steps: Optional[int] = None,
+             show: Optional[Show] = None) -> Result:
         """Types a line and makes its steps, until it ends or is to be interrupted."""
         if self._state == "running":
             # memory ran out in it, or a signal handler raised an exception
             self._note(self._pipe.ask("interrupt", True))
-        ends, told, count = float("inf") if seconds is None else time.monotonic() + seconds, "", FIRST
-        typed, advanced = self._pipe.send(request("type", line), request("advance", count))
+        ends, told, made = float("inf") if seconds is None else time.monotonic() + seconds, "", 0
+        most, count = MOST_STEPS if steps is None else steps, FIRST
         lines: List[Line] = []
+        write, asked = show or lines.extend, min(FIRST, most)
+        typed, advanced = self._pipe.send(request("type", line), request("advance", asked))
         try:
-            lines += self._note(self._pipe.told(typed))
+            write(self._note(self._pipe.told(typed)))
             if self._state == "running" or advanced.startswith(b'{"lines":'):
-                lines += self._note(self._pipe.told(advanced))
+                write(self._note(self._pipe.told(advanced)))
             while self._state == "running":
+                made += asked
                 began = time.monotonic()
-                if self._wants_interrupt or keyboard and keyboard.struck or began >= ends:
-                    lines += self._note(self._pipe.ask("interrupt", True))
+                if made == most or self._wants_interrupt or keyboard and keyboard.struck or began >= ends:
                     told = "interrupted"
+                    write(self._note(self._pipe.ask("interrupt", True)))
                 else:
-                    lines += self._note(self._pipe.ask("advance", count))
+                    asked = min(count, most - made)
+                    write(self._note(self._pipe.ask("advance", asked)))
                     count = next_count(count, time.monotonic() - began)
         except Refused as refused:
             self._state = "running"
             with suppress(Refused):
-                lines += self._note(self._pipe.ask("interrupt", True))
+                write(self._note(self._pipe.ask("interrupt", True)))
             raise Refused(refused.reason, lines=tuple(lines)) from None
-        return Result(tuple(lines), told or ("definition" if self._next else self._state), self._next)
+        return Result(tuple(lines), told or ("definition" if self._next else self._state), self._next, made if told else 0)
 
     def _assign(self, line: str, keyboard: Keyboard) -> None:
         """Types an assignment."""

@@ -4,9 +4,9 @@ import signal
 import threading
 import time
 from types import FrameType
-from typing import Optional
+from typing import List, Optional
 
-from apl import Died, Interrupted
+from apl import Died, Interrupted, Line
 from tests.support import LOOP, OfSession
 
 LONG = "LOOP 10000000000"
@@ -59,6 +59,27 @@ class Interrupts(OfSession):
             self.assertEqual(self.session.run(LONG).told, "interrupted")
         finally:
             signal.signal(signal.SIGALRM, old)
+
+    def test_the_same_step_again(self) -> None:
+        for _ in range(5):
+            threading.Timer(0.05, self.session.interrupt).start()
+            other = self.begun(self.session.workspace())
+            first = self.session.run(LONG)
+            again = other.run(LONG, first.steps)
+            self.assertEqual((again, other.workspace()), (first, self.session.workspace()))
+
+    def test_few_steps(self) -> None:
+        for steps in (0, 1, 5, 2_000, 2_001):
+            result = self.session.run(LONG, steps)
+            self.assertEqual((result.told, result.steps), ("interrupted", steps))
+        result = self.session.run("2+3", 2)
+        self.assertEqual((result.told, result.text, result.steps), ("idle", "5", 0))
+
+    def test_lines_as_they_are_written(self) -> None:
+        self.typed("∇SHOW N", "N", "N←N-1", "→N>0", "∇")
+        found: List[Line] = []
+        result = self.session.run("SHOW 5000", show=found.extend)
+        self.assertEqual((result.lines, len(found), found[0].text), ((), 5_000, "5000"))
 
     def test_seconds(self) -> None:
         session = self.begun(self.session.workspace(), seconds=0.1)
