@@ -11,6 +11,7 @@ from contextlib import suppress
 from typing import List, Optional
 
 from apl import AplError, Session
+from apl_terminal.tty import plain
 
 EDITORS = ("sensible-editor", "editor", "nano", "vi")
 LABEL = re.compile(r"^\s*[A-Za-z∆⍙_][0-9A-Za-z∆⍙_]*\s*:")
@@ -32,7 +33,8 @@ def edited(command: List[str], name: str, lines: List[str]) -> List[str]:
     try:
         with open(path, "w", encoding="utf-8") as file:
             file.write("".join(f"{it}\n" for it in lines))
-        subprocess.run([*command, path], check=True)
+        with plain():
+            subprocess.run([*command, path], check=True)
         with open(path, encoding="utf-8", errors="replace") as file:
             found = file.read().splitlines()
     finally:

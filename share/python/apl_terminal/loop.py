@@ -3,35 +3,19 @@ from __future__ import annotations
 
 import shutil
 import signal
-import termios
-from contextlib import contextmanager, suppress
+from contextlib import suppress
 from pathlib import Path
 from types import FrameType
-from typing import Iterator, List, Optional, Tuple
+from typing import List, Optional, Tuple
 
 from apl import AplError, Died, Function, Line
 from apl_terminal import keys, places
 from apl_terminal.commands import Commands
 from apl_terminal.prompt import Typing
+from apl_terminal.tty import plain, quiet
 from apl_terminal.work import Gone, Undone, Work, prompted
 
 WELCOME = "Backquote and a key type a character: `i is ⍳. Tab completes, Ctrl-C interrupts, )HELP tells more, )OFF ends."
-
-
-@contextmanager
-def quiet() -> Iterator[None]:
-    """Has the terminal not show ^C where Ctrl-C is struck, since the report of the interrupt is to stand in a line of its own."""
-    try:
-        mode = termios.tcgetattr(0)
-    except termios.error:
-        yield
-        return
-    termios.tcsetattr(0, termios.TCSADRAIN, [*mode[:3], mode[3] & ~termios.ECHOCTL, *mode[4:]])
-    try:
-        yield
-    finally:
-        with suppress(termios.error):
-            termios.tcsetattr(0, termios.TCSADRAIN, mode)
 
 
 class Screen:
@@ -60,7 +44,8 @@ class Screen:
         """Asks a question for yes or no."""
         while True:
             try:
-                answer = input(f"{text} [{'Y/n' if default else 'y/N'}] ").strip().lower()
+                with plain():
+                    answer = input(f"{text} [{'Y/n' if default else 'y/N'}] ").strip().lower()
             except (EOFError, KeyboardInterrupt, OSError):
                 raise Gone from None
             if answer in ("", "y", "yes", "n", "no"):

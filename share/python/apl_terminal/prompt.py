@@ -1,6 +1,7 @@
 """The line that is typed: its prompt, its keys, its history, and what is pasted, by prompt_toolkit."""
 from __future__ import annotations
 
+import os
 from functools import partial
 from typing import Callable, Iterable, List, Optional
 
@@ -45,7 +46,7 @@ class Typing:
     """Reads lines at the terminal."""
 
     def __init__(self, keys: List[Key], names: Names, history: Optional[str]) -> None:
-        self.keys = keys
+        self.keys, self.names = keys, names
         # what was pasted and isn't typed yet: whole lines, and what stands behind the last line's end
         self.pasted: List[str] = []
         self.session: PromptSession[str] = PromptSession(
@@ -81,10 +82,24 @@ class Typing:
         bindings = KeyBindings()
         for it in self.keys:
             bindings.add(PREFIX, it.key)(inserting(it.character))
+        bindings.add("tab")(self.complete)
         bindings.add("c-c")(cleared)
         bindings.add(Keys.SIGINT)(cleared)
         bindings.add(Keys.BracketedPaste)(self.paste)
         return bindings
+
+    def complete(self, event: KeyPressEvent) -> None:
+        """Completes what stands before the cursor as far as that is certain, and else shows what it may become."""
+        buffer = event.current_buffer
+        begun, found = completions(buffer.document.text_before_cursor, self.names)
+        sure = os.path.commonprefix(found)
+        if buffer.complete_state:
+            buffer.complete_next()
+        elif len(sure) > len(begun) or len(found) == 1:
+            buffer.delete_before_cursor(len(begun))
+            buffer.insert_text(sure)
+        elif found:
+            buffer.start_completion()
 
     def paste(self, event: KeyPressEvent) -> None:
         """Takes what is pasted: its first line is typed now, and the others follow."""

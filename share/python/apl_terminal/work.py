@@ -164,6 +164,7 @@ class Work:
         file = places.real(name) if name is not None else None
         data = self.read(file) if file else None
         journal = self.journal if file and file == self.file else self.take(file, is_fresh)
+        is_kept = hasattr(self, "journal") and self.is_unsaved()
         try:
             self.session.open(data or CLEAR)
         except Refused as refused:
@@ -171,7 +172,7 @@ class Work:
                 self.give(journal)
             raise Undone(f"{places.shown(file or '')} is no workspace: {refused}") from None
         if hasattr(self, "journal") and journal is not self.journal:
-            self.leave()
+            self.leave(is_kept)
         self.file, self.journal = file, journal
         self.digest = sha256(data).digest() if data is not None else None
         self.base, self.base_state = data or CLEAR, self.state()
@@ -373,23 +374,25 @@ class Work:
         saved = time.strftime("%Y-%m-%d %H:%M:%S", time.localtime(os.stat(self.file).st_mtime))
         return f"{self.name}: {len(self.base):,} bytes, saved {saved}"
 
-    def leave(self) -> None:
-        """Lets go of the journal: it is removed where nothing in it would be lost, and else told."""
-        lines = len(self.journal.past.lines)
-        if self.journal.past.is_empty or not self.next_line and self.base_state and self.state() == self.base_state:
+    def is_unsaved(self) -> bool:
+        """Tells whether the journal has something that isn't in the file, nor came to nothing."""
+        is_same = not self.next_line and self.base_state and self.state() == self.base_state
+        return not self.journal.past.is_empty and not is_same
+
+    def leave(self, is_kept: bool) -> None:
+        """Lets go of the journal, which is removed if it isn't to be kept."""
+        if not is_kept:
             self.journal.remove()
             return
         self.journal.release()
-        what = f"{lines} line{'s' * (lines != 1)}" if lines else "what was done"
+        count = len(self.journal.past.lines)
+        what = f"{count} line{'s' * (count != 1)}" if count else "what was done"
         self.front.tell(f"{what} since {self.name + ' was saved' if self.file else 'the beginning'}: not saved, but kept, and offered when "
                         f"{self.name if self.file else 'the terminal'} is opened again")
 
     def close(self) -> None:
         """Ends the session."""
-        if self.is_closing:
-            self.journal.release()
-        else:
-            self.leave()
+        self.leave(self.is_unsaved()) if not self.is_closing else self.journal.release()
         self.session.close()
 
 
