@@ -1,6 +1,7 @@
 """The terminal's own commands, what Tab completes, the editor, the keys and the reference."""
 import json
 import os
+import re
 import stat
 from pathlib import Path
 from typing import List, Tuple
@@ -115,6 +116,31 @@ class OwnCommands(OfCommands):
             self.assertEqual(library.name_of(header), "F")
 
 
+class Documents(OfCommands):
+    def test_the_sessions_of_the_reference(self) -> None:
+        blocks = re.findall("^```terminal\n(.*?)^```$", MANUAL.read_text(encoding="utf-8"), re.M | re.S)
+        self.assertGreater(len(blocks), 5)
+        for number, block in enumerate(blocks):
+            folder = self.folder / str(number)
+            folder.mkdir()
+            os.chdir(folder)
+            self.at.open(None, is_fresh=True)
+            found: List[str] = []
+            for line in (it[6:] for it in block.splitlines() if it.startswith("      ")):
+                said = self.said(self.at)
+                said.shown.clear()
+                told = self.told(line)
+                found += [f"      {line}", *said.shown, *told.splitlines()]
+            made = "\n".join(found).replace(str(folder), "/home/ann")
+            self.assertEqual(dated(made), dated(block.rstrip("\n")))
+            self.at.open(None, is_fresh=True)
+
+
+def dated(text: str) -> str:
+    """Returns a text without dates and times."""
+    return re.sub(r"\d{4}-\d\d-\d\d \d\d:\d\d(:\d\d)?", "DATE", text)
+
+
 class Editing(OfCommands):
     def editor(self, *texts: str) -> None:
         """Has the editor make these texts, one after the other."""
@@ -216,7 +242,7 @@ class Reading(OfTerminal):
         for it in keys.read(TOP / "share/keys.txt"):
             if not it.character.isascii() and it.character not in "∆⍙":
                 self.assertTrue(reference.about(MANUAL, it.character), it.character)
-        for word in ("⎕IO", "⎕STOP", ")SI", ")SAVE", "SAVE", ")COPY", "reshape", "DOMAIN ERROR", "rank error", "'", "LABELS", "∇", "Limits"):
+        for word in ("⎕IO", "⎕STOP", ")SI", ")SAVE", "SAVE", ")COPY", "reshape", "DOMAIN ERROR", "rank error", "'", "LABELS", "∇"):
             self.assertTrue(reference.about(MANUAL, word), word)
         self.assertEqual((reference.about(MANUAL, "A"), reference.about(MANUAL, "xyzzy")), ([], []))
 
