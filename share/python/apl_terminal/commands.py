@@ -11,7 +11,7 @@ from apl_terminal import library, places, reference
 from apl_terminal.edit import edited, editor, fault_of
 from apl_terminal.journal import reason
 from apl_terminal.keys import Key, table
-from apl_terminal.work import Undone, Work
+from apl_terminal.work import Gone, Undone, Work
 
 HELP = """\
 )SAVE [NAME]     saves the workspace in its file, or in a new file NAME
@@ -115,8 +115,15 @@ class Commands:
                 self.front.tell(f"{library.name_of(bare(text)[0])} is defined")
                 return
             draft.write_text("".join(f"{it}\n" for it in text), encoding="utf-8")
-            if not self.front.ask("Edit it again?", True):
+            if not self.wants_more():
                 raise Undone("it isn't defined; )EDIT alone opens the text again")
+
+    def wants_more(self) -> bool:
+        """Asks whether the text is to be edited again."""
+        try:
+            return self.front.ask("Edit it again?", True)
+        except Gone:
+            return False
 
     def text_of(self, name: str, draft: Path) -> List[str]:
         """Returns the text that the editor begins with."""

@@ -43,11 +43,14 @@ class Screen:
     def ask(self, text: str, default: bool) -> bool:
         """Asks a question for yes or no."""
         while True:
+            old = signal.signal(signal.SIGINT, signal.default_int_handler)
             try:
                 with plain():
                     answer = input(f"{text} [{'Y/n' if default else 'y/N'}] ").strip().lower()
             except (EOFError, KeyboardInterrupt, OSError):
                 raise Gone from None
+            finally:
+                signal.signal(signal.SIGINT, old)
             if answer in ("", "y", "yes", "n", "no"):
                 return default if not answer else answer.startswith("y")
 
@@ -75,6 +78,7 @@ class Terminal:
         """Works on the workspace of a name, else on one that has none, and returns the status."""
         for it in (signal.SIGHUP, signal.SIGTERM):
             signal.signal(it, self.hang_up)
+        signal.signal(signal.SIGINT, self.work.strike)
         with quiet():
             return self.session(name)
 
@@ -91,6 +95,7 @@ class Terminal:
             return 1
         except Gone:
             self.work.is_closing = True
+            self.screen.tell("\nnothing is changed")
         except Died as died:
             self.screen.tell(f"apl-terminal: {died}. What was typed is kept, and offered when the workspace is opened again.")
             self.work.is_closing = True
@@ -108,20 +113,16 @@ class Terminal:
 
     def step(self) -> None:
         """Reads a line, and does it."""
+        self.names_known = None
         try:
-            self.names_known = None
             line = self.typing.line(prompted(self.work.next_line))
-        except KeyboardInterrupt:
-            return
         except (EOFError, OSError):
             self.commands.is_over = True
             return
-        try:
-            if not self.commands.do(line):
-                self.work.type(line)
-                if self.work.was_interrupted:
-                    self.drop()
-        except KeyboardInterrupt:
+        self.work.struck = 0.0
+        if not self.commands.do(line):
+            self.work.type(line)
+        if self.work.struck:
             self.drop()
 
     def drop(self) -> None:

@@ -1,17 +1,29 @@
 """Where the terminal keeps what it keeps."""
 from __future__ import annotations
 
+import functools
 import os
+import tempfile
 from typing import Iterator
 
 UNNAMED = "unnamed-{}.apl-journal"
 
 
 def state() -> str:
-    """Returns the folder for what lasts from one session to the next, which is made where there is none."""
+    """Returns the folder for what lasts from one session to the next, which is made where there is none; another one, in that for what is
+    temporary, where it can't be."""
     folder = os.path.join(os.environ.get("XDG_STATE_HOME") or os.path.expanduser("~/.local/state"), "apl")
-    os.makedirs(folder, mode=0o700, exist_ok=True)
+    try:
+        os.makedirs(folder, mode=0o700, exist_ok=True)
+    except OSError:
+        return temporary()
     return folder
+
+
+@functools.lru_cache(maxsize=None)
+def temporary() -> str:
+    """Returns a new folder for what can be kept nowhere else."""
+    return tempfile.mkdtemp(prefix="apl-")
 
 
 def history() -> str:

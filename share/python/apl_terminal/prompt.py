@@ -2,6 +2,7 @@
 from __future__ import annotations
 
 import os
+from contextlib import suppress
 from functools import partial
 from typing import Callable, Iterable, List, Optional
 
@@ -27,8 +28,15 @@ class History(FileHistory):
 
     def store_string(self, string: str) -> None:
         if string.strip() and string != self.last:
-            super().store_string(string)
+            # a disk that is full is no reason to end
+            with suppress(OSError):
+                super().store_string(string)
         self.last = string
+
+    def load_history_strings(self) -> List[str]:
+        with suppress(OSError, UnicodeError):
+            return list(super().load_history_strings())
+        return []
 
 
 class Words(Completer):
@@ -64,7 +72,7 @@ class Typing:
             self.session.history.append_string(line)
             return line
         start = self.pasted.pop() if self.pasted else ""
-        return self.session.prompt(prompt, default=start)
+        return self.session.prompt(prompt, default=start, handle_sigint=False)
 
     def drop(self) -> List[str]:
         """Returns the lines that were pasted and aren't typed, which are forgotten."""

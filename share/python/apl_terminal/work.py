@@ -11,7 +11,7 @@ from contextlib import suppress
 from hashlib import sha256
 from typing import List, Optional, Protocol, Sequence
 
-from apl import Died, Interrupted, Line, NotSaved, Refused, Result, Session
+from apl import Died, Line, NotSaved, Refused, Result, Session
 from apl.files import save_file
 from apl_terminal import library, places
 from apl_terminal.journal import Busy, Foreign, Journal, Past, Typed, reason, set_aside
@@ -19,6 +19,8 @@ from apl_terminal.journal import Busy, Foreign, Journal, Past, Typed, reason, se
 CLEAR = b'{"contexts":[],"functions":[],"io":1,"variables":[],"version":2}'
 # After a line that took so many seconds the journal gets what stands, so that it needn't be made again.
 LONG = 2.0
+# A second Ctrl-C ends the program, where it comes so many seconds after the first.
+PATIENCE = 1.0
 # So many lines are shown before they are played again, and so many of what they write then.
 SHOWN = 8
 
@@ -62,8 +64,17 @@ class Work:
         self.open_lines: List[str] = []
         # the last lines that the line before wrote
         self.last: List[str] = []
-        self.was_interrupted = False
+        # when Ctrl-C was struck, 0 for not yet, and why the journal can't be written, as far as that is told
+        self.struck, self.fault_told = 0.0, ""
         self.is_closing = False
+
+    def strike(self, *_: object) -> None:
+        """Has Ctrl-C interrupt the line that runs, as the handler of its signal: nothing else is cut short by it. A second one, where the line
+        makes a long step, ends the program."""
+        now = time.monotonic()
+        if self.struck and now - self.struck >= PATIENCE:
+            self.session.kill()
+        self.struck = self.struck or now
 
     @property
     def name(self) -> str:
@@ -74,9 +85,8 @@ class Work:
 
     def type(self, line: str, is_shown: bool = True) -> None:
         """Types a line, which the journal has on the disk before it runs. Raises Died where the program can't be begun again."""
-        had = self.journal.fault
         self.journal.typed(line)
-        self.tell_fault(had)
+        self.tell_fault()
         began = time.monotonic()
         try:
             result = self.run(line, None, is_shown)
@@ -87,28 +97,24 @@ class Work:
             self.journal.undone()
             self.begin_again(died)
             return
-        had = self.journal.fault
         self.journal.ended(result.steps if result.told == "interrupted" else None)
         if time.monotonic() - began > LONG and not self.next_line:
             self.keep_state()
-        self.tell_fault(had)
+        self.tell_fault()
 
     def run(self, line: str, steps: Optional[int] = None, is_shown: bool = True) -> Result:
-        """Runs a line, and keeps what it tells of a definition. An interrupt is part of what it came to."""
+        """Runs a line, and keeps what it tells of a definition."""
         last: List[str] = []
 
         def show(lines: List[Line]) -> None:
-            if self.is_closing:
+            if self.is_closing or self.struck:
                 self.session.interrupt()
             last[:] = [*last, *(it.text for it in lines)][-SHOWN:]
             if is_shown:
                 self.front.show(lines)
 
-        self.last, self.was_interrupted = last, False
-        try:
-            result = self.session.run(line, steps, show)
-        except Interrupted as interrupted:
-            result, self.was_interrupted = interrupted.result, True
+        self.last = last
+        result = self.session.run(line, steps, show)
         if result.next_line:
             self.open_lines = [*self.open_lines, line] if self.next_line else [line]
         else:
@@ -138,8 +144,9 @@ class Work:
         with suppress(Refused):
             self.journal.stands(self.session.workspace())
 
-    def tell_fault(self, had: str) -> None:
+    def tell_fault(self) -> None:
         """Tells where the journal can't be written any more, or can again."""
+        had, self.fault_told = self.fault_told, self.journal.fault
         if self.journal.fault and not had:
             self.front.tell(f"the journal can't be written ({self.journal.fault}): )SAVE, since what is typed now is lost if this terminal is killed")
         elif had and not self.journal.fault:
@@ -150,7 +157,7 @@ class Work:
         lines = self.journal.past.lines
         self.front.tell(f"{died}. It is begun again, and what was typed before is there; the last line isn't done.")
         self.session.close()
-        self.session = Session(self.program)
+        self.session, self.struck = Session(self.program), 0.0
         self.next_line, self.open_lines = 0, []
         self.session.open(self.journal.past.workspace or self.base)
         for it in lines:
@@ -183,6 +190,8 @@ class Work:
     def read(file: str) -> Optional[bytes]:
         """Returns the bytes of a workspace's file, None where there is none yet."""
         try:
+            if os.path.exists(file) and not os.path.isfile(file):
+                raise Undone(f"{places.shown(file)} is no file")
             with open(file, "rb") as opened:
                 return opened.read()
         except FileNotFoundError:
@@ -283,13 +292,16 @@ class Work:
                 self.journal.ended(steps)
             elif not it.has_ended:
                 self.journal.ended(steps)
-            elif steps != it.steps:
-                self.cut(past, number, steps)
+            if self.struck:
+                if number < len(past.lines) or steps != it.steps:
+                    self.cut(past, number, steps, is_noted)
                 break
         self.front.show([Line(it) for it in told[-3 * SHOWN:]])
 
-    def cut(self, past: Past, number: int, steps: Optional[int]) -> None:
-        """Has the journal end with the line of this number, which was interrupted now."""
+    def cut(self, past: Past, number: int, steps: Optional[int], is_noted: bool) -> None:
+        """Has the journal end with the line of this number, at which the playing was interrupted."""
+        if not is_noted:
+            return
         typed = [*past.lines[:number - 1], Typed(past.lines[number - 1].line, True, steps)]
         self.front.tell(f"{len(past.lines) - number} lines are not played again")
         self.anew(past.base)
@@ -403,15 +415,16 @@ def prompted(next_line: int) -> str:
 
 def question(past: Past, name: str, path: str, is_changed: bool) -> str:
     """Returns what is asked before lines are played again."""
-    count = len(past.lines)
-    what = f"{count} line{'s' * (count != 1)} {'were' if count != 1 else 'was'} typed"
-    found = [f"{what} {'in a workspace without a name' if name == 'CLEAR WS' else 'since ' + name + ' was saved'}, and not saved:"]
+    count, since = len(past.lines), "in a workspace without a name" if name == "CLEAR WS" else f"since {name} was saved"
+    found = [f"{count} line{'s' * (count != 1)} {'were' if count != 1 else 'was'} typed {since}, and not saved:"]
+    if past.workspace is not None:
+        found = [f"What was done {since} is not saved{', and ended with' if count else '.'}"]
     found += [f"      .. {count - SHOWN} before"] if count > SHOWN else []
-    found += [f"      {it.line}" for it in past.lines[-SHOWN:]]
+    found += ["      " + "".join(c if c.isprintable() else "\N{REPLACEMENT CHARACTER}" for c in it.line) for it in past.lines[-SHOWN:]]
     if past.lines and not past.lines[-1].has_ended:
         found.append("The last one may have been running still; Ctrl-C interrupts it.")
     if not past.is_whole:
-        found.append(f"The journal {path} is damaged behind them; it is kept.")
+        found.append(f"The journal {path} is damaged behind that; it is kept.")
     if is_changed:
-        found.append(f"But {name} was changed since by another program, so they may come to something else.")
-    return "\n".join([*found, "Play them again?"])
+        found.append(f"But {name} was changed since by another program, so this may come to something else.")
+    return "\n".join([*found, "Play them again?" if count else "Go on with it?"])

@@ -56,7 +56,7 @@ class OfTerminal(unittest.TestCase):
     def work(self, name: Optional[str] = None, said: Optional[Said] = None) -> Work:
         """Begins to work on a workspace."""
         work = Work(PROGRAM, said or Said())
-        self.addCleanup(work.session.close)
+        self.addCleanup(lambda: work.session.close())  # the session that it has then
         work.open(name)
         return work
 

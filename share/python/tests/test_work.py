@@ -3,11 +3,12 @@ import errno
 import os
 import signal
 import threading
+from typing import Any
 from unittest import mock
 
-from apl import Died, Interrupted
+from apl import Died, Refused
 from apl_terminal import places
-from apl_terminal.work import Gone, Undone
+from apl_terminal.work import Gone, Undone, Work
 from tests.front import OfTerminal, Said
 from tests.support import LOOP
 
@@ -32,14 +33,49 @@ class Lines(OfTerminal):
         self.assertEqual(self.work("ledger").session.workspace(), state)
 
     def test_ctrl_c(self) -> None:
-        old = signal.signal(signal.SIGINT, signal.default_int_handler)
-        self.addCleanup(signal.signal, signal.SIGINT, old)
         work = self.work()
+        self.strikes(work)
         self.typed(work, *LOOP)
         threading.Timer(0.2, os.kill, (os.getpid(), signal.SIGINT)).start()
         self.assertEqual(self.typed(work, LONG)[0], "INTERRUPT")
-        self.assertTrue(work.was_interrupted)
+        self.assertTrue(work.struck)
+        work.struck = 0.0
         self.assertEqual(self.typed(work, "2+3"), ["5"])
+
+    def strikes(self, work: Work) -> None:
+        """Has Ctrl-C be what it is at a terminal."""
+        self.addCleanup(signal.signal, signal.SIGINT, signal.signal(signal.SIGINT, work.strike))
+
+    def test_ctrl_c_while_the_journal_is_written(self) -> None:
+        work = self.work("ledger")
+        self.strikes(work)
+        self.typed(work, *LOOP, "A←1")
+        with mock.patch("os.fsync", side_effect=lambda _: os.kill(os.getpid(), signal.SIGINT)):
+            self.assertEqual(self.typed(work, LONG)[0], "INTERRUPT")
+        state = work.session.workspace()
+        self.killed(work)
+        self.assertEqual(self.work("ledger").session.workspace(), state)
+
+    def test_ctrl_c_while_it_saves(self) -> None:
+        work = self.work("ledger")
+        self.strikes(work)
+        self.typed(work, "A←1")
+        with mock.patch("os.fsync", side_effect=lambda _: os.kill(os.getpid(), signal.SIGINT)):
+            work.save()
+        work.save()
+        self.assertEqual(self.said(work).told, [])
+
+    def test_ctrl_c_twice_in_a_long_step(self) -> None:
+        work = self.work()
+        self.strikes(work)
+        self.typed(work, "M←1000 1000⍴1", "A←5")
+        for seconds in (0.2, 1.4):
+            threading.Timer(seconds, os.kill, (os.getpid(), signal.SIGINT)).start()
+        self.typed(work, "M←M+.×M")
+        if self.said(work).told:
+            self.assertIn("It is begun again", self.said(work).told[0])
+        work.struck = 0.0
+        self.assertEqual(self.typed(work, "A", "⍴M"), ["5", "1000 1000"])
 
     def test_a_line_that_is_too_long(self) -> None:
         work = self.work("ledger")
@@ -52,7 +88,7 @@ class Lines(OfTerminal):
     def test_memory_that_runs_out(self) -> None:
         work = self.work("ledger")
         self.typed(work, "A←1")
-        with mock.patch.object(work.session, "run", side_effect=__import__("apl").Refused("memory")):
+        with mock.patch.object(work.session, "run", side_effect=Refused("memory")):
             work.type("B←1")
         self.assertEqual(self.said(work).told, ["not done: out of memory"])
         self.killed(work)
@@ -111,6 +147,21 @@ class Saving(OfTerminal):
         self.typed(work, "A←1")
         self.assertEqual((self.folder / "ledger").read_text(), "mine")
         work.save("other")
+
+    def test_a_disk_that_is_full_from_the_start(self) -> None:
+        with mock.patch("os.pwrite", side_effect=OSError(errno.ENOSPC, "No space left on device")):
+            work = self.work("ledger")
+            self.typed(work, "A←1", "A←2")
+        self.typed(work, "A←3")
+        self.assertEqual([it.split(" (")[0] for it in self.said(work).told], ["the journal can't be written", "the journal is written again"])
+        self.killed(work)
+        self.assertEqual(self.work("ledger").session.value("A"), 3)
+
+    def test_no_folder_for_what_lasts(self) -> None:
+        (self.folder / "state").write_text("")
+        work = self.work()
+        self.typed(work, "A←1")
+        work.close()
 
     def test_a_full_disk(self) -> None:
         work = self.work()
@@ -208,7 +259,7 @@ class PlayedAgain(OfTerminal):
         data = path.read_bytes()
         path.write_bytes(data.replace("A←2".encode(), "A←3".encode()))
         work = self.work("ledger")
-        self.assertIn("is damaged behind them; it is kept", self.said(work).asked[0])
+        self.assertIn("is damaged behind that; it is kept", self.said(work).asked[0])
         self.assertEqual((work.session.value("A"), len(work.journal.past.lines)), (1, 1))
         self.assertEqual((self.folder / ".ledger.apl-journal-1").read_bytes(), data.replace("A←2".encode(), "A←3".encode()))
         self.killed(work)
@@ -259,10 +310,11 @@ class PlayedAgain(OfTerminal):
         work = self.work()
         run = work.session.run
 
-        def interrupted(line: str, *more: object) -> object:
+        def interrupted(line: str, *more: Any) -> Any:
             if line.startswith("LOOP"):
-                raise Interrupted(run(line, 1_000))
-            return run(line, *more)  # type: ignore[arg-type]
+                work.strike()
+                return run(line, 1_000)
+            return run(line, *more)
 
         with mock.patch("apl.Session.run", side_effect=interrupted):
             work.open("ledger")
