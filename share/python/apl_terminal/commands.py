@@ -11,7 +11,8 @@ from apl_terminal import library, places, reference
 from apl_terminal.edit import edited, editor, fault_of
 from apl_terminal.journal import reason
 from apl_terminal.keys import Key, table
-from apl_terminal.work import Gone, Undone, Work
+from apl_terminal.telling import Gone, Undone
+from apl_terminal.work import Work
 
 HELP = """\
 )SAVE [NAME]     saves the workspace in its file, or in a new file NAME

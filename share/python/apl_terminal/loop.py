@@ -12,8 +12,9 @@ from apl import AplError, Died, Function, Line
 from apl_terminal import keys, places
 from apl_terminal.commands import Commands
 from apl_terminal.prompt import Typing
+from apl_terminal.telling import Gone, Undone, prompted
 from apl_terminal.tty import plain, quiet
-from apl_terminal.work import Gone, Undone, Work, prompted
+from apl_terminal.work import Work
 
 WELCOME = "Backquote and a key type a character: `i is ⍳. Tab completes, Ctrl-C interrupts, )HELP tells more, )OFF ends."
 

@@ -7,7 +7,8 @@ from typing import List, Optional
 from unittest import mock
 
 from apl import Line
-from apl_terminal.work import Gone, Work
+from apl_terminal.telling import Gone
+from apl_terminal.work import Work
 from tests.support import PROGRAM
 
 

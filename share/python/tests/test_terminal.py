@@ -10,7 +10,8 @@ from apl_terminal import keys, library, places, reference
 from apl_terminal.commands import Commands
 from apl_terminal.complete import completions
 from apl_terminal.edit import fault_of
-from apl_terminal.work import Undone, Work
+from apl_terminal.telling import Undone
+from apl_terminal.work import Work
 from tests.front import OfTerminal
 from tests.support import PROGRAM, TOP
 

@@ -8,7 +8,8 @@ from unittest import mock
 
 from apl import Died, Refused
 from apl_terminal import places
-from apl_terminal.work import Gone, Undone, Work
+from apl_terminal.telling import Gone, Undone
+from apl_terminal.work import Work
 from tests.front import OfTerminal, Said
 from tests.support import LOOP
 
