@@ -70,9 +70,12 @@ class Lines(OfTerminal):
         work = self.work()
         self.strikes(work)
         self.typed(work, "M←1000 1000⍴1", "A←5")
-        for seconds in (0.2, 1.4):
-            threading.Timer(seconds, os.kill, (os.getpid(), signal.SIGINT)).start()
+        timers = [threading.Timer(seconds, os.kill, (os.getpid(), signal.SIGINT)) for seconds in (0.2, 1.4)]
+        for it in timers:
+            it.start()
         self.typed(work, "M←M+.×M")
+        for it in timers:
+            it.join()
         if self.said(work).told:
             self.assertIn("It is begun again", self.said(work).told[0])
         work.struck = 0.0
