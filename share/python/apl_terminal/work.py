@@ -41,13 +41,13 @@ class Work:
         self.last: List[str] = []
         # when Ctrl-C was struck, 0 for not yet, and why the journal can't be written, as far as that is told
         self.struck, self.fault_told = 0.0, ""
-        self.is_closing = False
+        self.is_closing = self.is_running = False
 
     def strike(self, *_: object) -> None:
         """Has Ctrl-C interrupt the line that runs, as the handler of its signal: nothing else is cut short by it. A second one, where the line
         makes a long step, ends the program."""
         now = time.monotonic()
-        if self.struck and now - self.struck >= PATIENCE:
+        if self.is_running and self.struck and now - self.struck >= PATIENCE:
             self.session.kill()
         self.struck = self.struck or now
 
@@ -89,7 +89,11 @@ class Work:
                 self.front.show(lines)
 
         self.last = last
-        result = self.session.run(line, steps, show)
+        self.is_running = True
+        try:
+            result = self.session.run(line, steps, show)
+        finally:
+            self.is_running = False
         if result.next_line:
             self.open_lines = [*self.open_lines, line] if self.next_line else [line]
         else:
