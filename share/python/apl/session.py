@@ -26,7 +26,7 @@ NAME = re.compile("⎕IO|[A-Za-z∆⍙_][0-9A-Za-z∆⍙_]{0,31}")
 
 
 class Session:
-    """A session of the program `apl`, in a process of its own. Of its methods a signal handler may call `interrupt` alone."""
+    """A session of the program `apl`, in a process of its own. Of its methods a signal handler may call `interrupt` and `kill` alone."""
 
     def __init__(self, program: PathLike = "apl", workspace: Union[PathLike, bytes, None] = None, memory: Optional[int] = None,
                  seconds: Optional[float] = None) -> None:
@@ -82,6 +82,10 @@ class Session:
     def interrupt(self) -> None:
         """Has the line that runs be interrupted, if one does: for other threads and for signal handlers."""
         self._wants_interrupt = True
+
+    def kill(self) -> None:
+        """Ends the program at once, also in the midst of a step: for other threads and for signal handlers. The line that runs raises Died."""
+        self._pipe.process.kill()
 
     def names(self) -> List[Name]:
         """Returns what the names of the workspace stand for, in ascending order. A name that a call has made its own is told as that."""

@@ -1,0 +1,165 @@
+"""The commands that are the terminal's own, beside those of the machine."""
+from __future__ import annotations
+
+import os
+import subprocess
+from pathlib import Path
+from typing import Callable, Dict, List
+
+from apl import Refused
+from apl_terminal import library, places, reference
+from apl_terminal.edit import edited, editor, fault_of
+from apl_terminal.journal import reason
+from apl_terminal.keys import Key, table
+from apl_terminal.telling import Gone, Undone
+from apl_terminal.work import Work
+
+HELP = """\
+)SAVE [NAME]     saves the workspace in its file, or in a new file NAME
+)LOAD NAME       goes on with the workspace of the file NAME
+)COPY NAME F..   brings functions and variables of another workspace into this one; without names, all
+)LIB [FOLDER]    lists the workspaces of a folder
+)WSID [NAME]     tells the workspace's name, or gives it another
+)EDIT F          opens the function F in an editor (EDITOR names it); without F, what was refused last
+)HELP SYMBOL     what the reference says of a symbol, a command, or a word such as reshape; )HELP KEYS: the keys
+)OFF             ends the session, as Ctrl-D does; what isn't saved is kept, and offered the next time
+)FNS  )VARS  )SI  )ERASE NAME..  )CLEAR     the machine's own commands
+Ctrl-C interrupts the line that runs, and clears the one that is typed. Backquote and a key type a character."""
+
+
+class Commands:
+    """Does the terminal's own commands."""
+
+    def __init__(self, work: Work, manual: Path, keys: List[Key]) -> None:
+        self.work, self.front, self.manual, self.keys = work, work.front, manual, keys
+        self.is_over = False
+        self.by_word: Dict[str, Callable[[str], None]] = {
+            ")SAVE": self.save, ")LOAD": self.load, ")COPY": self.copy, ")LIB": self.lib, ")WSID": self.wsid, ")EDIT": self.edit,
+            ")HELP": self.help, ")OFF": self.off}
+
+    def do(self, line: str) -> bool:
+        """Does a line, if it is such a command, and tells whether it is."""
+        word, _, rest = line.strip().partition(" ")
+        if word.upper() == ")CLEAR" and not rest.strip() and self.work.file and not self.work.next_line:
+            # a workspace of a name isn't to be written over by a clear one
+            self.work.open(None, is_fresh=True)
+            return True
+        command = self.by_word.get(word.upper())
+        if command:
+            try:
+                command(rest.strip())
+            except Undone as undone:
+                self.front.tell(str(undone))
+        return command is not None
+
+    def save(self, name: str) -> None:
+        self.front.tell(self.work.save(name or None))
+
+    def load(self, name: str) -> None:
+        if not name:
+            raise Undone(")LOAD NAME: of which file? )LIB lists those of this folder")
+        if not os.path.lexists(places.real(name)):
+            raise Undone(f"there is no {name}: )LIB lists the workspaces of this folder")
+        self.work.open(name)
+        self.front.tell(self.work.told())
+
+    def copy(self, rest: str) -> None:
+        name, *names = rest.split() or [""]
+        if not name:
+            raise Undone(")COPY NAME F..: of which file?")
+        self.front.tell(self.work.copy(name, names))
+
+    def lib(self, folder: str) -> None:
+        try:
+            found = library.workspaces(places.real(folder or "."))
+        except OSError as error:
+            raise Undone(f"{folder or 'this folder'}: {reason(error)}") from None
+        self.front.tell("\n".join(found) or "no workspaces here")
+
+    def wsid(self, name: str) -> None:
+        if name:
+            self.front.tell(self.work.rename(name))
+        else:
+            self.front.tell(f"{self.work.name}{'  ' + self.work.file if self.work.file else ''}")
+
+    def off(self, _: str) -> None:
+        self.is_over = True
+
+    def help(self, word: str) -> None:
+        width = min(100, self.front.width())
+        if not word:
+            self.front.tell(HELP)
+        elif word.upper() == "KEYS":
+            self.front.tell("\n".join(table(self.keys)))
+        else:
+            self.front.tell("\n".join(reference.help_text(self.manual, word, width)))
+
+    def edit(self, name: str) -> None:
+        """Opens a function's text in the editor until it is taken or given up."""
+        if self.work.next_line:
+            raise Undone("a definition is open: ∇ closes it")
+        command, draft = editor(), Path(places.draft())
+        if not command:
+            raise Undone("no editor is installed: put its name into EDITOR")
+        lines = self.text_of(name, draft)
+        text = lines
+        while True:
+            try:
+                text = edited(command, name, text)
+            except (OSError, subprocess.CalledProcessError) as error:
+                raise Undone(f"{command[0]} failed: {error}") from None
+            if text == lines and name and self.is_function(name):
+                raise Undone(f"{name} stays as it is")
+            if not text:
+                raise Undone("the text is empty, so nothing is defined")
+            if self.is_defined(text):
+                self.front.tell(f"{library.name_of(bare(text)[0])} is defined")
+                return
+            draft.write_text("".join(f"{it}\n" for it in text), encoding="utf-8")
+            if not self.wants_more():
+                raise Undone("it isn't defined; )EDIT alone opens the text again")
+
+    def wants_more(self) -> bool:
+        """Asks whether the text is to be edited again."""
+        try:
+            return self.front.ask("Edit it again?", True)
+        except Gone:
+            return False
+
+    def text_of(self, name: str, draft: Path) -> List[str]:
+        """Returns the text that the editor begins with."""
+        if not name:
+            if not draft.exists():
+                raise Undone(")EDIT F: of which function?")
+            return draft.read_text(encoding="utf-8").splitlines()
+        try:
+            return self.work.session.listing(name)
+        except Refused:
+            return [name]
+
+    def is_function(self, name: str) -> bool:
+        """Tells whether a name stands for a function."""
+        try:
+            return bool(self.work.session.listing(name))
+        except Refused:
+            return False
+
+    def is_defined(self, text: List[str]) -> bool:
+        """Defines a function by its text, if that is taken, and else shows why not."""
+        lines = bare(text)
+        long = [it for it in lines if len(it.encode()) > 2_000]
+        told = [f"a line has over 2,000 bytes: {long[0][:60]}.."] if long else fault_of(self.work.program, lines, is_known=False)
+        if not told:
+            for it in [f"∇{lines[0]}", *lines[1:], "∇"]:
+                self.work.type(it, is_shown=False)
+            if not self.work.last:
+                return True
+            told = fault_of(self.work.program, lines, is_known=True)
+        self.front.tell("\n".join(["DEFN ERROR", *told]))
+        return False
+
+
+def bare(text: List[str]) -> List[str]:
+    """Returns a function's text without the ∇ that may stand before its header and below it."""
+    lines = [text[0].strip().lstrip("∇").strip(), *text[1:]]
+    return lines[:-1] if len(lines) > 1 and lines[-1].strip() == "∇" else lines
