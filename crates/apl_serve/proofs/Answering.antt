@@ -1,9 +1,9 @@
 -- What reading a request and writing its answer does.
-use Rattle.std.proofs.Common.{◌≡◌, ℕ, List, Bool, true, false, inl, refl}
+use Rattle.std.proofs.Common.{ℕ, List, Bool, true, inl, refl}
 use Rattle.std.specs.Prelude.{Result, Ok, Err}
 use Rattle.std.specs.Global.{Vec}
 use Rattle.apl_machine_state.specs.State.{State}
-use Rattle.apl_serve.specs.Answers.{Answers, DoesBytes, Outcome, answer_of}
+use Rattle.apl_serve.specs.Answers.{DoesBytes, Outcome, answer_of}
 use Rattle.apl_serve.specs.Refusals.{refusal_tree}
 use Rattle.apl_serve.specs.inside.Parts.{IsUnkept, ReadsRequest, ServesOne, Writes, WritesAnswer}
 use Rattle.apl_serve.specs.Trees.{line_of}
@@ -11,7 +11,7 @@ use Rattle.apl_serve.specs.declared.error.Refusal.{Refusal}
 use Rattle.apl_serve.specs.declared.error.Refusal.TheVariants as refusal
 use Rattle.apl_serve.specs.declared.error.ServeError.{ServeError}
 use Rattle.apl_serve.specs.declared.error.ServeError.TheVariants.{Read, Write, TooMany}
-use Rattle.apl_serve.specs.declared.lines.Line.TheVariants.{End, Whole, Dropped}
+use Rattle.apl_serve.specs.declared.lines.Line.TheVariants.{Whole, Dropped}
 
 pub answer_written : {A : Type 0} (result : Result A ServeError) (s s' : State) (request : List ℕ) (outcome : Outcome) (tells : Bool) (old new : List ℕ)
     → DoesBytes request s outcome s' → Writes result (answer_of outcome) tells old new → WritesAnswer result s request s' tells old new

@@ -1,6 +1,6 @@
 -- What the tree of a request does, its bytes do.
-use Rattle.std.proofs.Common.{◌≡◌, ◌≤◌, ◌⊎◌, ℕ, List, Option, Some, None, length, inl, inr, refl}
-use Rattle.std.specs.Prelude.{Result, Ok, Err}
+use Rattle.std.proofs.Common.{◌≡◌, ◌≤◌, ◌⊎◌, ℕ, List, Option, Some, None, length, inl, inr}
+use Rattle.std.specs.Prelude.{Ok, Err}
 use Rattle.serde_json.specs.Data.{Data}
 use Rattle.apl_machine_state.specs.State.{State}
 use Rattle.apl_workspace_file.specs.Json.{IsJson}
@@ -8,11 +8,13 @@ use Rattle.apl_serve.specs.Answers.{Answered, Does, DoesBytes, Outcome, listing_
 use Rattle.apl_serve.specs.Requests.{Request, Line, Advance, Interrupt, Names, Indicator, Listing, Value, Save, Open, request_of}
 use Rattle.apl_serve.specs.declared.error.Refusal.{Refusal}
 use Rattle.apl_serve.specs.declared.error.Refusal.TheVariants as refusal
-use Rattle.apl_serve.specs.inside.Parts.{IsUnread}
 
 either : {A B : Type 0} → (A → ⊥) → (B → ⊥) → A ⊎ B → ⊥
 either left right (inl a) = left a
 either left right (inr b) = right b
+
+abbrev refused : Refusal → Outcome
+refused e = Err e
 
 -- no request is refused for its length
 
@@ -26,7 +28,7 @@ length_sought (Some tree) e other answered = length_other answered
 short : (request : Option Request) (s s' : State) → Does request s (Err refusal.Length) s' → ⊥
 short None s s' does = length_none does.0
   where
-    length_none : Err refusal.Length ≡ Err refusal.Request → ⊥
+    length_none : refused refusal.Length ≡ refused refusal.Request → ⊥
     length_none e = cc
 short (Some (Line line)) s s' does = does.2
 short (Some (Advance count)) s s' does = does
@@ -56,7 +58,7 @@ json_sought (Some tree) e other answered = json_other answered
 readable : (request : Option Request) (s s' : State) → Does request s (Err refusal.Json) s' → ⊥
 readable None s s' does = json_none does.0
   where
-    json_none : Err refusal.Json ≡ Err refusal.Request → ⊥
+    json_none : refused refusal.Json ≡ refused refusal.Request → ⊥
     json_none e = cc
 readable (Some (Line line)) s s' does = does.2
 readable (Some (Advance count)) s s' does = does
@@ -76,27 +78,14 @@ readable (Some Save) s s' does = does.0
 
 pub bytes_done : (outcome : Outcome) (request : List ℕ) (tree : Data) (s s' : State) → length request ≤ most → IsJson request tree
     → Does (request_of tree) s outcome s' → DoesBytes request s outcome s'
-bytes_done (Ok text) request tree s s' few json does = (few, tree, json, does)
+bytes_done (Ok text) request tree s s' few json does = (few, (tree, json, does))
 bytes_done (Err refusal.Length) request tree s s' few json does = absurd (short (request_of tree) s s' does)
 bytes_done (Err refusal.Json) request tree s s' few json does = absurd (readable (request_of tree) s s' does)
-bytes_done (Err refusal.Memory) request tree s s' few json does = inr (few, tree, json, does)
-bytes_done (Err refusal.Request) request tree s s' few json does = (few, tree, json, does)
-bytes_done (Err refusal.Line) request tree s s' few json does = (few, tree, json, does)
-bytes_done (Err refusal.Running) request tree s s' few json does = (few, tree, json, does)
-bytes_done (Err refusal.Function) request tree s s' few json does = (few, tree, json, does)
-bytes_done (Err refusal.Value) request tree s s' few json does = (few, tree, json, does)
-bytes_done (Err refusal.Answer) request tree s s' few json does = (few, tree, json, does)
-bytes_done (Err (refusal.Load e)) request tree s s' few json does = (few, tree, json, does)
-
--- the bytes of a request that aren't read
-pub bytes_unread : (e : Refusal) (request : List ℕ) (s : State) → length request ≤ most → IsUnread request e → DoesBytes request s (Err e) s
-bytes_unread refusal.Json request s few unread = (few, unread, refl)
-bytes_unread refusal.Memory request s few unread = inl refl
-bytes_unread refusal.Length request s few unread = absurd unread
-bytes_unread refusal.Request request s few unread = absurd unread
-bytes_unread refusal.Line request s few unread = absurd unread
-bytes_unread refusal.Running request s few unread = absurd unread
-bytes_unread refusal.Function request s few unread = absurd unread
-bytes_unread refusal.Value request s few unread = absurd unread
-bytes_unread refusal.Answer request s few unread = absurd unread
-bytes_unread (refusal.Load e) request s few unread = absurd unread
+bytes_done (Err refusal.Memory) request tree s s' few json does = inr (few, (tree, json, does))
+bytes_done (Err refusal.Request) request tree s s' few json does = (few, (tree, json, does))
+bytes_done (Err refusal.Line) request tree s s' few json does = (few, (tree, json, does))
+bytes_done (Err refusal.Running) request tree s s' few json does = (few, (tree, json, does))
+bytes_done (Err refusal.Function) request tree s s' few json does = (few, (tree, json, does))
+bytes_done (Err refusal.Value) request tree s s' few json does = (few, (tree, json, does))
+bytes_done (Err refusal.Answer) request tree s s' few json does = (few, (tree, json, does))
+bytes_done (Err (refusal.Load e)) request tree s s' few json does = (few, (tree, json, does))

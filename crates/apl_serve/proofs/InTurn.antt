@@ -1,6 +1,6 @@
 -- Requests that are answered one after the other.
 use Rattle.std.proofs.Common.{◌≡◌, ℕ, List, [], ◌∷◌, ◌++◌, Bool, true, false, inl, inr, refl, sym, ap, ◌∙◌, subst, append_assoc, append-nil, length, length-append, ◌+◌, arith}
-use Rattle.std.specs.Prelude.{IsTrue, Result, Ok, Err}
+use Rattle.std.specs.Prelude.{IsTrue, Ok, Err}
 use Rattle.apl_devices.specs.Devices.{Extends}
 use Rattle.apl_machine_state.specs.State.{State}
 use Rattle.apl_serve.specs.Answers.{Answers}

@@ -1,6 +1,6 @@
 -- What the text of a tree opens.
-use Rattle.std.proofs.Common.{◌≡◌, ◌≢◌, ◌∙◌, ℕ, List, [], ◌∷◌, Option, Some, None, false, sym, ap, subst, refl}
-use Rattle.std.specs.Prelude.{⊤, is_some, unwrap_or, MatchResult, Result, Ok, Err}
+use Rattle.std.proofs.Common.{◌≡◌, ◌∙◌, ℕ, List, [], ◌∷◌, Option, Some, None, false, sym, ap, subst, refl}
+use Rattle.std.specs.Prelude.{⊤, is_some, unwrap_or}
 use Rattle.serde_json.specs.Data.{Data}
 use Rattle.serde_json.specs.Find.{as_null}
 use Rattle.serde_json.specs.Read.{read}
@@ -8,8 +8,6 @@ use Rattle.serde_json.proofs.OnLiterals.{serde_json_on_literals}
 use Rattle.apl_kept.specs.Keeping.{BeginsWith}
 use Rattle.apl_machine_state.specs.State.{State}
 use Rattle.apl_workspace.specs.Saved.{IsSaved}
-use Rattle.apl_workspace.specs.declared.error.LoadError.{LoadError}
-use Rattle.apl_workspace.specs.declared.error.LoadError.TheVariants as load
 use Rattle.apl_workspace_file.specs.Json.{IsJson}
 use Rattle.apl_serve.specs.Answers.{IsOpenedBy}
 use Rattle.apl_serve.specs.declared.error.Refusal.{Refusal}
@@ -46,7 +44,7 @@ saved_by (Some it) tree s other opened = absurd (cc)
 
 pub closed_by : (e : Refusal) (bytes : List ℕ) (tree : Data) → is_some (as_null tree) ≡ false → IsJson bytes tree → IsShut bytes e → IsClosed tree e
 closed_by (refusal.Load e) bytes tree other json shut =
-    (λ s opened. shut.0 s (file_opened bytes tree s json (saved_by (as_null tree) tree s other opened)), bytes, json, shut.1, shut.2)
+    (λ s opened. shut.0 s (file_opened bytes tree s json (saved_by (as_null tree) tree s other opened)), (bytes, json, shut.1, shut.2))
 closed_by refusal.Memory bytes tree other json shut = tt
 closed_by refusal.Json bytes tree other json shut = absurd shut
 closed_by refusal.Request bytes tree other json shut = absurd shut
@@ -56,11 +54,3 @@ closed_by refusal.Function bytes tree other json shut = absurd shut
 closed_by refusal.Value bytes tree other json shut = absurd shut
 closed_by refusal.Answer bytes tree other json shut = absurd shut
 closed_by refusal.Length bytes tree other json shut = absurd shut
-
--- bytes that are refused for this begin no session
-pub shut : {A : Type 0} (r : Result A LoadError) (e : LoadError) (P : State → Type 0) (Q : State → A → Type 0)
-    → r ≡ Err e → e ≢ load.Memory → ((s : State) → P s → MatchResult r (Q s) (λ f. f ≡ load.Memory)) → (s : State) → P s → ⊥
-shut (Ok x) e P Q is other complete s begins = absurd (cc)
-shut (Err f) e P Q is other complete s begins =
-    let same : e ≡ f = cc in
-    other (same ∙ complete s begins)

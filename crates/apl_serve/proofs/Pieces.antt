@@ -1,9 +1,9 @@
 -- Pieces of a line as they are read.
-use Rattle.std.proofs.Common.{◌≡◌, ◌≢◌, ◌⊎◌, inl, inr, ℕ, ◌≤◌, ◌<◌, ◌+◌, List, [], ◌∷◌, ◌++◌, length, Bool, true, false, not, ◌==◌, ◌&&◌, refl, sym, ap, ◌∙◌, append_assoc, length-append, arith}
-use Rattle.std.specs.Prelude.{Result, Ok, Err}
+use Rattle.std.proofs.Common.{◌≡◌, ◌≢◌, ◌⊎◌, inl, inr, ℕ, ◌≤◌, ◌<◌, List, [], ◌∷◌, ◌++◌, length, Bool, true, false, not, ◌==◌, ◌&&◌, refl, sym, ap, ◌∙◌, append_assoc, length-append, arith}
+use Rattle.std.specs.Prelude.{Ok, Err}
 use Rattle.apl_serve.specs.Answers.{most}
-use Rattle.apl_serve.specs.Serving.{is_unbroken, BeginsWith, EndsLine, ReadPiece, endless}
-use Rattle.apl_serve.specs.inside.Parts.{DropsLine, IsUnkept, ReadsRequest}
+use Rattle.apl_serve.specs.Serving.{is_unbroken, BeginsWith, EndsLine, ReadPiece}
+use Rattle.apl_serve.specs.inside.Parts.{DropsLine, ReadsRequest}
 use Rattle.apl_serve.specs.declared.error.Refusal.TheVariants as refusal
 use Rattle.apl_serve.specs.declared.error.ServeError.{ServeError}
 use Rattle.apl_serve.specs.declared.error.ServeError.TheVariants.{Read, Write, TooMany}
