@@ -1,10 +1,12 @@
 """What the tests share."""
+import contextlib
 import os
 import subprocess
 import tempfile
+import threading
 import unittest
 from pathlib import Path
-from typing import Any
+from typing import Any, Callable, Iterator
 
 from apl import Session
 
@@ -41,6 +43,26 @@ class OfSession(unittest.TestCase):
         """Takes the function LOOP and a call of it that is suspended away."""
         self.typed("→", ")ERASE LOOP")
         self.assertEqual(self.session.indicator(), [])
+
+
+@contextlib.contextmanager
+def striking(seconds: float, strike: Callable[[], None]) -> Iterator[None]:
+    """Calls strike after so many seconds and again each second until the block ends: on a busy machine the first may come before the line runs."""
+    ended = threading.Event()
+
+    def strikes() -> None:
+        wait = seconds
+        while not ended.wait(wait):
+            strike()
+            wait = 1.0
+
+    thread = threading.Thread(target=strikes)
+    thread.start()
+    try:
+        yield
+    finally:
+        ended.set()
+        thread.join()
 
 
 def saved(lines: str, path: Path) -> bytes:

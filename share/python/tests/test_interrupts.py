@@ -1,13 +1,12 @@
 """Lines that are interrupted, from threads, by signals, at the keyboard and by their time."""
 import random
 import signal
-import threading
 import time
 from types import FrameType
 from typing import List, Optional
 
 from apl import Died, Interrupted, Line
-from tests.support import LOOP, OfSession
+from tests.support import LOOP, OfSession, striking
 
 LONG = "LOOP 10000000000"
 
@@ -26,8 +25,8 @@ class Interrupts(OfSession):
                 struck[0] = time.monotonic()
                 self.session.interrupt()
 
-            threading.Timer(0.1, strike).start()
-            result = self.session.run(LONG)
+            with striking(0.1, strike):
+                result = self.session.run(LONG)
             took.append(time.monotonic() - struck[0])
             self.assertEqual((result.told, result.lines[0].text), ("interrupted", "INTERRUPT"))
         self.in_time(sorted(took)[2], 0.05)
@@ -35,17 +34,17 @@ class Interrupts(OfSession):
         self.assertEqual(self.typed("2+3"), "5\n")
 
     def test_what_was_interrupted_goes_on(self) -> None:
-        threading.Timer(0.1, self.session.interrupt).start()
-        self.session.run("LOOP 100000000")
+        with striking(0.1, self.session.interrupt):
+            self.assertEqual(self.session.run("LOOP 1000000000").told, "interrupted")
         self.typed("N←3")
         self.assertEqual(self.session.run("→⎕LC").told, "idle")
         self.assertEqual(self.session.indicator(), [])
 
     def test_steps_that_grow_dearer(self) -> None:
         self.typed("∇SLOW N", "N←N-1", "→1+2×N≤0", "A←+/⍳100000", "→3", "∇")
-        threading.Timer(0.5, self.session.interrupt).start()
         began = time.monotonic()
-        self.assertEqual(self.session.run("SLOW 20000").told, "interrupted")
+        with striking(0.5, self.session.interrupt):
+            self.assertEqual(self.session.run("SLOW 20000").told, "interrupted")
         self.in_time(time.monotonic() - began, 5)
 
     def test_an_idle_session(self) -> None:
@@ -62,9 +61,9 @@ class Interrupts(OfSession):
 
     def test_the_same_step_again(self) -> None:
         for _ in range(5):
-            threading.Timer(0.05, self.session.interrupt).start()
             other = self.begun(self.session.workspace())
-            first = self.session.run(LONG)
+            with striking(0.05, self.session.interrupt):
+                first = self.session.run(LONG)
             again = other.run(LONG, first.steps)
             self.assertEqual((again, other.workspace()), (first, self.session.workspace()))
 

@@ -11,7 +11,7 @@ from apl_terminal import places
 from apl_terminal.telling import Gone, Undone
 from apl_terminal.work import Work
 from tests.front import OfTerminal, Said
-from tests.support import LOOP
+from tests.support import LOOP, striking
 
 LONG = "LOOP 10000000000"
 
@@ -27,8 +27,8 @@ class Lines(OfTerminal):
     def test_an_interrupt(self) -> None:
         work = self.work("ledger")
         self.typed(work, *LOOP)
-        threading.Timer(0.2, work.session.interrupt).start()
-        self.assertEqual(self.typed(work, LONG)[0], "INTERRUPT")
+        with striking(0.2, work.session.interrupt):
+            self.assertEqual(self.typed(work, LONG)[0], "INTERRUPT")
         state = work.session.workspace()
         self.killed(work)
         self.assertEqual(self.work("ledger").session.workspace(), state)
