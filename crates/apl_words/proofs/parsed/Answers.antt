@@ -15,8 +15,7 @@ returns-then-has_flag c =
 pub returns-then-has_flag-2 : goal.returns-then-has_flag-2
 returns-then-has_flag-2 c =
     let found = rows_of (found_of c.in_ok-matches.matches) in
-    let plan : IsPlan found (Serve c.in_ok-given.field-0) =
-    (
+    let plan : IsPlan found (Serve c.in_ok-given.field-0) = (
       subst (λ flag. IsFlag (one_of (codes "desk") found) flag) c.if-has_flag.false c.has_flag.ensures,
       subst (λ flag. IsFlag (one_of (codes "serve") found) flag) c.if-has_flag-2.true c.has_flag-2.ensures,
       c.in_ok-given.ensures,
