@@ -10,23 +10,26 @@ from modules import TOP, script
 SHARE = Path(TOP) / "share"
 PLAIN = ("```sh", "```")
 # What the documents say of a terminal, and what the page says in its place.
-OF_A_TERMINAL = re.compile(r" `bin/apl-terminal [^`]*` opens it[^.]*\.| Start `bin/apl-terminal` .*?;(?= in this text)")
+OF_A_TERMINAL = re.compile(r" `bin/apl-terminal [^`]*` opens it[^.]*\.|, at a terminal or \[in a browser\].*? too(?=\.)|^`\)EDIT WAIT` .*? written\. ")
 TYPING = """\
 A character of the language is typed by a backquote and a key: `` `- `` is `×`, `` `i `` is `⍳`, `` `r `` is `⍴`, `` `[ `` is `←`, `` `2 `` is `¯`, \
 `` `g `` is `∇`, `` `l `` is `⎕`. The bar above the session has them all, and tells the key of each. The arrow keys bring back earlier lines, Tab \
 completes names. A click on a line of this page takes it to be typed, and the button below types all lines of a step."""
 # A line has a bound of steps there, and none here.
-BOUND = "Each typed line is given a million steps. What takes more is interrupted, and is suspended as after a fault."
+BOUND = """\
+A line may run without end. At the terminal and in the page Ctrl-C interrupts it, and it is suspended as after a fault. The program itself, \
+where it reads lines from a file, does so after a million steps."""
 NO_BOUND = "A line that doesn't end is ended by the button Interrupt, and is suspended as after a fault. The lines behind it are then offered again."
-# Sections of the reference that are of the native program, and lines that are otherwise in the page.
-OF_THE_PROGRAM = ("The program", "What there isn't")
+# Sections of the reference that are of the native program and of the terminal, and lines that are otherwise in the page.
+OF_THE_PROGRAM = ("The program", "Commands of the terminal", "What there isn't")
 IN_THE_PAGE = {
     "The line took more steps than it is given, and was cut off: 1,000,000, or as many as the program's word `--steps` says. A step is one phrase done "
     "or one line ended. The caret is under the first column.": "The line was ended by the button Interrupt. The caret is under the first column.",
-    "| steps of a typed line | 1,000,000, or what `--steps` says | INTERRUPT |": "| steps of a typed line | no bound | |",
+    "| steps of a typed line | 1,000,000, or what `--steps` says; at the terminal and in the page no bound | INTERRUPT |":
+        "| steps of a typed line | no bound | |",
     "| bytes of a line of input; lines of input | 2,000; 1,000,000 | the program ends |": "| bytes of a line | 2,000 | the line is not done |",
 }
-LEFT_OUT = ("Keeping it for another day", "What comes next")
+LEFT_OUT = ("At a terminal", "Keeping it for another day", "What comes next")
 
 
 def keys() -> list[tuple[str, str, str]]:
@@ -103,7 +106,7 @@ def page(name: str, path: Path, workspace: str | None) -> dict[str, Any]:
     heading = title = title.removeprefix("# ")
     for line in [*rest, "## "]:
         if not line.startswith("## "):
-            line = OF_A_TERMINAL.sub("", line).replace(". in this text", ". In this text").replace(BOUND, NO_BOUND)
+            line = OF_A_TERMINAL.sub("", line).replace(BOUND, NO_BOUND)
             lines.append(TYPING if line.startswith("APL's characters are typed by") else line)
             continue
         if heading not in LEFT_OUT:
