@@ -133,6 +133,7 @@ def functions_and_variables(trial: Trial) -> str:
     tab.run("document.querySelector('#function textarea').setRangeText('2', 19, 20, 'end')")
     tab.click("#define")
     tab.until("document.getElementById('transcript').textContent.includes('[2]   ∇')")
+    tab.until("!document.getElementById('function').open")
     has(tab.typed("HALF 7"), "3\n")
     tab.click("#variables button")
     tab.until("document.getElementById('transcript').textContent.endsWith('      M\\n1 2 3\\n4 5 6\\n')")
