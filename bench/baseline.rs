@@ -77,6 +77,7 @@ const KERNELS: &[Kernel] = &[
     Kernel("|b", |_, b| each(b, i64::checked_abs), (Scalar, seven), (Vector, wide)),
     Kernel("+/b", |_, b| fold_rows(b, i64::checked_add), (Scalar, seven), (Vector, wide)),
     Kernel("⌈/b", |_, b| fold_rows(b, |x, y| Some(x.max(y))), (Scalar, seven), (Vector, wide)),
+    Kernel("∧/b", |_, b| fold_rows(b, and), (Scalar, seven), (Vector, truth)),
     Kernel("+⌿B", |_, b| fold_columns(b, i64::checked_add), (Scalar, seven), (Square, wide)),
     Kernel("+/⍉B", |_, b| fold_rows(&turned(b), i64::checked_add), (Scalar, seven), (Square, wide)),
     Kernel("+\\b", |_, b| prefixes(b, i64::checked_add), (Scalar, seven), (Vector, wide)),
@@ -84,6 +85,7 @@ const KERNELS: &[Kernel] = &[
     Kernel("⌽b", |_, b| Ok(b.numbers.iter().rev().copied().collect()), (Scalar, seven), (Vector, wide)),
     Kernel("⍉B", |_, b| Ok(turned(b).numbers), (Scalar, seven), (Square, wide)),
     Kernel("⍋b", |_, b| Ok(grade(b)), (Scalar, seven), (Vector, wide)),
+    Kernel("a/b", kept, (Vector, truth), (Vector, wide)),
     Kernel("b[a]", chosen, (Vector, index), (Vector, wide)),
     Kernel("a⍳b", |a, b| Ok(places(a, b)), (Vector, member), (Vector, member)),
     Kernel("a∊b", |a, b| Ok(members(a, b)), (Vector, member), (Vector, member)),
@@ -169,6 +171,19 @@ fn places(a: &Operand, b: &Operand) -> Vec<i64> {
         }
     }
     values
+}
+
+/// The numbers of B where A has a 1.
+fn kept(a: &Operand, b: &Operand) -> Values {
+    let mut values = Vec::with_capacity(b.numbers.len());
+    for (x, y) in a.numbers.iter().zip(&b.numbers) {
+        match x {
+            0 => {}
+            1 => values.push(*y),
+            _ => return Err(Fault),
+        }
+    }
+    Ok(values)
 }
 
 /// Whether each number of A is in B.

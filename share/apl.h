@@ -1,4 +1,5 @@
-/* The APL machine in another program: one call, which needs the workspace's bytes and the lines that are typed.
+/* The APL machine in another program: one call, which needs the workspace's bytes and the lines that are typed,
+ * and one that tells the version.
  *
  *     bin/check-embedding FOLDER                        puts libapl.a, libapl.so and this file into FOLDER
  *     cc -std=c99 -IFOLDER program.c FOLDER/libapl.a
@@ -59,6 +60,13 @@ uint32_t apl_play(const uint8_t *workspace, size_t workspace_length,
                   uint8_t *transcript, size_t transcript_room,
                   uint8_t *after, size_t after_room,
                   struct apl_sizes *sizes);
+
+/* The version that this file declares, a day as the number YYYYMMDD. */
+#define APL_VERSION 20261129
+
+/* Returns the version of the library that the program runs with, which may be another one than APL_VERSION where it is a shared object. A later
+ * version has a larger number. */
+uint32_t apl_version(void);
 
 #ifdef __cplusplus
 }

@@ -55,6 +55,10 @@ static uint32_t play(struct bytes *workspace, const char *lines) {
 int main(void) {
     struct bytes workspace = {0};
     want(&workspace, 1);
+    if (apl_version() < APL_VERSION) {
+        fputs("embed: the library is older than apl.h\n", stderr);
+        return 1;
+    }
 
     puts("-- a clear workspace");
     play(&workspace, "2+3×4\n");

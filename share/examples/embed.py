@@ -20,10 +20,12 @@ class Refused(Exception):
 
 
 class Apl:
-    """A session, which is the bytes of its workspace."""
+    """A session, which is the bytes of its workspace. The library tells its version, a day as the number YYYYMMDD."""
 
     def __init__(self, library, workspace=b""):
-        self.call = ctypes.CDLL(library).apl_play
+        loaded = ctypes.CDLL(library)
+        self.version = loaded.apl_version()
+        self.call = loaded.apl_play
         self.call.restype = ctypes.c_uint32
         read, room = [ctypes.c_char_p, ctypes.c_size_t], [ctypes.c_char_p, ctypes.c_size_t]
         self.call.argtypes = [*read, *read, ctypes.c_uint64, *room, *room, ctypes.POINTER(Sizes)]

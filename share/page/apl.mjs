@@ -8,7 +8,7 @@ import { menu } from './menu.mjs';
 import { FunctionWindow, make, showFunctions, showLevels, showVariables } from './panels.mjs';
 import { Session } from './session.mjs';
 import { Store, lock } from './store.mjs';
-import { levels, meaning, names, refusedText, spoken, stepLines, symbolAt } from './text.mjs';
+import { levels, meaning, names, parts, refusedText, spoken, stepLines, symbolAt } from './text.mjs';
 import { Transcript } from './transcript.mjs';
 import { showBar } from './bar.mjs';
 
@@ -32,7 +32,7 @@ class Page {
     #named = null;
     #standing = null;
     #lasting = null;
-    #heard = '';            // what was written since the last line that was typed, to be read aloud
+    #heard = [];            // parts of what was written since the last line that was typed, to be read aloud
     #pointed = '';          // the character of the bar that is pointed at
     session = null;
 
@@ -130,7 +130,7 @@ class Page {
             typed: (line, number) => this.transcript.typed(line, number),
             wrote: wrote => {
                 this.transcript.wrote(wrote);
-                this.#heard += wrote.front + wrote.back;
+                this.#heard.push(...parts(wrote.front + wrote.back, wrote.fault));
             },
             note: text => this.transcript.note(text),
             undone: (why, lines) => this.#undone(why, lines),
@@ -199,7 +199,7 @@ class Page {
 
     #state(named, standing) {
         const next = this.session?.next, heard = spoken(this.#heard, this.content.meanings);
-        this.#heard = '';
+        this.#heard = [];
         if (heard || next) this.speak([heard, next && `Line ${next} of the definition`].filter(Boolean).join('\n'));
         this.#running(false, false);
         if (named === this.#named && standing === this.#standing) return;

@@ -97,6 +97,11 @@ export class Machine {
         return Number(this.calls.page_next_line(this.#place));
     }
 
+    /** The number of the fault that what was typed has ended with, as long as its report isn't gathered, or 0. */
+    fault() {
+        return this.calls.page_fault(this.#place);
+    }
+
     /** Spells what was written since, to be taken. */
     gather() {
         return this.calls.page_gather(this.#place, this.#size);

@@ -44,7 +44,7 @@ export class Session {
         this.#worker.postMessage({ what: 'begin', module: this.module, bytes: this.#file, pending: this.#open });
     }
 
-    /** Gives up the worker and begins another one from the file that was made last, if one could be opened before. */
+    /** Abandons the worker and begins another one from the file that was made last, if one could be opened before. */
     #die(why) {
         this.#worker.terminate();
         clearTimeout(this.#patience);

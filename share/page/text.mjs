@@ -1,33 +1,14 @@
 /** What the page knows of the language's texts: reports, names, headers. All of it is of strings, and is tried by tests/text.test.mjs. */
 
 const NAME = /[A-Za-z∆⍙_][A-Za-z∆⍙_0-9]*/;
-const REPORT = /^(?:(?:SYNTAX|VALUE|DOMAIN|RANK|LENGTH|INDEX|AXIS|LIMIT) ERROR|INTERRUPT)$/;
-const ONE_LINE = /^(?:CHARACTER ERROR|DEFN ERROR|INCORRECT COMMAND)$/;
-const PLACE = /^(?: {6}|[A-Za-z∆⍙_][A-Za-z∆⍙_0-9]*\[\d+\] )/;
+const ALONE = [9, 11, 12];      // the numbers of DEFN ERROR, CHARACTER ERROR and INCORRECT COMMAND, whose report is their name alone
 const COMMANDS = [')CLEAR', ')ERASE', ')FNS', ')SI', ')VARS'], SYSTEM = ['⎕IO', '⎕LC', '⎕NC', '⎕STOP', '⎕TRACE'];
 const PROMPT = 6, LONGEST = 500, SAID = 600;   // characters: of a prompt, of a line at most, and of what is read aloud
 
-/** Parts of what was written, each a report or not.
- *
- * This goes by the form of the text alone: the name of a fault, then the line behind six blanks or behind the function's name and number,
- * then blanks and a caret. A program that writes three such lines itself is shown in the faults' colour too. */
-export function parts(text) {
-    const found = [], lines = text.split('\n');
-    const add = (part, isFault) => {
-        const last = found.at(-1);
-        if (last && last.isFault === isFault) last.text += part;
-        else found.push({ text: part, isFault });
-    };
-    for (let i = 0; i < lines.length; i++) {
-        const end = i + 1 < lines.length ? '\n' : '';
-        if (REPORT.test(lines[i]) && PLACE.test(lines[i + 1] ?? '') && /^ *\^$/.test(lines[i + 2] ?? '')) {
-            add(`${lines[i]}\n${lines[i + 1]}\n${lines[i + 2]}\n`, true);
-            i += 2;
-        } else if (lines[i] || end) {
-            add(lines[i] + end, ONE_LINE.test(lines[i]));
-        }
-    }
-    return found;
+/** Parts of what a line wrote: what comes before the report of the fault that it ended with, and the report. `fault` is the fault's number, or 0. */
+export function parts(text, fault) {
+    const lines = text.split(/(?<=\n)/), from = lines.length - (fault ? ALONE.includes(fault) ? 1 : 3 : 0);
+    return [{ text: lines.slice(0, from).join(''), isFault: false }, { text: lines.slice(from).join(''), isFault: true }].filter(it => it.text);
 }
 
 /** What stands before a typed line: six blanks, or its number in the definition that is open. */
@@ -129,9 +110,9 @@ export function symbolAt(line, at) {
     return /[0-9]/.test(word) ? '¯' : /[A-Za-z]/.test(word) ? '_' : word;
 }
 
-/** What is read aloud of what a line wrote: in a report, the character at the caret by its meaning. */
-export function spoken(text, meanings) {
-    const said = parts(text).map(it => {
+/** What is read aloud of parts of what was written: in a report, the character at the caret by its meaning. */
+export function spoken(wrote, meanings) {
+    const said = wrote.map(it => {
         const [name, line, caret] = it.text.split('\n');
         if (!it.isFault || !caret) return it.text.trim();
         const character = line[caret.length - 1] ?? '';

@@ -49,11 +49,13 @@ export class Transcript {
         this.#add('typed', prompt(number) + line + '\n', line);
     }
 
-    wrote({ front, cut, back }) {
-        for (const text of [front, back]) {
-            for (const it of parts(text)) this.#add(it.isFault ? 'fault' : 'wrote', it.text);
-            if (cut && text === front) this.note(`\n${cut.toLocaleString('en')} characters are left out here.`);
+    /** What a line wrote: its front, how many characters are left out behind that, and the rest, with the number of the fault that it ended with. */
+    wrote({ front, cut, back, fault }) {
+        if (cut) {
+            this.#add('wrote', front);
+            this.note(`\n${cut.toLocaleString('en')} characters are left out here.`);
         }
+        for (const it of parts(cut ? back : front, fault)) this.#add(it.isFault ? 'fault' : 'wrote', it.text);
     }
 
     /** What the page says. */

@@ -107,7 +107,7 @@ export function work(port) {
             const now = performance.now(), took = now - before;
             steps = took > SLICE ? Math.max(1, Math.floor(steps * SLICE / took)) : Math.min(MOST_STEPS, 2 * steps);
             before = now;
-            if (now - looked < AT_ONCE) continue;
+            if (now - looked < AT_ONCE || machine.isIdle()) continue;
             const gathered = collect();
             if (gathered !== FINE) return gathered;
             if (unseen === 0) {
@@ -127,8 +127,8 @@ export function work(port) {
         let number = machine.type(line);
         if (number === FINE) number = await finish();
         if (!machine.isIdle() && machine.interrupt() !== FINE) throw new Error('memory has run out');
-        const gathered = collect(), wrote = written.take();
-        tell('ended', { ...wrote, number: number || gathered, next: machine.nextLine() });
+        const fault = machine.fault(), gathered = collect(), wrote = written.take();
+        tell('ended', { ...wrote, fault: gathered === FINE ? fault : 0, number: number || gathered, next: machine.nextLine() });
         return { number: number || gathered, isRefused: wrote.front !== '' };
     }
 

@@ -38,9 +38,16 @@ fn become_number(kept: &mut Kept, number: i64)
 }
 
 /// A shape, and an element for each index list within it. A scalar takes no memory.
-#[derive(Drop)]
 pub struct Array {
     kept: Kept,
+}
+
+// Written out, so that no crate above proves again what it does.
+impl Drop for Array {
+    fn drop(self) {
+        let Array { kept } = self;
+        drop(kept);
+    }
 }
 
 impl Model for Array {
@@ -290,10 +297,12 @@ impl Array {
             Kept::Empty => Kept::Empty,
             Kept::Single(number) => Kept::Single(*number),
             Kept::Own(dense) => {
+                // What is stored so has axes, and is no scalar.
                 let _axes = dense.shape();
                 Kept::Own(dense.copy()?)
             }
             Kept::Dense(dense) => {
+                // What is stored so has axes, and is no scalar.
                 let _axes = dense.shape();
                 Kept::Dense(dense.clone()?)
             }
@@ -339,10 +348,12 @@ impl Array {
             Kept::Empty => Sharing::Empty,
             Kept::Single(number) => Sharing::Single(*number),
             Kept::Own(dense) => {
+                // What is stored so has axes, and is no scalar.
                 let _axes = dense.shape();
                 Sharing::Dense(Rc::new(alloc, dense.copy()?)?)
             }
             Kept::Dense(dense) => {
+                // What is stored so has axes, and is no scalar.
                 let _axes = dense.shape();
                 Sharing::Dense(dense.clone()?)
             }

@@ -1,5 +1,5 @@
 // A shape and its elements, which arrays share.
-ghost use Rattle.std.specs.Prelude.{◌≡◌, ◌<◌, cond, length, true, IfOk, IsTrue};
+ghost use Rattle.std.specs.Prelude.{◌≡◌, ◌<◌, ◌↔◌, ◌∷◌, [], cond, length, true, IfOk, IsTrue};
 
 use crate::cell::Ravel;
 use crate::elements::Elements;
@@ -60,6 +60,18 @@ impl Dense {
         ensures dense { IsDense self.now.shape self.now.items }
     {
         &self.ravel
+    }
+
+    /// Whether it is a vector of one number.
+    #[inline]
+    pub(crate) fn is_single_number(&self) -> bool
+        ensures value { IsTrue result ↔ (self.now.shape ≡ 1 ∷ []) × (are_numbers self.now.items ≡ true) }
+        ensures dense { IsDense self.now.shape self.now.items }
+    {
+        match &self.ravel {
+            Ravel::Nums(_) => matches!(self.shape.as_slice(), [1]),
+            Ravel::Chars(_) => false,
+        }
     }
 
     /// Writes a number where there is one, and says whether it did.

@@ -74,15 +74,18 @@ impl<'a> Lent<'a> {
     {
         match &self.place {
             Place::Num(number) => {
+                // Read, since a number that is read is one of 64 bits.
                 let _number = **number;
                 &[]
             }
             Place::Char(character) => {
+                // A character that is read is in the set.
                 let _code = character.code();
                 &[]
             }
             Place::Empty => &[0],
             Place::Single(number) => {
+                // Read, since a number that is read is one of 64 bits.
                 let _number = **number;
                 &[1]
             }
@@ -109,10 +112,12 @@ impl<'a> Lent<'a> {
     {
         match &self.place {
             Place::Num(number) | Place::Single(number) => {
+                // Read, since a number that is read is one of 64 bits.
                 let _number = **number;
                 Elements::Nums(std::slice::from_ref(*number))
             }
             Place::Char(character) => {
+                // A character that is read is in the set.
                 let _code = character.code();
                 Elements::Chars(std::slice::from_ref(*character))
             }

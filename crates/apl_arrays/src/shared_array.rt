@@ -26,9 +26,16 @@ pub(crate) enum Sharing {
 }
 
 /// An array whose copies share its elements. It is small: what has many elements lies elsewhere.
-#[derive(Drop)]
 pub struct SharedArray {
     kept: Sharing,
+}
+
+// Written out, so that no crate above proves again what it does.
+impl Drop for SharedArray {
+    fn drop(self) {
+        let SharedArray { kept } = self;
+        drop(kept);
+    }
 }
 
 impl Model for SharedArray {
@@ -149,6 +156,7 @@ impl SharedArray {
             Sharing::Empty => Sharing::Empty,
             Sharing::Single(number) => Sharing::Single(*number),
             Sharing::Dense(dense) => {
+                // What is stored so has axes, and is no scalar.
                 let _axes = dense.shape();
                 Sharing::Dense(dense.clone()?)
             }
@@ -192,13 +200,14 @@ impl SharedArray {
         }
     }
 
-    /// Writes a number over another, and says whether it did. It did not where there is no number at the place. In a scalar it did where there
-    /// is one.
-    // Nor did it where a copy shares the elements. That isn't in the model, so no clause can say when it did.
+    /// Writes a number over another, and says whether it did. It did not where there is no number at the place. In a scalar and in a vector of
+    /// one number it did where there is one. It takes no memory.
+    // Nor did it where a copy shares the elements of another array. That isn't in the model, so no clause can say when it did.
     pub fn set_number(&mut self, place: usize, number: i64) -> bool
         ensures value { self.new ≡ cond result (number_written self.old place number) self.old }
         ensures there { IsTrue result → (are_numbers self.old.items ≡ true) × (place < length (cells_of self.old.items)) }
         ensures scalar { self.old.shape ≡ [] → are_numbers self.old.items ≡ true → place ≡ 0 → IsTrue result }
+        ensures single { self.old.shape ≡ 1 ∷ [] → are_numbers self.old.items ≡ true → place ≡ 0 → IsTrue result }
     {
         match &mut self.kept {
             Sharing::Num(kept) if place == 0 => {
@@ -209,8 +218,13 @@ impl SharedArray {
                 *kept = number;
                 true
             }
-            // What is stored so has axes, and is no scalar.
+            // A copy may share the elements, and still has them.
+            Sharing::Dense(dense) if place == 0 && dense.is_single_number() => {
+                self.kept = Sharing::Single(number);
+                true
+            }
             Sharing::Dense(dense) => {
+                // What is stored so has axes, and is no scalar.
                 let _axes = dense.shape();
                 match Rc::get_mut(dense) {
                     Some(dense) => dense.set_number(place, number),

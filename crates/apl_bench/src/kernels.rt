@@ -84,6 +84,7 @@ pub(crate) const KERNELS: &[Kernel] = &[
     Kernel("|b", Once(Monadic(Stile)), None, Vector(Wide)),
     Kernel("+/b", Once(Derived(Plus, Slash)), None, Vector(Wide)),
     Kernel("⌈/b", Once(Derived(Upstile, Slash)), None, Vector(Wide)),
+    Kernel("∧/b", Once(Derived(And, Slash)), None, Vector(Truth)),
     Kernel("+⌿B", Once(Derived(Plus, SlashBar)), None, Square(Wide)),
     Kernel(
         "+/⍉B",
@@ -96,6 +97,12 @@ pub(crate) const KERNELS: &[Kernel] = &[
     Kernel("⌽b", Once(Monadic(CircleStile)), None, Vector(Wide)),
     Kernel("⍉B", Once(Monadic(CircleSlope)), None, Square(Wide)),
     Kernel("⍋b", Once(Monadic(GradeUp)), None, Vector(Wide)),
+    Kernel(
+        "a/b",
+        Once(Dyadic(Primitive::Slash)),
+        Some(Vector(Truth)),
+        Vector(Wide),
+    ),
     Kernel("b[a]", Once(Select), Some(Vector(Index)), Vector(Wide)),
     Kernel(
         "a⍳b",

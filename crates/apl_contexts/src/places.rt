@@ -46,6 +46,7 @@ pub(crate) fn lay(
         return Ok(());
     }
     let over = mem::replace(&mut places[count], context);
+    // What stood there keeps its room for a later one, if there is memory.
     let _ = places.push(over);
     Ok(())
 }

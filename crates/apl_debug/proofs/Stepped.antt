@@ -1,8 +1,9 @@
 -- Runs of steps, from their last step and over idle states.
 use Rattle.std.proofs.Common.{◌≡◌, ℕ, zero, suc, ◌+◌, ◌-◌, ◌<◌, List, Bool, true, false, cond, arith, ap, ◌∙◌, sym, refl}
+use Rattle.apl_machine_state.specs.declared.output.OutLine.{OutLine}
 use Rattle.apl_machine_state.specs.declared.output.Progress.{Progress}
 use Rattle.apl_machine_state.specs.declared.output.Progress.TheVariants.{Idle, Stopped, LineEnd, Running}
-use Rattle.apl_defn.specs.Definitions.{Text, Definition, is_line}
+use Rattle.apl_defn.specs.Definitions.{Definition, is_line}
 use Rattle.apl_names.specs.Maps.{Map}
 use Rattle.apl_vectors.specs.Vectors.{has_line}
 use Rattle.apl_machine_state.specs.Environment.{World, Context}
@@ -46,11 +47,11 @@ pub ruleset runs = (steps-more, run-idle, run-ends, run-goes_on, run-begins)
 
 -- ---- the run until nothing runs
 
-comes-idle : (stops : Bool) (s : State) (w : World) (d : Definition) (n : ℕ) (locals : Map) (below : List Context) (lines : List Text) (ended : Bool) → (comes_to stops s w d n locals below lines ended).stopped ≡ true → is_idle (comes_to stops s w d n locals below lines ended).state ≡ true
+comes-idle : (stops : Bool) (s : State) (w : World) (d : Definition) (n : ℕ) (locals : Map) (below : List Context) (lines : List OutLine) (ended : Bool) → (comes_to stops s w d n locals below lines ended).stopped ≡ true → is_idle (comes_to stops s w d n locals below lines ended).state ≡ true
 comes-idle true s w d n locals below lines ended h = refl
 comes-idle false s w d n locals below lines ended h = cc
 
-arrived-idle : (is_there : Bool) (s : State) (w : World) (d : Definition) (n : ℕ) (locals : Map) (below : List Context) (lines : List Text) (ended : Bool) → (arrived is_there s w d n locals below lines ended).stopped ≡ true → is_idle (arrived is_there s w d n locals below lines ended).state ≡ true
+arrived-idle : (is_there : Bool) (s : State) (w : World) (d : Definition) (n : ℕ) (locals : Map) (below : List Context) (lines : List OutLine) (ended : Bool) → (arrived is_there s w d n locals below lines ended).stopped ≡ true → is_idle (arrived is_there s w d n locals below lines ended).state ≡ true
 arrived-idle true s w d n locals below lines ended h = comes-idle (has_line d.header.name n s.stops) s w d n locals below lines ended h
 arrived-idle false s w d n locals below lines ended h = cc
 

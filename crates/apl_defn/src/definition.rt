@@ -14,11 +14,24 @@ use std::marker::Model;
 
 /// A function: its header, its lines, and its labels. It keeps the tokens of each line, so that a
 /// line isn't read anew each time it begins.
-#[derive(Drop)]
 pub struct Definition {
     header: Header,
     lines: Vec<Line>,
     labels: Vec<(Name, usize)>,
+}
+
+// Written out, so that no crate above proves again what it does.
+impl Drop for Definition {
+    fn drop(self) {
+        let Definition {
+            header,
+            lines,
+            labels,
+        } = self;
+        drop(header);
+        drop(lines);
+        drop(labels);
+    }
 }
 
 impl Model for Definition {

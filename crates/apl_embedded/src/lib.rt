@@ -1,7 +1,8 @@
-//! The machine for programs in other languages: a static library with one function, which `share/apl.h` declares.
+//! The machine for programs in other languages: a static library with two functions, which `share/apl.h` declares.
 #![tactic(auto)]
 
 ghost use Rattle.apl_played.specs.Answering.{Answers};
+ghost use Rattle.std.specs.Prelude.{◌≡◌};
 
 use apl_played::play_into;
 use std::alloc::Global;
@@ -32,4 +33,15 @@ pub extern "C" fn apl_play(
     sizes.transcript = answer.transcript;
     sizes.workspace = answer.workspace;
     u32::from(answer.number)
+}
+
+/// The day of the newest changes that CHANGELOG.md tells of, as the number YYYYMMDD.
+const VERSION: u32 = 20261129;
+
+/// The version of the library, a day as the number YYYYMMDD: 20261129 is 2026-11-29. A later version has a larger number.
+#[unsafe(no_mangle)]
+pub extern "C" fn apl_version() -> u32
+    ensures { result ≡ VERSION }
+{
+    VERSION
 }

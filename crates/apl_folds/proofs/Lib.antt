@@ -1,4 +1,5 @@
 pub mod Rights
+pub mod TruthRows
 pub mod Rows
 pub mod Walks
 pub mod Told

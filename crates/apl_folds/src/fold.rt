@@ -7,8 +7,9 @@ ghost use Rattle.apl_folds.specs.Lines.{fold_by};
 
 use crate::quarters::fold_chains;
 use crate::sums::sum_row;
+use crate::truths::fold_connected;
 use apl_faults::Fault;
-use apl_scalar::{And, ByFunction, Dyadic, Logical, Maximum, Minimum, Or, Scalar};
+use apl_scalar::{And, ByFunction, Dyadic, Maximum, Minimum, Nand, Nor, Or, Scalar};
 
 /// The fold of no number, which [`Dyadic::Nand`] and [`Dyadic::Nor`] have not.
 pub(crate) fn identity_of(function: Dyadic) -> Result<i64, Fault>
@@ -88,8 +89,10 @@ pub(crate) fn fold_some(function: Dyadic, numbers: &[i64]) -> Result<i64, Fault>
         Dyadic::Plus => sum_row(numbers),
         Dyadic::Maximum => fold_chains::<Maximum>(numbers),
         Dyadic::Minimum => fold_chains::<Minimum>(numbers),
-        Dyadic::And => fold_chains::<Logical<And>>(numbers),
-        Dyadic::Or => fold_chains::<Logical<Or>>(numbers),
+        Dyadic::And => fold_connected::<And>(numbers),
+        Dyadic::Or => fold_connected::<Or>(numbers),
+        Dyadic::Nand => fold_connected::<Nand>(numbers),
+        Dyadic::Nor => fold_connected::<Nor>(numbers),
         _ => function.apply(Row { numbers }),
     }
 }

@@ -212,7 +212,7 @@ fn fronts_by<F: Scalar, K: Kept<F>>(
     ensures { Answers (λ v. v.items) (front_folds F.meaning numbers.now axis) result }
 {
     let mut out = Vec::new(alloc);
-    let _none = grow(&mut out, numbers.len())?;
+    grow(&mut out, numbers.len())?;
     let told = tell::<F, K>(alloc, numbers, axis, out.as_mut_slice())?;
     match fold_rest::<F>(numbers, axis, told, out.as_mut_slice()) {
         Ok(()) => Ok(out),

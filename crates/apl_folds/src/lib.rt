@@ -17,6 +17,7 @@ mod scale;
 mod scanning;
 mod sums;
 mod swing;
+mod truths;
 mod walk;
 
 pub use fold::fold_numbers;

@@ -1,16 +1,17 @@
 // Folds of the first items of lines of numbers.
 ghost use Rattle.std.specs.Prelude.{◌≡◌, ◌^◌, ◌<◌, ◌≤◌, ◌+◌, ◌*◌, length, slice_index_or, slice_range, pos};
 ghost use Rattle.apl_arrays.specs.Strides.{step_at};
+ghost use Rattle.apl_scalar.specs.Functions.{dyadic_of};
 ghost use Rattle.apl_folds.specs.Lines.{line_fold, IsLine};
 
-use crate::fold::fold_right;
+use crate::fold::fold_some;
 use apl_arrays::{Axis, along};
 use apl_faults::Fault;
-use apl_scalar::Scalar;
+use apl_scalar::{Dyadic, Scalar};
 
 /// The number at an index of an axis.
 #[inline(always)]
-pub(crate) fn nth(numbers: &[i64], axis: &Axis, at: usize, index: usize) -> i64
+fn nth(numbers: &[i64], axis: &Axis, at: usize, index: usize) -> i64
     requires within { index < axis.now.length }
     requires near { at + (axis.now.up + axis.now.down) * axis.now.length < 2 ^ 63 }
     requires placed { at + step_at axis.now index < length numbers.now }
@@ -51,12 +52,14 @@ pub(crate) fn row(numbers: &[i64], at: usize, count: usize) -> &[i64]
 
 /// The fold of the first numbers along an axis from a place on. Where they lie side by side it is that of a row.
 pub(crate) fn fold_line<F: Scalar>(
+    function: Dyadic,
     numbers: &[i64],
     axis: &Axis,
     at: usize,
     count: usize,
 ) -> Result<i64, Fault>
-    requires { IsLine (length numbers.now) axis.now at count }
+    requires function { F.meaning ≡ dyadic_of function }
+    requires line { IsLine (length numbers.now) axis.now at count }
     ensures { result ≡ line_fold F.meaning numbers.now axis.now at count }
 {
     if axis.up != 1 {
@@ -65,5 +68,5 @@ pub(crate) fn fold_line<F: Scalar>(
     if axis.down != 0 {
         return fold_strided::<F>(numbers, axis, at, count);
     }
-    fold_right::<F>(row(numbers, at, count))
+    fold_some(function, row(numbers, at, count))
 }

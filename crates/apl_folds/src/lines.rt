@@ -1,8 +1,7 @@
 // Folds of all lines along an axis.
-ghost use Rattle.std.specs.Prelude.{◌^◌, ◌<◌, length, IfSome};
+ghost use Rattle.std.specs.Prelude.{◌≡◌, ◌^◌, ◌<◌, length, IfSome};
 ghost use Rattle.apl_arrays.specs.Answers.{Answers};
 ghost use Rattle.apl_arrays.specs.Strides.{reach_of};
-ghost use Rattle.apl_scalar.specs.declared.function.Dyadic.TheVariants as two;
 ghost use Rattle.apl_scalar.specs.Functions.{dyadic_of};
 ghost use Rattle.apl_folds.specs.Folds.{identity};
 ghost use Rattle.apl_folds.specs.Lines.{made_of, line_fold, line_folds, line_comparisons, AreLines, IsLine, OfEach};
@@ -11,12 +10,11 @@ use crate::characters::Comparison;
 use crate::columns::push_columns;
 use crate::fold::identity_of;
 use crate::line::fold_line;
-use crate::sums::sum_line;
 use crate::walk::{Leaf, Start, walk};
 use apl_arrays::{Axis, Stop};
 use apl_charset::Ch;
 use apl_faults::Fault;
-use apl_scalar::{ByFunction, Dyadic, Scalar, Sum};
+use apl_scalar::{ByFunction, Dyadic, Scalar};
 use std::alloc::Global;
 use std::marker::PhantomData;
 
@@ -41,21 +39,22 @@ fn walked<L: Leaf>(alloc: Global, leaf: &L, lines: &Lines<'_>) -> Result<Vec<i64
     Ok(out)
 }
 
-/// The numbers along an axis, to be folded by a scalar function.
+/// The numbers along an axis, to be folded by a scalar function, which is also named.
 #[derive(Drop)]
 struct Numbers<'a, F: Scalar> {
+    function: Dyadic,
     numbers: &'a [i64],
     axis: Axis,
     by: PhantomData<F>,
 }
 
 impl<'a, F: Scalar> Leaf for Numbers<'a, F> {
-    ghost has = { λ s p count. IsLine (length s.numbers.now) s.axis p count };
+    ghost has = { λ s p count. (F.meaning ≡ dyadic_of s.function) × IsLine (length s.numbers.now) s.axis p count };
 
     ghost gives = { λ s p count. line_fold F.meaning s.numbers.now s.axis p count };
 
     fn value(&self, at: usize, count: usize) -> Result<i64, Fault> {
-        fold_line::<F>(self.numbers, &self.axis, at, count)
+        fold_line::<F>(self.function, self.numbers, &self.axis, at, count)
     }
 
     fn push_columns(
@@ -73,6 +72,7 @@ impl<'a, F: Scalar> Leaf for Numbers<'a, F> {
 #[derive(Clone, Copy)]
 struct Folds<'a> {
     alloc: Global,
+    function: Dyadic,
     numbers: &'a [i64],
     lines: &'a Lines<'a>,
 }
@@ -80,57 +80,19 @@ struct Folds<'a> {
 impl<'a> ByFunction for Folds<'a> {
     type Output = Result<Vec<i64>, Stop>;
 
-    ghost can = { λ s f. AreLines (length s.numbers.now) s.lines.now };
+    ghost can = { λ s f. (f ≡ dyadic_of s.function) × AreLines (length s.numbers.now) s.lines.now };
 
     ghost gives = { λ s f result. Answers (λ v. v.items) (line_folds f s.numbers.now s.lines.now) result };
 
     fn with<F: Scalar>(self) -> Result<Vec<i64>, Stop> {
         let leaf: Numbers<'_, F> = Numbers {
+            function: self.function,
             numbers: self.numbers,
             axis: self.lines.inner,
             by: PhantomData,
         };
         walked(self.alloc, &leaf, self.lines)
     }
-}
-
-/// The numbers along an axis, to be summed.
-#[derive(Drop)]
-struct Total<'a> {
-    numbers: &'a [i64],
-    axis: Axis,
-}
-
-impl<'a> Leaf for Total<'a> {
-    ghost has = { λ s p count. IsLine (length s.numbers.now) s.axis p count };
-
-    ghost gives = { λ s p count. line_fold (dyadic_of two.Plus) s.numbers.now s.axis p count };
-
-    fn value(&self, at: usize, count: usize) -> Result<i64, Fault> {
-        sum_line(self.numbers, &self.axis, at, count)
-    }
-
-    fn push_columns(
-        &self,
-        from: usize,
-        till: usize,
-        count: usize,
-        out: &mut Vec<i64>,
-    ) -> Result<(), Stop> {
-        push_columns::<Sum>(self.numbers, &self.axis, from, till, count, out)
-    }
-}
-
-/// The sums of the numbers of each line, or the first fault.
-fn sum_each(alloc: Global, numbers: &[i64], lines: &Lines<'_>) -> Result<Vec<i64>, Stop>
-    requires { AreLines (length numbers.now) lines.now }
-    ensures { Answers (λ v. v.items) (line_folds (dyadic_of two.Plus) numbers.now lines.now) result }
-{
-    let leaf = Total {
-        numbers,
-        axis: lines.inner,
-    };
-    walked(alloc, &leaf, lines)
 }
 
 /// The folds of the numbers of each line, or the first fault.
@@ -143,14 +105,12 @@ pub(crate) fn folds_of_numbers(
     requires { AreLines (length numbers.now) lines.now }
     ensures { Answers (λ v. v.items) (line_folds (dyadic_of function) numbers.now lines.now) result }
 {
-    match function {
-        Dyadic::Plus => sum_each(alloc, numbers, lines),
-        _ => function.apply(Folds {
-            alloc,
-            numbers,
-            lines,
-        }),
-    }
+    function.apply(Folds {
+        alloc,
+        function,
+        numbers,
+        lines,
+    })
 }
 
 /// The folds of the characters of each line, of two or more, or the first fault.

@@ -83,7 +83,7 @@ fn squeeze(alloc: Global, axis: usize, view: &View<'_>) -> Result<Array, Stop>
     ensures { Answers (λ r. r) (Ok (squeezed axis view.now)) result }
 {
     let mut shape = view.shape();
-    let _length = shape.remove(axis);
+    shape.remove(axis);
     formed(shape, in_order(alloc, view)?.items().to_ravel(alloc)?)
 }
 
@@ -125,7 +125,7 @@ fn fold_lines(alloc: Global, function: Dyadic, axis: usize, view: &View<'_>) -> 
     ensures { Answers (λ r. r) (folds_shaped function axis view.now) result }
 {
     let mut shape = view.shape();
-    let _length = shape.remove(axis);
+    shape.remove(axis);
     let room = size(shape.as_slice());
     let numbers = folds(alloc, function, axis, &view.strided(), room)?;
     formed(shape, Ravel::Nums(numbers))

@@ -2,14 +2,9 @@
 ghost use Rattle.std.specs.Prelude.{◌≡◌, ◌^◌, ◌<◌, ◌≤◌, ◌*◌, ◌+ℤ◌, ℤ, FitsSigned, unsigned_abs};
 ghost use Rattle.std.specs.Prelude.{List, ◌++◌, length, IfSome, Ok};
 ghost use Rattle.std.specs.Int.{w64};
-ghost use Rattle.apl_scalar.specs.declared.function.Dyadic.TheVariants as two;
-ghost use Rattle.apl_scalar.specs.Functions.{dyadic_of};
-ghost use Rattle.apl_folds.specs.Lines.{line_fold, IsLine};
 ghost use Rattle.apl_folds.specs.inside.Sums.{sum_of, total, magnitudes};
 
 use crate::fold::{fold_from, fold_right};
-use crate::line::{fold_strided, row};
-use apl_arrays::Axis;
 use apl_faults::Fault;
 use apl_scalar::{Sum, wider};
 
@@ -21,7 +16,7 @@ const FEW: usize = 16;
 
 /// The sum where it fits, and some number elsewhere.
 #[inline(always)]
-pub(crate) fn add(x: i64, y: i64) -> i64
+fn add(x: i64, y: i64) -> i64
     ensures { FitsSigned w64 (x +ℤ y) → result ≡ x +ℤ y }
 {
     x.wrapping_add(y)
@@ -86,18 +81,4 @@ pub(crate) fn sum_row(numbers: &[i64]) -> Result<i64, Fault>
         }
     }
     Ok(all)
-}
-
-/// The sum of the first numbers along an axis from a place on. Where they lie side by side it is that of a row.
-pub(crate) fn sum_line(numbers: &[i64], axis: &Axis, at: usize, count: usize) -> Result<i64, Fault>
-    requires { IsLine (length numbers.now) axis.now at count }
-    ensures { result ≡ line_fold (dyadic_of two.Plus) numbers.now axis.now at count }
-{
-    if axis.up != 1 {
-        return fold_strided::<Sum>(numbers, axis, at, count);
-    }
-    if axis.down != 0 {
-        return fold_strided::<Sum>(numbers, axis, at, count);
-    }
-    sum_row(row(numbers, at, count))
 }

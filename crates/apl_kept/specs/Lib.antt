@@ -2,3 +2,4 @@ pub mod Keeping
 pub mod Names
 pub mod Numbers
 pub mod Promises
+pub mod Standing

@@ -2,17 +2,19 @@
 ghost use Rattle.std.specs.Prelude.{◌≡◌, ◌↔◌, ◌⊎◌, ◌<◌, ◌≤◌, [], ℕ, length, option_copied, option_map, IfErr, IfOk, IsErrOf, IsFalse, IsTrue, MatchResult, OnErr, OnOk};
 ghost use Rattle.apl_machine_state.specs.Objects.{levels};
 ghost use Rattle.apl_machine_state.specs.State.{State, interrupt, is_idle, steps, steps_progress, value_of};
-ghost use Rattle.apl_session.specs.Defining.{closed, next_line};
+ghost use Rattle.apl_session.specs.Defining.{closed, next_line, open_header};
 ghost use Rattle.apl_session.specs.Events.{typed};
 ghost use Rattle.apl_workspace.specs.Refusals.{IsUnloaded};
 ghost use Rattle.apl_workspace.specs.Saved.{IsLoaded, IsSavedAs, settled};
 ghost use Rattle.apl_workspace.specs.declared.error.LoadError.TheVariants as load_refusal;
 ghost use Rattle.apl_kept.specs.Keeping.{BeginsWith, IsOneLine, has_line_feed};
 ghost use Rattle.apl_kept.specs.Names.{function_named, names_of, source_of};
+ghost use Rattle.apl_kept.specs.Standing.{told_of};
 ghost use Rattle.apl_kept.specs.declared.error.KeptError.TheVariants as refusal;
 
 use crate::error::KeptError;
 use crate::names::{Named, names_in, source_named};
+use crate::standing::{Told, line_told};
 use apl_arrays::SharedArray;
 use apl_charset::{Ch, Text};
 use apl_machine::{Level, Machine, OutLine, Progress};
@@ -26,10 +28,17 @@ use std::marker::Model;
 const MAX_LINE: usize = 2000;
 
 /// A session that began clear or with a workspace, so that nothing of it is lost when it is saved. Contracts see its state.
-#[derive(Drop)]
 pub struct Kept {
     alloc: Global,
     session: Session,
+}
+
+// Written out, so that no crate above proves again what it does.
+impl Drop for Kept {
+    fn drop(self) {
+        let Kept { alloc: _, session } = self;
+        drop(session);
+    }
 }
 
 impl Model for Kept {
@@ -90,6 +99,25 @@ impl Kept {
         ensures { result ≡ next_line self.now.definition }
     {
         self.session.next_line()
+    }
+
+    /// The header of the definition that is open, as it was typed behind `∇`; none where none is open.
+    pub fn header(&self) -> Option<&Text>
+        ensures { option_copied result ≡ open_header self.now.definition }
+    {
+        self.session.header()
+    }
+
+    /// How the session stands: whether a statement runs, and else what the last line tells that nobody has taken. A fault's report and
+    /// that of a stop are the last lines that what was typed writes.
+    pub fn told(&self) -> Told
+        ensures { result ≡ told_of self.now }
+    {
+        if self.is_idle() {
+            line_told(self.output().last())
+        } else {
+            Told::Running
+        }
     }
 
     /// Types a line, without its line feed. Its steps are still to be made. Errors, the first of these, with the session as before:

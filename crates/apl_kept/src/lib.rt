@@ -6,8 +6,10 @@ mod error;
 mod kept;
 mod laws;
 mod names;
+mod standing;
 
 pub use error::KeptError;
 pub use kept::{Kept, open};
 pub use laws::{output_may_be_taken, sliced_lines_are_one, slices_are_one};
 pub use names::{Named, Reading, Shape};
+pub use standing::Told;

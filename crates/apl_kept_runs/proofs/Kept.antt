@@ -39,12 +39,12 @@ record Stands (s t : State) : Type 0 where
   idle : is_idle t ≡ true
   opened : t.definition ≡ s.definition
 
-comes-stands : (b : Bool) (s : State) (w : World) (d : Definition) (n : ℕ) (locals : Map) (below : List Context) (lines : List Text) (ended : Bool)
+comes-stands : (b : Bool) (s : State) (w : World) (d : Definition) (n : ℕ) (locals : Map) (below : List Context) (lines : List OutLine) (ended : Bool)
     → (comes_to b s w d n locals below lines ended).stopped ≡ true → Stands s (comes_to b s w d n locals below lines ended).state
 comes-stands true s w d n locals below lines ended stops = record { idle = refl; opened = refl }
 comes-stands false s w d n locals below lines ended stops = cc
 
-arrived-stands : (b : Bool) (s : State) (w : World) (d : Definition) (n : ℕ) (locals : Map) (below : List Context) (lines : List Text) (ended : Bool)
+arrived-stands : (b : Bool) (s : State) (w : World) (d : Definition) (n : ℕ) (locals : Map) (below : List Context) (lines : List OutLine) (ended : Bool)
     → (arrived b s w d n locals below lines ended).stopped ≡ true → Stands s (arrived b s w d n locals below lines ended).state
 arrived-stands true s w d n locals below lines ended stops = comes-stands (has_line d.header.name n s.stops) s w d n locals below lines ended stops
 arrived-stands false s w d n locals below lines ended stops = cc

@@ -16,6 +16,7 @@ use Rattle.apl_defn.specs.Defining.{defined_of}
 use Rattle.apl_defn.specs.Reading.{header_of}
 use Rattle.apl_vectors.specs.Vectors.{after_asking, has_line, vector_of}
 use Rattle.apl_names.specs.Maps.{Map}
+use Rattle.apl_machine_state.specs.declared.output.LineKind.TheVariants.{Report}
 use Rattle.apl_machine_state.specs.declared.output.OutLine.{OutLine}
 use Rattle.apl_machine_state.specs.Beginning.{begun_by, started, token_fault}
 use Rattle.apl_machine_state.specs.Calls.{begun_line, returned}
@@ -23,7 +24,7 @@ use Rattle.apl_machine_state.specs.declared.watch.Watch.TheVariants.{Stop, Trace
 use Rattle.apl_machine_state.specs.Changes.{Change, Rests, Moves, Asks, Arrives, change}
 use Rattle.apl_machine_state.specs.Environment.{World, Context, Call, nearest}
 use Rattle.apl_machine_state.specs.Objects.{erased, without_global}
-use Rattle.apl_machine_state.specs.Reports.{abandoned, fault_lines, plain_lines}
+use Rattle.apl_machine_state.specs.Reports.{abandoned, fault_lines, lines_of}
 use Rattle.apl_machine_state.specs.State.{State, Turn, applied, arrived, comes_to, definition_of, interrupt, interrupted, is_global_variable, is_idle, moved, step, steps, stop_report, turn, with_function, with_lines}
 use Rattle.apl_machine_state.specs.Texts.{colon_of}
 use Rattle.apl_machine_state.specs.Watching.{lines_array}
@@ -45,11 +46,11 @@ either R false p q = q
 abbrev writing : State → List OutLine → State
 writing s output = record s { output = output }
 
-says : (before : List OutLine) (s : State) (lines : List Text) → Follows before (with_lines lines s) (with_lines lines (behind before s))
-says before s lines = record { is = ap (writing s) (append_assoc before s.output (plain_lines lines)) }
+says : (before : List OutLine) (s : State) (lines : List OutLine) → Follows before (with_lines lines s) (with_lines lines (behind before s))
+says before s lines = record { is = ap (writing s) (append_assoc before s.output lines) }
 
 refuses : (before : List OutLine) (s : State) (fault : Fault) → Follows before (refused s fault) (refused (behind before s) fault)
-refuses before s fault = says before s (name_of fault ∷ [])
+refuses before s fault = says before s (lines_of (Report fault) (name_of fault ∷ []))
 
 -- what writes nothing
 stays : (before : List OutLine) (s : State) → Follows before s (behind before s)
@@ -147,17 +148,17 @@ turn_behind before t = record t { state = behind before t.state }
 abbrev turned : State → World → List Context → Bool → Bool → List OutLine → Turn
 turned s w contexts stopped ended output = record { state = record s { world = w; contexts = contexts; output = output }; stopped = stopped; ended = ended }
 
-moved-behind : (before : List OutLine) (s : State) (w : World) (contexts : List Context) (lines : List Text) (ended : Bool)
+moved-behind : (before : List OutLine) (s : State) (w : World) (contexts : List Context) (lines : List OutLine) (ended : Bool)
     → moved (behind before s) w contexts lines ended ≡ turn_behind before (moved s w contexts lines ended)
-moved-behind before s w contexts lines ended = ap (turned s w contexts false ended) (append_assoc before s.output (plain_lines lines))
+moved-behind before s w contexts lines ended = ap (turned s w contexts false ended) (append_assoc before s.output lines)
 
-comes-behind : (b : Bool) (before : List OutLine) (s : State) (w : World) (d : Definition) (n : ℕ) (locals : Map) (below : List Context) (lines : List Text) (ended : Bool)
+comes-behind : (b : Bool) (before : List OutLine) (s : State) (w : World) (d : Definition) (n : ℕ) (locals : Map) (below : List Context) (lines : List OutLine) (ended : Bool)
     → comes_to b (behind before s) w d n locals below lines ended ≡ turn_behind before (comes_to b s w d n locals below lines ended)
 comes-behind true before s w d n locals below lines ended =
-    ap (turned s w (Call d n locals None ∷ below) true ended) (append_assoc before s.output (plain_lines lines ++ stop_report d n ∷ []))
+    ap (turned s w (Call d n locals None ∷ below) true ended) (append_assoc before s.output (lines ++ stop_report d n ∷ []))
 comes-behind false before s w d n locals below lines ended = moved-behind before s w (begun_line w d n locals below) lines ended
 
-arrived-behind : (b : Bool) (before : List OutLine) (s : State) (w : World) (d : Definition) (n : ℕ) (locals : Map) (below : List Context) (lines : List Text) (ended : Bool)
+arrived-behind : (b : Bool) (before : List OutLine) (s : State) (w : World) (d : Definition) (n : ℕ) (locals : Map) (below : List Context) (lines : List OutLine) (ended : Bool)
     → arrived b (behind before s) w d n locals below lines ended ≡ turn_behind before (arrived b s w d n locals below lines ended)
 arrived-behind true before s w d n locals below lines ended = comes-behind (has_line d.header.name n s.stops) before s w d n locals below lines ended
 arrived-behind false before s w d n locals below lines ended = moved-behind before s w (returned d locals below).contexts (lines ++ (returned d locals below).lines) ended

@@ -12,7 +12,10 @@ use Rattle.apl_defn.specs.Defining.{IsDefined, defined_of}
 use Rattle.apl_defn.specs.Listing.{listed}
 use Rattle.apl_defn.specs.Reading.{header_of}
 use Rattle.apl_defn.proofs.Limits.{defined_made}
+use Rattle.apl_machine_state.specs.declared.output.LineKind.TheVariants.{Answer, Report}
+use Rattle.apl_machine_state.specs.declared.output.OutLine.{OutLine}
 use Rattle.apl_machine_state.specs.Beginning.{begun}
+use Rattle.apl_machine_state.specs.Reports.{lines_of}
 use Rattle.apl_machine_state.specs.Objects.{cleared, erased}
 use Rattle.apl_machine_state.specs.State.{State, definition_of, interrupt, is_global_variable, is_idle, step, steps, with_function, with_lines}
 use Rattle.apl_session.specs.declared.commands.Command.{Command}
@@ -23,7 +26,7 @@ use Rattle.apl_session.specs.Events.{Event, Line, Steps, Interrupt, after, after
 
 -- What holds of states goes on to hold, whatever is done to a machine, and whatever definitions are opened and closed on it.
 pub record IsLasting (P : State → Type 0) : Type 0 where
-  pub told : (s : State) (lines : List Text) → P s → P (with_lines lines s)
+  pub told : (s : State) (lines : List OutLine) → P s → P (with_lines lines s)
   pub defining : (s : State) (lines : Option (List Text)) → P s → P (record s { definition = lines })
   pub with_definition : (s : State) (d : Definition) → IsDefined d → P s → P (with_function d s)
   pub without_objects : (s : State) (names : List Text) → P s → P (erased names s)
@@ -45,7 +48,7 @@ module _ (P : State → Type 0) (k : IsLasting P) where
   either false s t h g = g
 
   refuses : (s : State) (fault : Fault) → P s → P (refused s fault)
-  refuses s fault h = k.told s (name_of fault ∷ []) h
+  refuses s fault h = k.told s (lines_of (Report fault) (name_of fault ∷ [])) h
 
   -- ---- definitions
 
@@ -64,7 +67,7 @@ module _ (P : State → Type 0) (k : IsLasting P) where
 
   shows : (s : State) (o : Option Definition) → P s → P (shown s o)
   shows s None h = refuses s Defn h
-  shows s (Some d) h = k.told s (listed d) h
+  shows s (Some d) h = k.told s (lines_of Answer (listed d)) h
 
   shows_or_opens : (s : State) (text : Text) (o : Option Text) → P s → P (shown_or_opened s text o)
   shows_or_opens s text None h = opens s text (header_of text) h

@@ -1,5 +1,5 @@
 -- What a line says is read from it.
-use Rattle.std.proofs.Common.{◌≡◌, ℕ, zero, suc, ◌+◌, ◌-◌, ◌*◌, ◌/◌, ◌%◌, ◌<◌, ◌≤◌, Bool, true, false, cond, List, [], ◌∷◌, ◌++◌, length, map, Option, Some, None, option_map, refl, sym, ap, ◌∙◌, subst, arith, ⊎_elim}
+use Rattle.std.proofs.Common.{◌≡◌, ℕ, zero, suc, ◌+◌, ◌-◌, ◌*◌, ◌/◌, ◌%◌, ◌<◌, ◌≤◌, Bool, true, false, cond, List, [], ◌∷◌, ◌++◌, length, map, drop, codes, bytes_eq, Option, Some, None, option_map, refl, sym, ap, ◌∙◌, subst, arith, ⊎_elim, length-append}
 use Rattle.std.specs.Prelude.{◌==◌, ◌&&◌, not, decimal}
 use Rattle.std.specs.List.{list_all, remove, insert}
 use Rattle.std.proofs.lemmas.Bool.{cases_lt, le-leb}
@@ -28,8 +28,10 @@ use Rattle.apl_code.specs.declared.row.Variable.TheVariants as variable
 use Rattle.apl_code.specs.declared.row.Row.{Row}
 use Rattle.apl_code.specs.declared.row.Row.TheVariants.{Group, Index, Read, Call, Select, Monadic, MonadicAxis, Reduce, ReduceAxis, Dyadic, DyadicAxis, Inner, Outer, Assign, AssignIndexed, Show}
 use Rattle.apl_listing.specs.Listing.{fields, function_word, variable_word, operator_glyph, operator_name, row_words, action_words, list_place, action_list, without, operand, operand_words}
-use Rattle.apl_listing.specs.inside.Reading.{until, past, words, ◌>>=◌, number_of, source_of, name_of, primitive_in, function_of, variable_of, operator_at, function_at, has_axis, Done, along, function_row, reduction, reduce_at, done, row_at, action_named, refilled}
+use Rattle.apl_listing.specs.inside.Reading.{until, past, words, ◌>>=◌, number_of, source_of, name_of, primitive_in, function_of, variable_of, operator_of, along, function_named, row_named, action_at, behind, refilled}
+use Rattle.std.proofs.Math.Nat.{min-eq_left}
 use Rattle.apl_listing.proofs.Fields.{fields_then}
+use Rattle.apl_listing.proofs.Lists.{drop_front}
 use Rattle.apl_listing.proofs.Words.{words_step}
 use Rattle.apl_listing.proofs.Signs.{is_sign, AreSigns, sign_blank, sign_at, glyph_sign, glyph_letter, glyph_quad, name_signs, decimal_signs, system_signs}
 
@@ -139,13 +141,6 @@ function_signs (function.System s) h = system_signs s
 variable_signs : (v : Variable) → IsVariable v → AreSigns (variable_word v)
 variable_signs (variable.Name n) h = name_signs n h.goes_on
 variable_signs (variable.System s) h = system_signs s
-
-function_next : (f : Function) (rest : List ℕ) → IsFunction f → function_at (function_word f ++ 32 ∷ rest) ≡ Some (f, rest)
-function_next f rest h =
-    let e = word_field (function_word f) rest (function_signs f h) in
-    ap (λ w. function_of w >>= λ g. Some (g, past 32 (function_word f ++ 32 ∷ rest))) e.0
-    ∙ ap (λ o. o >>= λ g. Some (g, past 32 (function_word f ++ 32 ∷ rest))) (function_again f h)
-    ∙ ap (λ t. Some (f, t)) e.1
 
 -- operands
 source_again : (s : Option Source) → IsSlot s → source_of (operand s) ≡ s
@@ -288,85 +283,82 @@ action_refills Box ss h = refl
 action_refills (Phrase r) ss h = row_refills r ss h
 action_refills (End e) ss h = refl
 
--- what is done
-no_axis : (os : List Operand) (ss : List (Option Source)) → AreOperands (Value ∷ os) ss → has_axis (fields (map operand ss) []) ≡ false
+-- operands that begin with a value begin with no axis
+no_axis : (os : List Operand) (ss : List (Option Source)) → AreOperands (Value ∷ os) ss → bytes_eq (until 32 (fields (map operand ss) [])) (codes "K") ≡ false
 no_axis os [] h = absurd h
 no_axis os (None ∷ ss) h = absurd h.0
 no_axis os (Some Stack ∷ ss) h = refl
 no_axis os (Some (Constant k) ∷ ss) h = refl
 
-operator_again : (m : Operator) → operator_at (operator_glyph m) ≡ m
+plain_row : (plain axis : Row) (os : List Operand) (ss : List (Option Source)) (text : List ℕ) → AreOperands (Value ∷ os) ss → text ≡ fields (map operand ss) [] → Some (along (until 32 text) plain axis) ≡ Some plain
+plain_row plain axis os ss text t e = ap (λ u. Some (along (until 32 u) plain axis)) e ∙ ap (λ (b : Bool). Some (cond b axis plain)) (no_axis os ss t)
+
+-- what is done: the row of a name, and of the three words behind it
+abbrev row_at : List ℕ → List ℕ → Option Row
+row_at name rest = row_named name (until 32 rest) (until 32 (past 32 rest)) (until 32 (past 32 (past 32 rest)))
+
+row_back : (name word rest : List ℕ) → AreSigns word → row_at name (word ++ 32 ∷ rest) ≡ row_named name word (until 32 rest) (until 32 (past 32 rest))
+row_back name word rest h =
+    let e = word_field word rest h in
+    let t = word ++ 32 ∷ rest in
+    ap (λ u. row_named name u (until 32 (past 32 t)) (until 32 (past 32 (past 32 t)))) e.0 ∙ ap (λ u. row_named name word (until 32 u) (until 32 (past 32 u))) e.1
+
+variable_back : (name : List ℕ) (row : Variable → Row) (v : Variable) (rest : List ℕ) → IsVariable v → ((w s t : List ℕ) → row_named name w s t ≡ option_map row (variable_of w)) → row_at name (variable_word v ++ 32 ∷ rest) ≡ Some (row v)
+variable_back name row v rest h is = row_back name (variable_word v) rest (variable_signs v h) ∙ is (variable_word v) (until 32 rest) (until 32 (past 32 rest)) ∙ ap (option_map row) (variable_again v h)
+
+function_back : (name : List ℕ) (f : Function) (rest : List ℕ) → IsFunction f → ((w s t : List ℕ) → row_named name w s t ≡ (function_of w >>= λ g. function_named name g s t)) → row_at name (function_word f ++ 32 ∷ rest) ≡ function_named name f (until 32 rest) (until 32 (past 32 rest))
+function_back name f rest h is =
+    row_back name (function_word f) rest (function_signs f h) ∙ is (function_word f) (until 32 rest) (until 32 (past 32 rest))
+    ∙ ap (λ o. o >>= λ g. function_named name g (until 32 rest) (until 32 (past 32 rest))) (function_again f h)
+
+operator_again : (m : Operator) → operator_of (operator_glyph m ∷ []) ≡ m
 operator_again operator.Slash = refl
 operator_again operator.SlashBar = refl
 operator_again operator.Slope = refl
 operator_again operator.SlopeBar = refl
 
-glyph_next : (m : Operator) (rest : List ℕ) → past 32 (operator_glyph m ∷ 32 ∷ rest) ≡ rest
-glyph_next operator.Slash rest = refl
-glyph_next operator.SlashBar rest = refl
-glyph_next operator.Slope rest = refl
-glyph_next operator.SlopeBar rest = refl
+reduce_back : (f : Function) (m : Operator) (rest : List ℕ) → IsFunction f → row_at (codes "RED") (function_word f ++ 32 ∷ operator_glyph m ∷ 32 ∷ rest) ≡ Some (along (until 32 rest) (Reduce f m) (ReduceAxis f m))
+reduce_back f m rest h =
+    let t = operator_glyph m ∷ 32 ∷ rest in
+    let e = word_field (operator_glyph m ∷ []) rest (operator_signs m).1 in
+    function_back (codes "RED") f t h (λ w s u. refl)
+    ∙ ap (λ w. Some (along (until 32 (past 32 t)) (Reduce f (operator_of w)) (ReduceAxis f (operator_of w)))) e.0
+    ∙ ap (λ n. Some (along (until 32 (past 32 t)) (Reduce f n) (ReduceAxis f n))) (operator_again m)
+    ∙ ap (λ u. Some (along (until 32 u) (Reduce f m) (ReduceAxis f m))) e.1
 
-reduce_next : (f : Function) (m : Operator) (rest : List ℕ) → IsFunction f → reduce_at (function_word f ++ 32 ∷ operator_glyph m ∷ 32 ∷ rest) ≡ Some (along (Reduce f m) (ReduceAxis f m) rest)
-reduce_next f m rest h =
-    ap reduction (function_next f (operator_glyph m ∷ 32 ∷ rest) h)
-    ∙ ap (λ n. Some (along (Reduce f n) (ReduceAxis f n) (past 32 (operator_glyph m ∷ 32 ∷ rest)))) (operator_again m)
-    ∙ ap (λ t. Some (along (Reduce f m) (ReduceAxis f m) t)) (glyph_next m rest)
+-- RED and SCN are read alike
+named_reduce : (m : Operator) (rest : List ℕ) → action_at (operator_name m ++ 32 ∷ rest) ≡ option_map Phrase (row_at (codes "RED") rest)
+named_reduce operator.Slash rest = refl
+named_reduce operator.SlashBar rest = refl
+named_reduce operator.Slope rest = refl
+named_reduce operator.SlopeBar rest = refl
 
-function_back : (plain axis : Function → Row) (f : Function) (rest : List ℕ) → IsFunction f → function_row plain axis (function_word f ++ 32 ∷ rest) ≡ Some (along (plain f) (axis f) rest)
-function_back plain axis f rest h = ap (λ o. o >>= λ p. Some (along (plain p.0) (axis p.0) p.1)) (function_next f rest h)
+abbrev phrase : Option Row → Option Action
+phrase o = option_map Phrase o
 
--- the word in front gives its row
-row_back : {X : Type 0} (read : List ℕ → Option X) (row : X → Row) (word : List ℕ) (x : X) (rest : List ℕ) → AreSigns word → read word ≡ Some x → row_at read row (word ++ 32 ∷ rest) ≡ Some (Phrase (row x), rest)
-row_back read row word x rest h e =
-    let f = word_field word rest h in
-    ap (λ w. done (option_map row (read w)) (past 32 (word ++ 32 ∷ rest))) f.0
-    ∙ ap (λ o. done (option_map row o) (past 32 (word ++ 32 ∷ rest))) e
-    ∙ ap (λ t. Some (Phrase (row x), t)) f.1
-
-variable_back : (row : Variable → Row) (v : Variable) (rest : List ℕ) → IsVariable v → row_at variable_of row (variable_word v ++ 32 ∷ rest) ≡ Some (Phrase (row v), rest)
-variable_back row v rest h = row_back variable_of row (variable_word v) v rest (variable_signs v h) (variable_again v h)
-
--- operands that begin with a value begin with no axis
-plain_row : (plain axis : Row) (os : List Operand) (ss : List (Option Source)) (text : List ℕ) → AreOperands (Value ∷ os) ss → text ≡ fields (map operand ss) [] → along plain axis text ≡ (Phrase plain, text)
-plain_row plain axis os ss text t e = ap (λ (b : Bool). cond b (Phrase axis, past 32 text) (Phrase plain, text)) (ap has_axis e ∙ no_axis os ss t)
-
--- the operator's name leads to it
-named_reduce : (f : Function) (m : Operator) (text rest : List ℕ) → text ≡ operator_name m ++ 32 ∷ rest → action_named (until 32 text) (past 32 text) ≡ reduce_at rest
-named_reduce f operator.Slash text rest e = ap (λ t. action_named (until 32 t) (past 32 t)) e
-named_reduce f operator.SlashBar text rest e = ap (λ t. action_named (until 32 t) (past 32 t)) e
-named_reduce f operator.Slope text rest e = ap (λ t. action_named (until 32 t) (past 32 t)) e
-named_reduce f operator.SlopeBar text rest e = ap (λ t. action_named (until 32 t) (past 32 t)) e
-
-abbrev read_action : List ℕ → Done
-read_action text = action_named (until 32 text) (past 32 text)
-
-row_again : (r : Row) (ss : List (Option Source)) (text : List ℕ) → IsRow r → Takes (Phrase r) ss → text ≡ fields (map operand (without (list_place r) ss)) [] → read_action (fields (row_words r) text) ≡ Some (Phrase r, text)
+row_again : (r : Row) (ss : List (Option Source)) (text : List ℕ) → IsRow r → Takes (Phrase r) ss → text ≡ fields (map operand (without (list_place r) ss)) [] → action_at (fields (row_words r) text) ≡ Some (Phrase r)
 row_again Group ss text w t e = refl
 row_again (Index n) ss text w t e = absurd t
-row_again (Read v) ss text w t e = variable_back Read v text w
-row_again (Call v) ss text w t e = variable_back Call v text w
+row_again (Read v) ss text w t e = ap phrase (variable_back (codes "VAR") Read v text w (λ w s t. refl))
+row_again (Call v) ss text w t e = ap phrase (variable_back (codes "NIL") Call v text w (λ w s t. refl))
 row_again Select ss text w t e = refl
-row_again (Monadic f) ss text w t e = function_back Monadic MonadicAxis f text w ∙ ap Some (plain_row (Monadic f) (MonadicAxis f) [] ss text t e)
-row_again (MonadicAxis f) ss text w t e = function_back Monadic MonadicAxis f (75 ∷ 32 ∷ text) w
+row_again (Monadic f) ss text w t e = ap phrase (function_back (codes "MON") f text w (λ w s t. refl) ∙ plain_row (Monadic f) (MonadicAxis f) [] ss text t e)
+row_again (MonadicAxis f) ss text w t e = ap phrase (function_back (codes "MON") f (75 ∷ 32 ∷ text) w (λ w s t. refl))
 row_again (Reduce f m) ss text w t e =
-    named_reduce f m (fields (row_words (Reduce f m)) text) (function_word f ++ 32 ∷ operator_glyph m ∷ 32 ∷ text) refl
-    ∙ reduce_next f m text w
-    ∙ ap Some (plain_row (Reduce f m) (ReduceAxis f m) [] ss text t e)
-row_again (ReduceAxis f m) ss text w t e =
-    named_reduce f m (fields (row_words (ReduceAxis f m)) text) (function_word f ++ 32 ∷ operator_glyph m ∷ 32 ∷ 75 ∷ 32 ∷ text) refl
-    ∙ reduce_next f m (75 ∷ 32 ∷ text) w
-row_again (Dyadic f) ss text w t e = function_back Dyadic DyadicAxis f text w ∙ ap Some (plain_row (Dyadic f) (DyadicAxis f) (Value ∷ []) ss text t e)
-row_again (DyadicAxis f) ss text w t e = function_back Dyadic DyadicAxis f (75 ∷ 32 ∷ text) w
+    named_reduce m (function_word f ++ 32 ∷ operator_glyph m ∷ 32 ∷ text) ∙ ap phrase (reduce_back f m text w ∙ plain_row (Reduce f m) (ReduceAxis f m) [] ss text t e)
+row_again (ReduceAxis f m) ss text w t e = named_reduce m (function_word f ++ 32 ∷ operator_glyph m ∷ 32 ∷ 75 ∷ 32 ∷ text) ∙ ap phrase (reduce_back f m (75 ∷ 32 ∷ text) w)
+row_again (Dyadic f) ss text w t e = ap phrase (function_back (codes "DYA") f text w (λ w s t. refl) ∙ plain_row (Dyadic f) (DyadicAxis f) (Value ∷ []) ss text t e)
+row_again (DyadicAxis f) ss text w t e = ap phrase (function_back (codes "DYA") f (75 ∷ 32 ∷ text) w (λ w s t. refl))
 row_again (Inner f g) ss text w t e =
-    ap (λ o. o >>= λ p. (function_at p.1 >>= λ q. Some (Phrase (Inner p.0 q.0), q.1))) (function_next f (function_word g ++ 32 ∷ text) w.0)
-    ∙ ap (λ o. o >>= λ q. Some (Phrase (Inner f q.0), q.1)) (function_next g text w.1)
-row_again (Outer g) ss text w t e = row_back function_of Outer (function_word g) g text (function_signs g w) (function_again g w)
-row_again (Assign v) ss text w t e = variable_back Assign v text w
-row_again (AssignIndexed v) ss text w t e = variable_back AssignIndexed v text w
+    ap phrase (function_back (codes "INN") f (function_word g ++ 32 ∷ text) w.0 (λ w s t. refl)
+    ∙ ap (λ u. function_of u >>= λ g. Some (Inner f g)) (word_field (function_word g) text (function_signs g w.1)).0
+    ∙ ap (λ o. o >>= λ g. Some (Inner f g)) (function_again g w.1))
+row_again (Outer g) ss text w t e = ap phrase (function_back (codes "OUT") g text w (λ w s t. refl))
+row_again (Assign v) ss text w t e = ap phrase (variable_back (codes "SET") Assign v text w (λ w s t. refl))
+row_again (AssignIndexed v) ss text w t e = ap phrase (variable_back (codes "SETX") AssignIndexed v text w (λ w s t. refl))
 row_again Show ss text w t e = refl
 
-action_again : (a : Action) (ss : List (Option Source)) (text : List ℕ) → IsAction a → Takes a ss → text ≡ fields (operand_words a ss) [] → read_action (fields (action_words a) text) ≡ Some (a, text)
+action_again : (a : Action) (ss : List (Option Source)) (text : List ℕ) → IsAction a → Takes a ss → text ≡ fields (operand_words a ss) [] → action_at (fields (action_words a) text) ≡ Some a
 action_again Box ss text w t e = refl
 action_again (Phrase r) ss text w t e = row_again r ss text w t e
 action_again (End Branch) ss text w t e = refl
@@ -375,6 +367,14 @@ action_again (End Shown) ss text w t e = refl
 action_again (End Hidden) ss text w t e = refl
 action_again (End Nothing) ss text w t e = refl
 action_again (End Fail) ss text w t e = refl
+
+-- what follows the words of an action is found behind them
+pub behind_words : (a : Action) (rest : List ℕ) → behind a (fields (action_words a) rest) ≡ rest
+behind_words a rest =
+    let front = fields (action_words a) [] in
+    let e : fields (action_words a) rest ≡ front ++ rest = fields_then (action_words a) rest in
+    let le : length front ≤ length (fields (action_words a) rest) = omega (arith, ap length e, length-append front rest) in
+    ap (λ (n : ℕ). drop n (fields (action_words a) rest)) (min-eq_left le) ∙ ap (drop (length front)) e ∙ drop_front (length front) front rest refl
 
 -- the words of an instruction
 abbrev pub all_words : Instr → List (List ℕ)
@@ -390,7 +390,7 @@ place_again ws ds h =
     (ap (until 64) e ∙ p.0, ap (past 64) e ∙ p.1)
 
 -- the action is read back, and its operands
-pub action_back : (i : Instr) → IsInstr i → read_action (fields (action_words i.action) (fields (operand_words i.action i.arguments) [])) ≡ Some (i.action, fields (operand_words i.action i.arguments) [])
+pub action_back : (i : Instr) → IsInstr i → action_at (fields (action_words i.action) (fields (operand_words i.action i.arguments) [])) ≡ Some i.action
 action_back i h = action_again i.action i.arguments (fields (operand_words i.action i.arguments) []) h.words h.takes refl
 
 pub operands_back : (i : Instr) → IsInstr i → refilled (action_list i.action) (map source_of (words (fields (operand_words i.action i.arguments) []))) ≡ Some i.arguments

@@ -1,5 +1,5 @@
 -- Each line says one instruction.
-use Rattle.std.proofs.Common.{◌≡◌, ℕ, suc, ◌+◌, ◌<◌, ◌^◌, true, false, List, [], ◌∷◌, ◌++◌, length, take, get_or, Some, refl, sym, ap, ◌∙◌, subst, arith, append_assoc, add-one}
+use Rattle.std.proofs.Common.{◌≡◌, ℕ, suc, ◌+◌, ◌<◌, ◌^◌, true, false, List, [], ◌∷◌, ◌++◌, length, map, take, get_or, Some, refl, sym, ap, ◌∙◌, subst, arith, append_assoc, add-one}
 use Rattle.std.specs.Prelude.{◌==◌, decimal, encode_utf8}
 use Rattle.std.proofs.lemmas.Bool.{ne_eqb}
 use Rattle.std.proofs.lemmas.List.{append-nil}
@@ -14,12 +14,12 @@ use Rattle.apl_code.specs.declared.instr.Action.{Action}
 use Rattle.apl_code.specs.declared.instr.Action.TheVariants.{Box, Phrase, End}
 use Rattle.apl_code.specs.declared.row.Ending.TheVariants.{Branch, Escape, Shown, Hidden, Nothing, Fail}
 use Rattle.apl_code.specs.declared.instr.Instr.{Instr}
-use Rattle.apl_listing.specs.Listing.{fields, action_words, operand_words, body, line}
-use Rattle.apl_listing.specs.inside.Reading.{until, past, ◌>>=◌, number_of, action_named, placed, instr_at}
+use Rattle.apl_listing.specs.Listing.{fields, action_words, action_list, operand_words, body, line}
+use Rattle.apl_listing.specs.inside.Reading.{past, words, ◌>>=◌, number_of, source_of, action_at, refilled, instr_of, instr_at}
 use Rattle.apl_listing.specs.Assembly.{HasNoEnd}
 use Rattle.apl_listing.proofs.Fields.{fields_both}
 use Rattle.apl_listing.proofs.Signs.{is_sign, AreSigns, sign_member, decimal_signs}
-use Rattle.apl_listing.proofs.Again.{AreWords, word_field, place_again, short, all_words, instr_signs, action_back, operands_back}
+use Rattle.apl_listing.proofs.Again.{AreWords, word_field, place_again, short, all_words, instr_signs, action_back, behind_words, operands_back}
 
 pub place_small : (a : Action) (at : ℕ) → IsPlace a at → at < 1000
 place_small Box at h = omega arith
@@ -39,9 +39,10 @@ instr_again i h =
     let p = place_again (all_words i) (decimal i.at) (instr_signs i h) in
     let b : fields (all_words i) [] ≡ fields (action_words i.action) ops = fields_both (action_words i.action) (operand_words i.action i.arguments) [] in
     let n : number_of (decimal i.at) ≡ i.at = short i.at (place_small i.action i.at h.place) in
-    ap (λ u. action_named (until 32 u) (past 32 u) >>= placed (past 64 t)) (p.0 ∙ b)
-    ∙ ap (λ o. o >>= placed (past 64 t)) (action_back i h)
-    ∙ ap (λ d. placed d (i.action, ops)) p.1
+    ap (λ u. action_at u >>= instr_of u (past 64 t)) (p.0 ∙ b)
+    ∙ ap (λ o. o >>= instr_of (fields (action_words i.action) ops) (past 64 t)) (action_back i h)
+    ∙ ap (λ d. instr_of (fields (action_words i.action) ops) d i.action) p.1
+    ∙ ap (λ r. refilled (action_list i.action) (map source_of (words r)) >>= λ ss. Some (record { action = i.action; arguments = ss; at = number_of (decimal i.at) })) (behind_words i.action ops)
     ∙ ap (λ o. o >>= λ ss. Some (record { action = i.action; arguments = ss; at = number_of (decimal i.at) })) (operands_back i h)
     ∙ ap (λ (m : ℕ). Some (record { action = i.action; arguments = i.arguments; at = m })) n
 

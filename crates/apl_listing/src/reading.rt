@@ -1,12 +1,11 @@
 //! What a line says, read generously: what is read is compared with the line that it has.
-ghost use Rattle.std.specs.Prelude.{◌≡◌, ◌<◌, ◌-◌, ◌==◌, map, slice_index, option_map, Some, IfOk};
+ghost use Rattle.std.specs.Prelude.{◌≡◌, ◌<◌, ◌-◌, [], map, length, IfOk};
 ghost use Rattle.apl_code.specs.Names.{is_letter};
-ghost use Rattle.apl_listing.specs.Listing.{action_list};
-ghost use Rattle.apl_listing.specs.inside.Reading.{until, past, words, number_of, source_of, function_of, variable_of, operator_at};
-ghost use Rattle.apl_listing.specs.inside.Reading.{function_at, has_axis, along, function_row, done, reduce_at, inner_at, end_at};
-ghost use Rattle.apl_listing.specs.inside.Reading.{ending_named, plain_named, variable_named, operator_named, action_named, refilled, instr_at};
+ghost use Rattle.apl_listing.specs.Listing.{fields, action_words, action_list};
+ghost use Rattle.apl_listing.specs.inside.Reading.{until, past, words, number_of, source_of, function_of, variable_of, operator_of};
+ghost use Rattle.apl_listing.specs.inside.Reading.{ending_named, shown, plain_named, along, function_named, row_named, action_of, action_at, refilled, instr_at};
 
-use crate::writing::index_list;
+use crate::writing::{index_list, push_action};
 use apl_charset::{Ch, is_word};
 use apl_code::{Action, Arguments, Ending, Function, Instr, Row, Source, Variable};
 use apl_symbols::{Name, Operator, Symbol, SystemName};
@@ -96,191 +95,128 @@ fn variable_of(word: &[Ch]) -> Option<Variable>
     Some(Variable::System(SystemName::new(letters)?))
 }
 
-fn function_at(text: &[Ch]) -> Option<(Function, &[Ch])>
-    ensures { option_map (λ x. (x.0, x.1.now)) result ≡ function_at text.now }
+fn operator_of(word: &[Ch]) -> Operator
+    ensures { result ≡ operator_of word.now }
 {
-    let (word, rest) = split(text, ' ');
-    Some((function_of(word)?, rest))
-}
-
-/// The first character's code, or 0.
-fn first_code(text: &[Ch]) -> u32
-    ensures { result ≡ slice_index text.now 0 }
-{
-    match text {
-        [first, ..] => first.code() as u32,
-        [] => 0,
-    }
-}
-
-fn has_axis(text: &[Ch]) -> bool
-    ensures { result ≡ has_axis text.now }
-{
-    first_code(text) == 'K' as u32
-}
-
-fn operator_at(code: u32) -> Operator
-    ensures { result ≡ operator_at code }
-{
-    if code == '/' as u32 {
-        Operator::Slash
-    } else if code == '⌿' as u32 {
-        Operator::SlashBar
-    } else if code == '\\' as u32 {
-        Operator::Slope
-    } else {
-        Operator::SlopeBar
-    }
-}
-
-/// The row, if there is one, and the operands.
-fn done(row: Option<Row>, operands: &[Ch]) -> Option<(Action, &[Ch])>
-    ensures { option_map (λ x. (x.0, x.1.now)) result ≡ done row operands.now }
-{
-    Some((Action::Phrase(row?), operands))
-}
-
-fn monadic_at(text: &[Ch]) -> Option<(Action, &[Ch])>
-    ensures { option_map (λ x. (x.0, x.1.now)) result ≡ function_row Row.Monadic Row.MonadicAxis text.now }
-{
-    let Some((f, rest)) = function_at(text) else {
-        return None;
+    let [glyph, ..] = word else {
+        return Operator::SlopeBar;
     };
-    if has_axis(rest) {
-        return Some((Action::Phrase(Row::MonadicAxis(f)), split(rest, ' ').1));
-    }
-    Some((Action::Phrase(Row::Monadic(f)), rest))
-}
-
-fn dyadic_at(text: &[Ch]) -> Option<(Action, &[Ch])>
-    ensures { option_map (λ x. (x.0, x.1.now)) result ≡ function_row Row.Dyadic Row.DyadicAxis text.now }
-{
-    let Some((f, rest)) = function_at(text) else {
-        return None;
-    };
-    if has_axis(rest) {
-        return Some((Action::Phrase(Row::DyadicAxis(f)), split(rest, ' ').1));
-    }
-    Some((Action::Phrase(Row::Dyadic(f)), rest))
-}
-
-fn under_at(f: Function, m: Operator, text: &[Ch]) -> Option<(Action, &[Ch])>
-    ensures { option_map (λ x. (x.0, x.1.now)) result ≡ Some (along (Row.Reduce f m) (Row.ReduceAxis f m) text.now) }
-{
-    if has_axis(text) {
-        return Some((Action::Phrase(Row::ReduceAxis(f, m)), split(text, ' ').1));
-    }
-    Some((Action::Phrase(Row::Reduce(f, m)), text))
-}
-
-fn reduce_at(text: &[Ch]) -> Option<(Action, &[Ch])>
-    ensures { option_map (λ x. (x.0, x.1.now)) result ≡ reduce_at text.now }
-{
-    let Some((f, rest)) = function_at(text) else {
-        return None;
-    };
-    under_at(f, operator_at(first_code(rest)), split(rest, ' ').1)
-}
-
-fn inner_at(text: &[Ch]) -> Option<(Action, &[Ch])>
-    ensures { option_map (λ x. (x.0, x.1.now)) result ≡ inner_at text.now }
-{
-    let Some((f, rest)) = function_at(text) else {
-        return None;
-    };
-    let Some((g, rest)) = function_at(rest) else {
-        return None;
-    };
-    Some((Action::Phrase(Row::Inner(f, g)), rest))
-}
-
-fn end_at(text: &[Ch]) -> Option<(Action, &[Ch])>
-    ensures { option_map (λ x. (x.0, x.1.now)) result ≡ end_at text.now }
-{
-    let (word, rest) = split(text, ' ');
-    if is_word(word, b"SHOW") {
-        Some((Action::End(Ending::Shown), rest))
-    } else if is_word(word, b"HIDE") {
-        Some((Action::End(Ending::Hidden), rest))
-    } else {
-        Some((Action::End(Ending::Nothing), rest))
+    match glyph.code() {
+        '/' => Operator::Slash,
+        '⌿' => Operator::SlashBar,
+        '\\' => Operator::Slope,
+        _ => Operator::SlopeBar,
     }
 }
 
-fn ending_named<'a>(name: &[Ch], text: &'a [Ch]) -> Option<(Action, &'a [Ch])>
-    ensures { option_map (λ x. (x.0, x.1.now)) result ≡ ending_named name.now text.now }
+/// The end of a line of this name, and of the word behind it.
+fn ending_named(name: &[Ch], word: &[Ch]) -> Option<Ending>
+    ensures { result ≡ ending_named name.now word.now }
 {
-    if is_word(name, b"END") {
-        end_at(text)
-    } else if is_word(name, b"BRA") {
-        Some((Action::End(Ending::Branch), text))
+    if is_word(name, b"BRA") {
+        Some(Ending::Branch)
     } else if is_word(name, b"ESC") {
-        Some((Action::End(Ending::Escape), text))
+        Some(Ending::Escape)
+    } else if is_word(name, b"FAIL") {
+        Some(Ending::Fail)
+    } else if is_word(name, b"END") {
+        Some(shown(word))
     } else {
-        Some((Action::End(Ending::Fail), text))
+        None
     }
 }
 
-fn plain_named<'a>(name: &[Ch], text: &'a [Ch]) -> Option<(Action, &'a [Ch])>
-    ensures { option_map (λ x. (x.0, x.1.now)) result ≡ plain_named name.now text.now }
+/// What the end of a line shows.
+fn shown(word: &[Ch]) -> Ending
+    ensures { result ≡ shown word.now }
+{
+    if is_word(word, b"SHOW") {
+        Ending::Shown
+    } else if is_word(word, b"HIDE") {
+        Ending::Hidden
+    } else {
+        Ending::Nothing
+    }
+}
+
+/// The action of this name, if it has no function and no variable.
+fn plain_named(name: &[Ch], word: &[Ch]) -> Option<Action>
+    ensures { result ≡ plain_named name.now word.now }
 {
     if is_word(name, b"BOX") {
-        Some((Action::Box, text))
+        Some(Action::Box)
     } else if is_word(name, b"IDX") {
-        Some((Action::Phrase(Row::Select), text))
+        Some(Action::Phrase(Row::Select))
     } else if is_word(name, b"GRP") {
-        Some((Action::Phrase(Row::Group), text))
+        Some(Action::Phrase(Row::Group))
     } else if is_word(name, b"SHOW") {
-        Some((Action::Phrase(Row::Show), text))
+        Some(Action::Phrase(Row::Show))
     } else {
-        ending_named(name, text)
+        ending_named(name, word).map(Action::End)
     }
 }
 
-fn variable_named<'a>(name: &[Ch], text: &'a [Ch]) -> Option<(Action, &'a [Ch])>
-    ensures { option_map (λ x. (x.0, x.1.now)) result ≡ variable_named name.now text.now }
+/// The row of a function, or the one with an axis where this word says so.
+fn along(word: &[Ch], plain: Row, axis: Row) -> Row
+    ensures { result ≡ along word.now plain axis }
 {
-    let (word, rest) = split(text, ' ');
-    if is_word(name, b"VAR") {
-        done(variable_of(word).map(Row::Read), rest)
-    } else if is_word(name, b"NIL") {
-        done(variable_of(word).map(Row::Call), rest)
-    } else if is_word(name, b"SET") {
-        done(variable_of(word).map(Row::Assign), rest)
-    } else if is_word(name, b"SETX") {
-        done(variable_of(word).map(Row::AssignIndexed), rest)
-    } else {
-        plain_named(name, text)
-    }
+    if is_word(word, b"K") { axis } else { plain }
 }
 
-fn operator_named<'a>(name: &[Ch], text: &'a [Ch]) -> Option<(Action, &'a [Ch])>
-    ensures { option_map (λ x. (x.0, x.1.now)) result ≡ operator_named name.now text.now }
-{
-    let (word, rest) = split(text, ' ');
-    if is_word(name, b"RED") {
-        reduce_at(text)
-    } else if is_word(name, b"SCN") {
-        reduce_at(text)
-    } else if is_word(name, b"INN") {
-        inner_at(text)
-    } else if is_word(name, b"OUT") {
-        done(function_of(word).map(Row::Outer), rest)
-    } else {
-        variable_named(name, text)
-    }
-}
-
-fn action_named<'a>(name: &[Ch], text: &'a [Ch]) -> Option<(Action, &'a [Ch])>
-    ensures { option_map (λ x. (x.0, x.1.now)) result ≡ action_named name.now text.now }
+/// The row of a function behind this name, and of the two words behind the function.
+fn function_named(name: &[Ch], f: Function, second: &[Ch], third: &[Ch]) -> Option<Row>
+    ensures { result ≡ function_named name.now f second.now third.now }
 {
     if is_word(name, b"MON") {
-        monadic_at(text)
+        Some(along(second, Row::Monadic(f), Row::MonadicAxis(f)))
     } else if is_word(name, b"DYA") {
-        dyadic_at(text)
+        Some(along(second, Row::Dyadic(f), Row::DyadicAxis(f)))
+    } else if is_word(name, b"OUT") {
+        Some(Row::Outer(f))
+    } else if is_word(name, b"INN") {
+        Some(Row::Inner(f, function_of(second)?))
     } else {
-        operator_named(name, text)
+        let m = operator_of(second);
+        Some(along(third, Row::Reduce(f, m), Row::ReduceAxis(f, m)))
     }
+}
+
+/// The row of this name, and of the three words behind it.
+fn row_named(name: &[Ch], first: &[Ch], second: &[Ch], third: &[Ch]) -> Option<Row>
+    ensures { result ≡ row_named name.now first.now second.now third.now }
+{
+    if is_word(name, b"VAR") {
+        variable_of(first).map(Row::Read)
+    } else if is_word(name, b"NIL") {
+        variable_of(first).map(Row::Call)
+    } else if is_word(name, b"SET") {
+        variable_of(first).map(Row::Assign)
+    } else if is_word(name, b"SETX") {
+        variable_of(first).map(Row::AssignIndexed)
+    } else {
+        function_named(name, function_of(first)?, second, third)
+    }
+}
+
+/// The action of this name, and of the three words behind it.
+fn action_of(name: &[Ch], first: &[Ch], second: &[Ch], third: &[Ch]) -> Option<Action>
+    ensures { result ≡ action_of name.now first.now second.now third.now }
+{
+    if let Some(action) = plain_named(name, first) {
+        return Some(action);
+    }
+    Some(Action::Phrase(row_named(name, first, second, third)?))
+}
+
+/// The action whose words a text begins with, if it begins with those of one.
+fn action_at(text: &[Ch]) -> Option<Action>
+    ensures { result ≡ action_at text.now }
+{
+    let (name, rest) = split(text, ' ');
+    let (first, rest) = split(rest, ' ');
+    let (second, rest) = split(rest, ' ');
+    let (third, _) = split(rest, ' ');
+    action_of(name, first, second, third)
 }
 
 fn sources_of(alloc: Global, mut text: &[Ch]) -> Result<Vec<Option<Source>>, AllocError>
@@ -312,16 +248,26 @@ fn refilled(
     Ok(Some(Arguments::new(sources)))
 }
 
+/// How long the words of an action are, with a blank behind each.
+fn words_len(alloc: Global, action: Action) -> Result<usize, AllocError>
+    ensures { IfOk result (λ n. n ≡ length (fields (action_words action) [])) }
+{
+    let mut words = Vec::new(alloc);
+    push_action(&mut words, action)?;
+    Ok(words.len())
+}
+
 /// The instruction that a line says, without its number and its end.
 pub(crate) fn instr_at(alloc: Global, text: &[Ch]) -> Result<Option<Instr>, AllocError>
     ensures { IfOk result (λ o. o ≡ instr_at text.now) }
 {
     let (front, place) = split(text, '@');
-    let (name, rest) = split(front, ' ');
-    let Some((action, operands)) = action_named(name, rest) else {
+    let Some(action) = action_at(front) else {
         return Ok(None);
     };
-    let Some(arguments) = refilled(action, sources_of(alloc, operands)?)? else {
+    let read = words_len(alloc, action)?.min(front.len());
+    let sources = sources_of(alloc, &front[read..])?;
+    let Some(arguments) = refilled(action, sources)? else {
         return Ok(None);
     };
     Ok(Some(Instr {

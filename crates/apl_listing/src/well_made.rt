@@ -1,11 +1,11 @@
 //! Which instructions are well made.
-ghost use Rattle.std.specs.Prelude.{◌≡◌, ◌&&◌, [], ◌∷◌, slice_index};
+ghost use Rattle.std.specs.Prelude.{◌≡◌, ◌&&◌, map, slice_index};
 ghost use Rattle.std.specs.List.{list_all};
 ghost use Rattle.apl_code.specs.Names.{is_letter, is_in_name, IsName};
-ghost use Rattle.apl_code.specs.Instr.{Value, Slots, IsOperand, AreOperands, IsSlot, AreSlots, Takes};
+ghost use Rattle.apl_code.specs.Instr.{IsValue, IsOperand, AreOperands, IsSlot, AreSlots, Takes};
 ghost use Rattle.apl_code.specs.Instr.{IsFunction, IsVariable, IsRow, IsAction, IsPlace, IsInstr};
-ghost use Rattle.apl_code.specs.declared.instr.Action.TheVariants.{Phrase, End};
-ghost use Rattle.apl_listing.specs.inside.Tests.{Tells};
+ghost use Rattle.apl_code.specs.declared.instr.Action.TheVariants.{Phrase};
+ghost use Rattle.apl_listing.specs.inside.Tests.{Tells, operand_of};
 
 use crate::reading::is_letter;
 use apl_charset::Ch;
@@ -86,25 +86,50 @@ fn is_action(action: Action) -> bool
     }
 }
 
-/// Whether an operand is a value.
-fn is_value(source: Option<Source>) -> bool
-    ensures { Tells result (IsOperand Value source) }
+/// What an operand is.
+#[derive(Clone, Copy)]
+enum Shape {
+    Value,
+    List,
+}
+
+fn is_value(source: Source) -> bool
+    ensures { Tells result (IsValue source) }
 {
     match source {
-        None => false,
-        Some(Source::Stack) => true,
-        Some(Source::Constant(k)) => k <= 499,
+        Source::Stack => true,
+        Source::Constant(k) => k <= 499,
     }
 }
 
-/// Whether an operand is an index list.
-fn is_list(source: Option<Source>) -> bool
-    ensures { Tells result (IsOperand Slots source) }
+fn is_operand(shape: Shape, source: Option<Source>) -> bool
+    ensures { Tells result (IsOperand (operand_of shape) source) }
 {
     match source {
         None => false,
-        Some(Source::Stack) => true,
-        Some(Source::Constant(_)) => false,
+        Some(source) => match shape {
+            Shape::Value => is_value(source),
+            Shape::List => match source {
+                Source::Stack => true,
+                Source::Constant(_) => false,
+            },
+        },
+    }
+}
+
+/// Whether these are the operands of an action. No action has more than three shapes.
+fn are_operands(shapes: &[Shape], sources: &[Option<Source>]) -> bool
+    ensures { Tells result (AreOperands (map operand_of shapes.now) sources.now) }
+{
+    match shapes {
+        [] => match sources {
+            [] => true,
+            [_, ..] => false,
+        },
+        [shape, others @ ..] => match sources {
+            [] => false,
+            [source, rest @ ..] => { is_operand(*shape, *source) && are_operands(others, rest) }
+        },
     }
 }
 
@@ -113,8 +138,7 @@ fn is_slot(source: Option<Source>) -> bool
 {
     match source {
         None => true,
-        Some(Source::Stack) => true,
-        Some(Source::Constant(k)) => k <= 499,
+        Some(source) => is_value(source),
     }
 }
 
@@ -129,102 +153,24 @@ fn are_slots(sources: &[Option<Source>]) -> bool
     true
 }
 
-/// Whether there are no operands.
-fn none(sources: &[Option<Source>]) -> bool
-    ensures { Tells result (AreOperands [] sources.now) }
-{
-    match sources {
-        [] => true,
-        [_, ..] => false,
-    }
-}
-
-/// Whether the operands are one value.
-fn one(sources: &[Option<Source>]) -> bool
-    ensures { Tells result (AreOperands (Value ∷ []) sources.now) }
-{
-    match sources {
-        [] => false,
-        [first, rest @ ..] => is_value(*first) && none(rest),
-    }
-}
-
-/// Whether the operands are two values.
-fn two(sources: &[Option<Source>]) -> bool
-    ensures { Tells result (AreOperands (Value ∷ Value ∷ []) sources.now) }
-{
-    match sources {
-        [] => false,
-        [first, rest @ ..] => is_value(*first) && one(rest),
-    }
-}
-
-/// Whether the operands are an index list alone.
-fn list(sources: &[Option<Source>]) -> bool
-    ensures { Tells result (AreOperands (Slots ∷ []) sources.now) }
-{
-    match sources {
-        [] => false,
-        [first, rest @ ..] => is_list(*first) && none(rest),
-    }
-}
-
-/// Whether the operands are an index list and a value.
-fn list_and_one(sources: &[Option<Source>]) -> bool
-    ensures { Tells result (AreOperands (Slots ∷ Value ∷ []) sources.now) }
-{
-    match sources {
-        [] => false,
-        [first, rest @ ..] => is_list(*first) && one(rest),
-    }
-}
-
-/// Whether the operands are a value and an index list.
-fn one_and_list(sources: &[Option<Source>]) -> bool
-    ensures { Tells result (AreOperands (Value ∷ Slots ∷ []) sources.now) }
-{
-    match sources {
-        [] => false,
-        [first, rest @ ..] => is_value(*first) && list(rest),
-    }
-}
-
-/// Whether the operands are a value, an index list and a value.
-fn around_list(sources: &[Option<Source>]) -> bool
-    ensures { Tells result (AreOperands (Value ∷ Slots ∷ Value ∷ []) sources.now) }
-{
-    match sources {
-        [] => false,
-        [first, rest @ ..] => is_value(*first) && list_and_one(rest),
-    }
-}
-
 /// Whether a row takes these operands.
 fn row_takes(row: Row, sources: &[Option<Source>]) -> bool
     ensures { Tells result (Takes (Phrase row) sources.now) }
 {
     match row {
         Row::Index(_) => false,
-        Row::Read(_) | Row::Call(_) => none(sources),
+        Row::Read(_) | Row::Call(_) => are_operands(&[], sources),
         Row::Group | Row::Monadic(_) | Row::Reduce(_, _) | Row::Assign(_) | Row::Show => {
-            one(sources)
+            are_operands(&[Shape::Value], sources)
         }
-        Row::Dyadic(_) | Row::Inner(_, _) | Row::Outer(_) => two(sources),
-        Row::Select => one_and_list(sources),
+        Row::Dyadic(_) | Row::Inner(_, _) | Row::Outer(_) => {
+            are_operands(&[Shape::Value, Shape::Value], sources)
+        }
+        Row::Select => are_operands(&[Shape::Value, Shape::List], sources),
         Row::MonadicAxis(_) | Row::ReduceAxis(_, _) | Row::AssignIndexed(_) => {
-            list_and_one(sources)
+            are_operands(&[Shape::List, Shape::Value], sources)
         }
-        Row::DyadicAxis(_) => around_list(sources),
-    }
-}
-
-/// Whether the end of a line takes these operands.
-fn ending_takes(ending: Ending, sources: &[Option<Source>]) -> bool
-    ensures { Tells result (Takes (End ending) sources.now) }
-{
-    match ending {
-        Ending::Branch | Ending::Shown | Ending::Hidden => one(sources),
-        Ending::Escape | Ending::Nothing | Ending::Fail => none(sources),
+        Row::DyadicAxis(_) => { are_operands(&[Shape::Value, Shape::List, Shape::Value], sources) }
     }
 }
 
@@ -234,7 +180,10 @@ fn takes(action: Action, sources: &[Option<Source>]) -> bool
     match action {
         Action::Box => !sources.is_empty() && are_slots(sources),
         Action::Phrase(row) => row_takes(row, sources),
-        Action::End(ending) => ending_takes(ending, sources),
+        Action::End(Ending::Branch | Ending::Shown | Ending::Hidden) => {
+            are_operands(&[Shape::Value], sources)
+        }
+        Action::End(Ending::Escape | Ending::Nothing | Ending::Fail) => are_operands(&[], sources),
     }
 }
 
@@ -242,13 +191,10 @@ fn is_place(action: Action, at: usize) -> bool
     ensures { Tells result (IsPlace action at) }
 {
     match action {
-        Action::End(Ending::Shown) | Action::End(Ending::Hidden) | Action::End(Ending::Nothing) => {
-            at == 0
-        }
-        Action::End(Ending::Branch) | Action::End(Ending::Escape) | Action::End(Ending::Fail) => {
-            1 <= at && at <= 500
-        }
-        Action::Box | Action::Phrase(_) => 1 <= at && at <= 500,
+        Action::End(Ending::Shown | Ending::Hidden | Ending::Nothing) => at == 0,
+        Action::End(Ending::Branch | Ending::Escape | Ending::Fail)
+        | Action::Box
+        | Action::Phrase(_) => 1 <= at && at <= 500,
     }
 }
 

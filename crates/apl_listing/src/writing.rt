@@ -167,7 +167,7 @@ fn push_ending(out: &mut Vec<Ch>, ending: Ending) -> Result<(), AllocError>
 }
 
 /// Adds what an instruction does.
-fn push_action(out: &mut Vec<Ch>, action: Action) -> Result<(), AllocError>
+pub(crate) fn push_action(out: &mut Vec<Ch>, action: Action) -> Result<(), AllocError>
     ensures { OnOk result (out.new.items ≡ out.old.items ++ fields (action_words action) []) }
 {
     match action {

@@ -1,11 +1,11 @@
 pub mod OneArray
 pub mod Lists
 pub mod OneDefinition
-pub mod Letters
+pub mod OneName
 pub mod Taken
 pub mod OneFunction
 pub mod OneVariable
-pub mod Ahead
+pub mod Named
 pub mod OneLine
 pub mod OneCall
 pub mod OneContext

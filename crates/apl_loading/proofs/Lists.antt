@@ -1,5 +1,5 @@
 -- Lists that are read from the left.
-use Rattle.std.proofs.Common.{◌≡◌, ℕ, zero, suc, ◌+◌, add-one, ◌<◌, ◌≤◌, ◌⊎◌, inl, inr, Contains, List, [], ◌∷◌, ◌++◌, length, drop, refl, sym, ap, ◌∙◌, subst, append_assoc, arith}
+use Rattle.std.proofs.Common.{◌≡◌, ℕ, zero, suc, ◌+◌, add-one, ◌<◌, ◌≤◌, Contains, List, [], ◌∷◌, ◌++◌, length, drop, refl, sym, ap, ◌∙◌, subst, append_assoc, arith}
 use Rattle.std.proofs.Math.ListN.{get_or}
 use Rattle.std.proofs.Math.Seq.{drop-cons}
 use Rattle.apl_saved.specs.Spelled.{Pairwise}
@@ -63,10 +63,6 @@ pub next_at : {F : Type 0} (fs : List F) (i : ℕ) (f : F) → i < length fs →
 next_at fs i f lt e = drop_at fs i f lt e ∙ ap (λ k. f ∷ drop k fs) (sym (add-one i))
 
 -- ---- what a list has
-
-pub contains_now : {X : Type 0} (x y : X) (xs : List X) → Contains (x ∷ xs) y → (x ≡ y) ⊎ Contains xs y
-contains_now x y xs (zero, lt, e) = inl e
-contains_now x y xs (suc k, lt, e) = inr (k, omega (arith, lt), e)
 
 pub contains_later : {X : Type 0} (x y : X) (xs : List X) → Contains xs y → Contains (x ∷ xs) y
 contains_later x y xs (k, lt, e) = (suc k, omega (arith, lt), e)

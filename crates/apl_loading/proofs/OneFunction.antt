@@ -18,3 +18,15 @@ no_function before f d g other w n =
       subst (λ x. AreLines x f.stop) e (subst (AreLines w.definition) (sym n.field.stops) n.watched.stops),
       subst (λ x. AreLines x f.trace) e (subst (AreLines w.definition) (sym n.field.traces) n.watched.traces),
     )
+
+-- a definition that keeps to the rules, with the vectors of the field, is the next function
+pub next_function : (before : Option Text) (f : FunctionField) (d : Definition) (w : Watched) → IsDefinitionOf f.header f.lines d × IsDefined d → IsBehind before d.header.name × AreLines d f.stop × AreLines d f.trace → w.definition ≡ d → w.stops ≡ f.stop → w.traces ≡ f.trace → IsNextFunction before f w
+next_function before f d w g (b, s, t) same stops traces = record {
+  field = record { definition = subst (IsDefinitionOf f.header f.lines) (sym same) g.0; stops = sym stops; traces = sym traces };
+  watched = record {
+    defined = subst IsDefined (sym same) g.1;
+    stops = subst (λ x. AreLines x w.stops) (sym same) (subst (AreLines d) (sym stops) s);
+    traces = subst (λ x. AreLines x w.traces) (sym same) (subst (AreLines d) (sym traces) t);
+  };
+  behind = subst (λ (x : Definition). IsBehind before x.header.name) (sym same) b;
+}

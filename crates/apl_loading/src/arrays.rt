@@ -52,6 +52,7 @@ impl Field for ArrayField {
         }
         match Array::from_shape(shape, ravel) {
             Ok(array) => {
+                // A clause of the call says that this is an array within the limits.
                 let _shape = array.shape();
                 Ok(array)
             }

@@ -10,6 +10,7 @@ ghost use Rattle.apl_loading.specs.Numbers.{Refuses};
 ghost use Rattle.apl_loading.specs.Refusals.{AreStacked, AreValues, Below, IsRefusedIn, RefusesContext, TakesContext, context_after, counts, nothing_below};
 ghost use Rattle.apl_loading.specs.declared.error.LoadFault.TheVariants as fault;
 
+use crate::built::Built;
 use crate::definitions::read_definition;
 use crate::error::LoadFault;
 use crate::links::may_stand;
@@ -25,22 +26,6 @@ use apl_translate::Cache;
 use apl_workspace_file::{CallField, ContextField, RestField, StatementField};
 use std::alloc::Global;
 
-/// What is made of a context: its part, what that awaits, and the listing that its line has.
-#[derive(Drop)]
-pub(crate) struct Built {
-    pub(crate) part: ContextPart,
-    pub(crate) awaits: Option<Action>,
-    pub(crate) listing: Vec<u8>,
-}
-
-/// The same of a call.
-#[derive(Drop)]
-struct BuiltCall {
-    part: CallPart,
-    awaits: Option<Action>,
-    listing: Vec<u8>,
-}
-
 /// A call of this definition, but for the listing of its line.
 fn read_call(
     alloc: Global,
@@ -48,7 +33,7 @@ fn read_call(
     field: &CallField,
     values: Values,
     cache: &mut Cache,
-) -> Result<BuiltCall, LoadFault>
+) -> Result<Built<CallPart, Option<Action>>, LoadFault>
     requires { length field.now.locals ≡ length values.locals.items }
     ensures found { IfOk result (λ b. IsCallBy definition field.now values.locals.items values.operands.items b.part) }
     ensures made { IfOk result (λ b. IsMadeIn (line_of definition field.now.at) b.part.rest b.awaits b.listing.items) }
@@ -62,8 +47,8 @@ fn read_call(
     let fields = field.locals.as_slice();
     let locals = read_locals(alloc, definition.header(), fields, locals)?;
     let function = DefinedFunction::new(alloc, definition)?;
-    Ok(BuiltCall {
-        part: CallPart::new(function, field.at, locals, line.rest),
+    Ok(Built {
+        part: CallPart::new(function, field.at, locals, line.part),
         awaits: line.awaits,
         listing: line.listing,
     })
@@ -75,7 +60,7 @@ fn build_call(
     field: &CallField,
     values: Values,
     cache: &mut Cache,
-) -> Result<Built, LoadFault>
+) -> Result<Built<ContextPart, Option<Action>>, LoadFault>
     requires { AreValues (fields.Call field.now) values.locals.items values.operands.items }
     ensures found { IfOk result (λ b. IsBuilt (fields.Call field.now) b.part b.awaits b.listing.items) }
     ensures refused { IfErr result (λ e. e ≢ fault.Memory → RefusesPart (fields.Call field.now) e) }
@@ -95,7 +80,7 @@ fn build_statement(
     field: &StatementField,
     operands: Vec<Operand>,
     cache: &mut Cache,
-) -> Result<Built, LoadFault>
+) -> Result<Built<ContextPart, Option<Action>>, LoadFault>
     requires { Pairwise IsOperandOf field.now.rest.operands operands.items }
     ensures found { IfOk result (λ b. IsBuilt (fields.Statement field.now) b.part b.awaits b.listing.items) }
     ensures refused { IfErr result (λ e. e ≢ fault.Memory → RefusesPart (fields.Statement field.now) e) }
@@ -103,7 +88,7 @@ fn build_statement(
     let statement = read_statement(alloc, field, operands, cache)?;
     Ok(Built {
         part: ContextPart::Statement(statement.part),
-        awaits: Some(statement.action),
+        awaits: Some(statement.awaits),
         listing: statement.listing,
     })
 }
@@ -114,7 +99,7 @@ fn build_execute(
     field: &StatementField,
     operands: Vec<Operand>,
     cache: &mut Cache,
-) -> Result<Built, LoadFault>
+) -> Result<Built<ContextPart, Option<Action>>, LoadFault>
     requires { Pairwise IsOperandOf field.now.rest.operands operands.items }
     ensures found { IfOk result (λ b. IsBuilt (fields.Execute field.now) b.part b.awaits b.listing.items) }
     ensures refused { IfErr result (λ e. e ≢ fault.Memory → RefusesPart (fields.Execute field.now) e) }
@@ -122,7 +107,7 @@ fn build_execute(
     let execute = read_statement(alloc, field, operands, cache)?;
     Ok(Built {
         part: ContextPart::Execute(execute.part),
-        awaits: Some(execute.action),
+        awaits: Some(execute.awaits),
         listing: execute.listing,
     })
 }
@@ -133,7 +118,7 @@ fn build(
     field: &ContextField,
     values: Values,
     cache: &mut Cache,
-) -> Result<Built, LoadFault>
+) -> Result<Built<ContextPart, Option<Action>>, LoadFault>
     requires { AreValues field.now values.locals.items values.operands.items }
     ensures found { IfOk result (λ b. IsBuilt field.now b.part b.awaits b.listing.items) }
     ensures refused { IfErr result (λ e. e ≢ fault.Memory → RefusesPart field.now e) }
@@ -180,7 +165,7 @@ fn read_context(
     behind: &[ContextField],
     field: &ContextField,
     cache: &mut Cache,
-) -> Result<Built, LoadFault>
+) -> Result<Built<ContextPart, Option<Action>>, LoadFault>
     requires { standing ≤ MOST_STANDING }
     ensures found { (s : Below) → IsBelow awaits standing s → IfOk result (λ b. TakesContext s behind.now field.now b.part) }
     ensures made { IfOk result (λ b. IsMadeIn (text_of b.part) (waiting_in b.part) b.awaits b.listing.items) }

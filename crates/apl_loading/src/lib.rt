@@ -2,6 +2,7 @@
 #![tactic(auto)]
 
 mod arrays;
+mod built;
 mod contexts;
 mod definitions;
 mod error;

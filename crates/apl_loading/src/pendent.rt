@@ -9,6 +9,7 @@ ghost use Rattle.apl_loading.specs.inside.Made.{Agrees, AreOfText, IsMade, IsMad
 ghost use Rattle.apl_loading.specs.Numbers.{Refuses};
 ghost use Rattle.apl_loading.specs.declared.error.LoadFault.TheVariants as fault;
 
+use crate::built::Built;
 use crate::error::LoadFault;
 use crate::lines::{StatementLine, code_of, read_classes, read_statement_line};
 use crate::stack::has_stack;
@@ -21,14 +22,6 @@ use apl_tokens::Token;
 use apl_translate::Cache;
 use apl_workspace_file::{RestField, StatementField};
 use std::alloc::Global;
-
-/// A line that awaits an answer, what the last of its instructions that are done does, and its listing.
-#[derive(Drop)]
-pub(crate) struct PendentLine {
-    pub(crate) rest: RestPart,
-    pub(crate) action: Action,
-    pub(crate) listing: Vec<u8>,
-}
 
 /// What the last of so many instructions does.
 fn last_action(code: &Code, done: usize) -> Action
@@ -51,11 +44,11 @@ fn bound_rest(
     done: usize,
     operands: Vec<Operand>,
     cache: &mut Cache,
-) -> Result<PendentLine, LoadFault>
+) -> Result<Built<RestPart, Action>, LoadFault>
     requires text { AreOfText tokens.now }
     requires classes { length classes.items ≡ length (names_of tokens.now) }
-    ensures rest { IfOk result (λ l. l.rest ≡ record { classes = classes.items; done = done; operands = operands.items }) }
-    ensures made { IfOk result (λ l. IsMade tokens.now l.rest l.action l.listing.items) }
+    ensures rest { IfOk result (λ l. l.part ≡ record { classes = classes.items; done = done; operands = operands.items }) }
+    ensures made { IfOk result (λ l. IsMade tokens.now l.part l.awaits l.listing.items) }
     ensures refused { IfErr result (λ e. e ≢ fault.Memory → (e ≡ fault.Context) × ((code : List AnInstr) →
         ¬ IsPendentLine tokens.now (record { classes = classes.items; done = done; operands = operands.items }) code)) }
 {
@@ -64,11 +57,11 @@ fn bound_rest(
     if !has_stack(alloc, code, done, operands.as_slice())? {
         return Err(LoadFault::Context);
     }
-    let action = last_action(code, done);
+    let awaits = last_action(code, done);
     let listing = listing(alloc, code)?;
-    Ok(PendentLine {
-        rest: RestPart::new(classes, done, operands),
-        action,
+    Ok(Built {
+        part: RestPart::new(classes, done, operands),
+        awaits,
         listing,
     })
 }
@@ -80,23 +73,14 @@ pub(crate) fn read_rest(
     field: &RestField,
     operands: Vec<Operand>,
     cache: &mut Cache,
-) -> Result<PendentLine, LoadFault>
+) -> Result<Built<RestPart, Action>, LoadFault>
     requires { AreOfText tokens.now }
-    ensures rest { IfOk result (λ l. Agrees field.now operands.items l.rest) }
-    ensures made { IfOk result (λ l. IsMade tokens.now l.rest l.action l.listing.items) }
+    ensures rest { IfOk result (λ l. Agrees field.now operands.items l.part) }
+    ensures made { IfOk result (λ l. IsMade tokens.now l.part l.awaits l.listing.items) }
     ensures refused { IfErr result (Refuses fault.Context (λ w. IsWaitingBy tokens.now field.now operands.items w)) }
 {
     let classes = read_classes(alloc, tokens, &field.classes)?;
     bound_rest(alloc, tokens, classes, field.done, operands, cache)
-}
-
-/// A statement, or a text that is executed, that awaits an answer, what the last of its instructions
-/// that are done does, and its listing.
-#[derive(Drop)]
-pub(crate) struct PendentStatement {
-    pub(crate) part: StatementPart,
-    pub(crate) action: Action,
-    pub(crate) listing: Vec<u8>,
 }
 
 /// The statement, or the text that is executed, that a field is, but for the listing.
@@ -105,30 +89,20 @@ pub(crate) fn read_statement(
     field: &StatementField,
     operands: Vec<Operand>,
     cache: &mut Cache,
-) -> Result<PendentStatement, LoadFault>
+) -> Result<Built<StatementPart, Action>, LoadFault>
     ensures found { IfOk result (λ s. IsStatementBy field.now operands.items s.part.text s.part.rest) }
-    ensures made { IfOk result (λ s. IsMadeOf s.part.text s.part.rest s.action s.listing.items) }
+    ensures made { IfOk result (λ s. IsMadeOf s.part.text s.part.rest s.awaits s.listing.items) }
     ensures refused { IfErr result (λ e. e ≢ fault.Memory →
         (e ≡ fault.Context) × ((text : Line) (w : Waiting) → ¬ IsStatementBy field.now operands.items text w)) }
 {
     let StatementLine { text, tokens } = read_statement_line(alloc, &field.line)?;
     let line = read_rest(alloc, tokens.as_slice(), &field.rest, operands, cache)?;
-    Ok(PendentStatement {
-        part: StatementPart {
-            text,
-            rest: line.rest,
-        },
-        action: line.action,
+    let rest = line.part;
+    Ok(Built {
+        part: StatementPart { text, rest },
+        awaits: line.awaits,
         listing: line.listing,
     })
-}
-
-/// The line of a call, which may await an answer.
-#[derive(Drop)]
-pub(crate) struct CallLine {
-    pub(crate) rest: Option<RestPart>,
-    pub(crate) awaits: Option<Action>,
-    pub(crate) listing: Vec<u8>,
 }
 
 /// The line of these tokens, a text's, as a field says that it awaits an answer, if it does, but for
@@ -139,23 +113,23 @@ pub(crate) fn read_call_line(
     field: &Option<RestField>,
     operands: Vec<Operand>,
     cache: &mut Cache,
-) -> Result<CallLine, LoadFault>
+) -> Result<Built<Option<RestPart>, Option<Action>>, LoadFault>
     requires { AreOfText tokens.now }
-    ensures rest { IfOk result (λ l. IsRestBy tokens.now field.now operands.items l.rest) }
-    ensures made { IfOk result (λ l. IsRestMade tokens.now l.rest l.awaits l.listing.items) }
+    ensures rest { IfOk result (λ l. IsRestBy tokens.now field.now operands.items l.part) }
+    ensures made { IfOk result (λ l. IsRestMade tokens.now l.part l.awaits l.listing.items) }
     ensures refused { IfErr result (Refuses fault.Context (λ rest. IsRestBy tokens.now field.now operands.items rest)) }
 {
     match field {
-        None => Ok(CallLine {
-            rest: None,
+        None => Ok(Built {
+            part: None,
             awaits: None,
             listing: Vec::new(alloc),
         }),
         Some(field) => {
             let line = read_rest(alloc, tokens, field, operands, cache)?;
-            Ok(CallLine {
-                rest: Some(line.rest),
-                awaits: Some(line.action),
+            Ok(Built {
+                part: Some(line.part),
+                awaits: Some(line.awaits),
                 listing: line.listing,
             })
         }

@@ -5,6 +5,7 @@ use Rattle.std.specs.Option.{option_map}
 use Rattle.apl_arrays.specs.Cells.{Arr}
 use Rattle.apl_names.specs.declared.binding.Binding.{Binding}
 use Rattle.apl_names.specs.Maps.{Map, Text, assigned, class_in, first_map, found, last_map, said, value_in, with_entry, with_global}
+use Rattle.apl_machine_state.specs.declared.output.OutLine.{OutLine}
 use Rattle.apl_machine_state.specs.Items.{Rest}
 use Rattle.apl_machine_state.specs.Environment as model
 use Rattle.apl_machine_state.specs.Environment.{World, class_of, environment, rest_at, scene}
@@ -112,7 +113,7 @@ length_assigned (m ∷ k ∷ ms) n b = length_choice (is_some (said m n)) m k ms
 -- ---- what steps come to
 
 -- where a call comes to a line, or returns, its line has ended
-arrived_ends : (line : Bool) (s : State) (w : World) (d : Definition) (n : ℕ) (locals : Map) (below : List model.Context) (lines : List Text) → (arrived line s w d n locals below lines true).ended ≡ true
+arrived_ends : (line : Bool) (s : State) (w : World) (d : Definition) (n : ℕ) (locals : Map) (below : List model.Context) (lines : List OutLine) → (arrived line s w d n locals below lines true).ended ≡ true
 arrived_ends true s w d n locals below lines = by_stop (has_line d.header.name n s.stops)
   where
     by_stop : (stop : Bool) → (comes_to stop s w d n locals below lines true).ended ≡ true
@@ -120,14 +121,14 @@ arrived_ends true s w d n locals below lines = by_stop (has_line d.header.name n
     by_stop false = refl
 arrived_ends false s w d n locals below lines = refl
 
-pub arrival_ends : (s : State) (ms : List Map) (kept : Settings) (cs : List Context) (n : ℕ) (texts : List Text) → is_some (call_in cs) ≡ true → (arrival s ms kept cs n texts).ended ≡ true
-arrival_ends s ms kept [] n texts h = cc
-arrival_ends s ms kept (Statement q ∷ cs) n texts h = cc
-arrival_ends s ms kept (Call c ∷ cs) n texts h = arrived_ends (is_line c.definition n) s (world_at ms kept (Call c ∷ cs)) c.definition n (first_map ms) (dressed (drop 1 ms) cs) texts
-arrival_ends s ms kept (Execute q ∷ cs) n texts h = arrival_ends s ms kept cs n texts h
+pub arrival_ends : (s : State) (ms : List Map) (kept : Settings) (cs : List Context) (n : ℕ) (lines : List OutLine) → is_some (call_in cs) ≡ true → (arrival s ms kept cs n lines).ended ≡ true
+arrival_ends s ms kept [] n lines h = cc
+arrival_ends s ms kept (Statement q ∷ cs) n lines h = cc
+arrival_ends s ms kept (Call c ∷ cs) n lines h = arrived_ends (is_line c.definition n) s (world_at ms kept (Call c ∷ cs)) c.definition n (first_map ms) (dressed (drop 1 ms) cs) lines
+arrival_ends s ms kept (Execute q ∷ cs) n lines h = arrival_ends s ms kept cs n lines h
 
 -- a call that begins ends no line
-call_goes : (line : Bool) (s : State) (w : World) (d : Definition) (n : ℕ) (locals : Map) (below : List model.Context) (lines : List Text) → (arrived line s w d n locals below lines false).ended ≡ false
+call_goes : (line : Bool) (s : State) (w : World) (d : Definition) (n : ℕ) (locals : Map) (below : List model.Context) (lines : List OutLine) → (arrived line s w d n locals below lines false).ended ≡ false
 call_goes true s w d n locals below lines = by_stop (has_line d.header.name n s.stops)
   where
     by_stop : (stop : Bool) → (comes_to stop s w d n locals below lines false).ended ≡ false
@@ -150,32 +151,32 @@ typed_ends s ms kept (Execute r ∷ cs) aim = (refl, refl)
 typed_ends s ms kept (Call c ∷ cs) None = (refl, refl)
 typed_ends s ms kept (Call c ∷ cs) (Some m) = by_test (is_line c.definition m) s (world_at ms kept (Call c ∷ cs)) (begun_line (world_at ms kept (Call c ∷ cs)) c.definition m (first_map ms) (dressed (drop 1 ms) cs)) c.definition (first_map ms) (dressed (drop 1 ms) cs)
 
-pub branch_ends : (s : State) (ms : List Map) (kept : Settings) (cs : List Context) (aim : Option ℕ) (texts : List Text) → IsThere cs → (applied s (branch_to (world_at ms kept cs) (dressed ms cs) aim texts)).ended ≡ true
-branch_ends s ms kept [] aim texts h = absurd h
-branch_ends s ms kept (Statement q ∷ cs) aim texts h = (typed_ends s ms kept cs aim).0
-branch_ends s ms kept (Call c ∷ cs) aim texts h = arrived_ends (is_line c.definition (line_from c.at aim)) s (world_at ms kept (Call c ∷ cs)) c.definition (line_from c.at aim) (first_map ms) (dressed (drop 1 ms) cs) texts
-branch_ends s ms kept (Execute q ∷ cs) aim texts h = branch_ends s ms kept cs aim texts h
+pub branch_ends : (s : State) (ms : List Map) (kept : Settings) (cs : List Context) (aim : Option ℕ) (lines : List OutLine) → IsThere cs → (applied s (branch_to (world_at ms kept cs) (dressed ms cs) aim lines)).ended ≡ true
+branch_ends s ms kept [] aim lines h = absurd h
+branch_ends s ms kept (Statement q ∷ cs) aim lines h = (typed_ends s ms kept cs aim).0
+branch_ends s ms kept (Call c ∷ cs) aim lines h = arrived_ends (is_line c.definition (line_from c.at aim)) s (world_at ms kept (Call c ∷ cs)) c.definition (line_from c.at aim) (first_map ms) (dressed (drop 1 ms) cs) lines
+branch_ends s ms kept (Execute q ∷ cs) aim lines h = branch_ends s ms kept cs aim lines h
 
-branch_goes_on : (s : State) (ms : List Map) (kept : Settings) (cs : List Context) (aim : Option ℕ) (texts : List Text) → IsStatement cs → false ≡ (applied s (branch_to (world_at ms kept cs) (dressed ms cs) aim texts)).stopped
-branch_goes_on s ms kept [] aim texts h = absurd h
-branch_goes_on s ms kept (Statement q ∷ cs) aim texts h = sym (typed_ends s ms kept cs aim).1
-branch_goes_on s ms kept (Call c ∷ cs) aim texts h = absurd h
-branch_goes_on s ms kept (Execute q ∷ cs) aim texts h = branch_goes_on s ms kept cs aim texts h
+branch_goes_on : (s : State) (ms : List Map) (kept : Settings) (cs : List Context) (aim : Option ℕ) (lines : List OutLine) → IsStatement cs → false ≡ (applied s (branch_to (world_at ms kept cs) (dressed ms cs) aim lines)).stopped
+branch_goes_on s ms kept [] aim lines h = absurd h
+branch_goes_on s ms kept (Statement q ∷ cs) aim lines h = sym (typed_ends s ms kept cs aim).1
+branch_goes_on s ms kept (Call c ∷ cs) aim lines h = absurd h
+branch_goes_on s ms kept (Execute q ∷ cs) aim lines h = branch_goes_on s ms kept cs aim lines h
 
-pub branch_goes : (s : Space) (aim : Option ℕ) (texts : List Text) → IsStatement s.contexts → false ≡ (branched_in s aim texts).stopped
-branch_goes s aim texts h = branch_goes_on (state_of s) s.maps s.kept s.contexts aim texts h
+pub branch_goes : (s : Space) (aim : Option ℕ) (lines : List OutLine) → IsStatement s.contexts → false ≡ (branched_in s aim lines).stopped
+branch_goes s aim lines h = branch_goes_on (state_of s) s.maps s.kept s.contexts aim lines h
 
-pub end_ends : (s : State) (ms : List Map) (kept : Settings) (cs : List Context) (texts : List Text) → executes cs ≡ false → is_some (line_in cs) ≡ true → (applied s (ended (world_at ms kept cs) (dressed ms cs) None texts)).ended ≡ true
-end_ends s ms kept [] texts b h = cc
-end_ends s ms kept (Statement q ∷ cs) texts b h = refl
-end_ends s ms kept (Call c ∷ cs) texts b h = arrived_ends (is_line c.definition (suc c.at)) s (world_at ms kept (Call c ∷ cs)) c.definition (suc c.at) (first_map ms) (dressed (drop 1 ms) cs) texts
-end_ends s ms kept (Execute q ∷ cs) texts b h = cc
+pub end_ends : (s : State) (ms : List Map) (kept : Settings) (cs : List Context) (lines : List OutLine) → executes cs ≡ false → is_some (line_in cs) ≡ true → (applied s (ended (world_at ms kept cs) (dressed ms cs) None lines)).ended ≡ true
+end_ends s ms kept [] lines b h = cc
+end_ends s ms kept (Statement q ∷ cs) lines b h = refl
+end_ends s ms kept (Call c ∷ cs) lines b h = arrived_ends (is_line c.definition (suc c.at)) s (world_at ms kept (Call c ∷ cs)) c.definition (suc c.at) (first_map ms) (dressed (drop 1 ms) cs) lines
+end_ends s ms kept (Execute q ∷ cs) lines b h = cc
 
-pub escape_ends : (s : State) (ms : List Map) (kept : Settings) (cs : List Context) (texts : List Text) → IsThere cs → ((applied s (escape_to (world_at ms kept cs) (dressed ms cs) texts)).stopped ≡ false) × ((applied s (escape_to (world_at ms kept cs) (dressed ms cs) texts)).ended ≡ true)
-escape_ends s ms kept [] texts h = absurd h
-escape_ends s ms kept (Statement q ∷ cs) texts h = (refl, refl)
-escape_ends s ms kept (Call c ∷ cs) texts h = (refl, refl)
-escape_ends s ms kept (Execute q ∷ cs) texts h = escape_ends s ms kept cs texts h
+pub escape_ends : (s : State) (ms : List Map) (kept : Settings) (cs : List Context) (lines : List OutLine) → IsThere cs → ((applied s (escape_to (world_at ms kept cs) (dressed ms cs) lines)).stopped ≡ false) × ((applied s (escape_to (world_at ms kept cs) (dressed ms cs) lines)).ended ≡ true)
+escape_ends s ms kept [] lines h = absurd h
+escape_ends s ms kept (Statement q ∷ cs) lines h = (refl, refl)
+escape_ends s ms kept (Call c ∷ cs) lines h = (refl, refl)
+escape_ends s ms kept (Execute q ∷ cs) lines h = escape_ends s ms kept cs lines h
 
 -- the end of a text that is executed ends no line
 pub answer_goes : (s : State) (ms : List Map) (kept : Settings) (cs : List Context) (value : Option Arr) → executes cs ≡ true → ((applied s (ended (world_at ms kept cs) (dressed ms cs) value [])).stopped ≡ false) × ((applied s (ended (world_at ms kept cs) (dressed ms cs) value [])).ended ≡ false)

@@ -1,7 +1,7 @@
 //! Branches, and `→` alone.
-ghost use Rattle.std.specs.Prelude.{◌≡◌, [], IfOk, IsSome, List, OnErr, OnOk, ℕ};
-ghost use Rattle.apl_machine_state.specs.Reports.{plain_lines};
+ghost use Rattle.std.specs.Prelude.{◌≡◌, [], IfOk, IsSome, List, OnErr, OnOk};
 ghost use Rattle.apl_contexts.specs.Contexts.{behind, line_in};
+ghost use Rattle.apl_machine_state.specs.declared.output.OutLine.{OutLine};
 ghost use Rattle.apl_order.specs.Kept.{IsKept};
 ghost use Rattle.apl_machine.specs.Spaces.{IsSound, IsStatement, branched_in, escaped_in, left_behind, state_of};
 
@@ -20,7 +20,7 @@ impl Workspace {
         requires kept { IsKept (state_of self.old) }
         requires statement { IsStatement self.old.contexts }
         ensures sound { IsSound self.new }
-        ensures ok { OnOk result ((texts : List (List ℕ)) → state_of self.new ≡ (branched_in self.old aim texts).state) }
+        ensures ok { OnOk result ((lines : List OutLine) → state_of self.new ≡ (branched_in self.old aim lines).state) }
         ensures err { OnErr result (self.new ≡ self.old) }
     {
         let Some(at) = aim else {
@@ -64,8 +64,8 @@ impl Workspace {
         requires kept { IsKept (state_of self.old) }
         requires runs { IsSome (line_in self.old.contexts) }
         ensures sound { IsSound self.new }
-        ensures ok { OnOk result ((texts : List (List ℕ)) → lines.items ≡ plain_lines texts → state_of self.new ≡ (branched_in self.old aim texts).state) }
-        ensures stopped { IfOk result (λ stopped. (texts : List (List ℕ)) → stopped ≡ (branched_in self.old aim texts).stopped) }
+        ensures ok { OnOk result (state_of self.new ≡ (branched_in self.old aim lines.items).state) }
+        ensures stopped { IfOk result (λ stopped. stopped ≡ (branched_in self.old aim lines.items).stopped) }
         ensures err { OnErr result (self.new ≡ self.old) }
     {
         if let Some(call) = self.contexts.call() {
@@ -108,7 +108,7 @@ impl Workspace {
         requires sound { IsSound self.old }
         requires runs { IsSome (line_in self.old.contexts) }
         ensures sound { IsSound self.new }
-        ensures ok { OnOk result ((texts : List (List ℕ)) → lines.items ≡ plain_lines texts → state_of self.new ≡ escaped_in self.old texts) }
+        ensures ok { OnOk result (state_of self.new ≡ escaped_in self.old lines.items) }
         ensures err { OnErr result (self.new ≡ self.old) }
     {
         self.output.append(&mut lines)?;

@@ -3,7 +3,7 @@ ghost use Rattle.std.specs.Prelude.{◌≡◌, ◌∷◌, [], true, IfOk, IfSome
 ghost use Rattle.apl_format.specs.Display.{display};
 ghost use Rattle.apl_vectors.specs.Vectors.{Vectors};
 ghost use Rattle.apl_machine_state.specs.declared.operand.Operand.TheVariants.{Value};
-ghost use Rattle.apl_machine_state.specs.Changes.{aim, leads_nowhere, line_number};
+ghost use Rattle.apl_machine_state.specs.Changes.{aim, leads_nowhere, line_number, shown_lines};
 ghost use Rattle.apl_machine_state.specs.Watching.{arrow, blank};
 ghost use Rattle.apl_operands.specs.Operands.{Offers, fetched_from};
 ghost use Rattle.apl_frames.specs.Ends.{HoldsValue, IsColumn, has_place, is_of_value};
@@ -22,7 +22,7 @@ use apl_contexts::{Context, Contexts};
 use apl_faults::Fault;
 use apl_format::display;
 use apl_frames::Stage;
-use apl_machine_state::OutLine;
+use apl_machine_state::{LineKind, OutLine};
 use apl_operands::{Operands, one_value};
 use apl_phrases::said;
 use apl_vectors::Vectors;
@@ -138,14 +138,14 @@ fn showing(
     contexts: &Contexts,
     value: &Array,
 ) -> Result<Departure, AllocError>
-    ensures { IfOk result (Leaves (finished (executes contexts.now) (Some value.now) (display value.now) blank (display value.now)) traces.now contexts.now) }
+    ensures { IfOk result (Leaves (finished (executes contexts.now) (Some value.now) (shown_lines value.now) blank (display value.now)) traces.now contexts.now) }
 {
     if executes(contexts) {
         let answer = Box::new(alloc, Some(value.copy()?))?;
         return Ok(Departure::Answers(answer));
     }
     let mark = [Ch::ascii(b' ')];
-    let mut lines = said(alloc, display(alloc, value)?)?;
+    let mut lines = said(alloc, LineKind::Shown, display(alloc, value)?)?;
     let mut traced = trace_value(alloc, traces, contexts.call(), &mark, value)?;
     lines.append(&mut traced)?;
     Ok(Departure::Ends(lines))

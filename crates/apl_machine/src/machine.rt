@@ -6,6 +6,7 @@ ghost use Rattle.apl_machine_state.specs.Environment.{class_of, rest_at};
 ghost use Rattle.apl_machine_state.specs.Frames.{IsFrame};
 ghost use Rattle.apl_machine_state.specs.Objects.{cleared, erased, globals, levels, vectors_of};
 ghost use Rattle.apl_machine_state.specs.State.{State, clear, definition_of, interrupt, is_global_variable, is_idle};
+ghost use Rattle.apl_machine_state.specs.Reports.{lines_of};
 ghost use Rattle.apl_machine_state.specs.State.{progress, step, steps, steps_progress, turn, value_of, with_function, with_lines};
 ghost use Rattle.apl_machine_state.specs.Beginning.{begun};
 ghost use Rattle.apl_order.specs.Kept.{IsKept};
@@ -25,7 +26,7 @@ use apl_contexts::{Contexts, Lines, TextLine, text_line};
 use apl_defn::Definition;
 use apl_faults::Fault;
 use apl_frames::Frame;
-use apl_machine_state::{Level, OutLine, Progress};
+use apl_machine_state::{Level, LineKind, OutLine, Progress};
 use apl_names::Names;
 use apl_phrases::said;
 use apl_symbols::{Class, Name};
@@ -38,9 +39,16 @@ use std::rc::Rc;
 use thiserror::Error;
 
 /// A workspace with what runs in it.
-#[derive(Drop)]
 pub struct Machine {
     pub(crate) workspace: Workspace,
+}
+
+// Written out, so that no crate above proves again what it does.
+impl Drop for Machine {
+    fn drop(self) {
+        let Machine { workspace } = self;
+        drop(workspace);
+    }
 }
 
 impl Model for Machine {
@@ -161,6 +169,7 @@ impl Machine {
     pub fn opens_no_definition(&self)
         ensures { self.now.definition ≡ None }
     {
+        // What a workspace keeps says it.
         let _workspace = &self.workspace;
     }
 
@@ -169,6 +178,7 @@ impl Machine {
     pub fn keeps_order(&self)
         ensures { IsKept self.now }
     {
+        // What a workspace keeps says it.
         let _workspace = &self.workspace;
     }
 
@@ -223,24 +233,21 @@ impl Machine {
         Ok(())
     }
 
-    /// Writes a line. After an error the machine is as before.
-    pub fn say(&mut self, line: Text) -> Result<(), AllocError>
-        ensures ok { OnOk result (self.new ≡ with_lines (line ∷ []) self.old) }
+    /// Writes a line of this kind. After an error the machine is as before.
+    pub fn say(&mut self, kind: LineKind, text: Text) -> Result<(), AllocError>
+        ensures ok { OnOk result (self.new ≡ with_lines (lines_of kind (text ∷ [])) self.old) }
         ensures err { OnErr result (self.new ≡ self.old) }
     {
-        self.workspace.output.push(OutLine {
-            text: line,
-            stop: false,
-        })?;
+        self.workspace.output.push(OutLine { text, kind })?;
         Ok(())
     }
 
-    /// Writes lines, all of them or none. After an error the machine is as before.
-    pub fn say_lines(&mut self, lines: Vec<Text>) -> Result<(), AllocError>
-        ensures ok { OnOk result (self.new ≡ with_lines lines.items self.old) }
+    /// Writes lines of this kind, all of them or none. After an error the machine is as before.
+    pub fn say_lines(&mut self, kind: LineKind, texts: Vec<Text>) -> Result<(), AllocError>
+        ensures ok { OnOk result (self.new ≡ with_lines (lines_of kind texts.items) self.old) }
         ensures err { OnErr result (self.new ≡ self.old) }
     {
-        let mut lines = said(self.workspace.alloc, lines)?;
+        let mut lines = said(self.workspace.alloc, kind, texts)?;
         self.workspace.output.append(&mut lines)?;
         Ok(())
     }

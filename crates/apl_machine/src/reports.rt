@@ -1,8 +1,7 @@
 //! Output lines.
 ghost use Rattle.std.specs.Prelude.{◌≡◌, ◌≢◌, ◌≤◌, ◌∷◌, [], IfOk, None, List};
-ghost use Rattle.apl_faults.specs.Report.{report};
 ghost use Rattle.apl_names.specs.Maps.{Map};
-ghost use Rattle.apl_machine_state.specs.Reports.{fault_lines, plain_lines};
+ghost use Rattle.apl_machine_state.specs.Reports.{fault_lines, report_lines};
 ghost use Rattle.apl_tokens.specs.Tokens.{IsPlaced};
 ghost use Rattle.apl_machine_state.specs.Beginning.{token_fault};
 ghost use Rattle.apl_frames.specs.Ends.{IsColumn};
@@ -12,7 +11,7 @@ ghost use Rattle.apl_contexts.specs.Stacks.{lent};
 use apl_charset::{Ch, Text};
 use apl_contexts::{Context, Stack};
 use apl_faults::{Call, Fault, report};
-use apl_machine_state::OutLine;
+use apl_machine_state::{LineKind, OutLine};
 use apl_phrases::said;
 use apl_tokens::TokenError;
 use std::alloc::{AllocError, Global};
@@ -25,9 +24,10 @@ pub fn typed_fault(
     column: usize,
 ) -> Result<Vec<OutLine>, AllocError>
     requires { (1 ≤ column) × (column ≤ 501) }
-    ensures { IfOk result (λ lines. lines.items ≡ plain_lines (report fault None text.now column)) }
+    ensures { IfOk result (λ lines. lines.items ≡ report_lines fault None text.now column) }
 {
-    said(alloc, report(alloc, fault, None, text, column)?)
+    let texts = report(alloc, fault, None, text, column)?;
+    said(alloc, LineKind::Report(fault), texts)
 }
 
 /// The report of a fault in the line of a context alone.
@@ -38,7 +38,7 @@ fn line_fault(
     column: usize,
 ) -> Result<Vec<OutLine>, AllocError>
     requires { IsColumn column }
-    ensures { IfOk result (λ lines. (ms : List Map) → lines.items ≡ plain_lines (fault_lines fault column (dressed ms (context.now ∷ [])))) }
+    ensures { IfOk result (λ lines. (ms : List Map) → lines.items ≡ fault_lines fault column (dressed ms (context.now ∷ []))) }
 {
     match context {
         Context::Statement(statement) => {
@@ -51,10 +51,8 @@ fn line_fault(
                 name: call.definition().header().name.as_slice(),
                 line: call.at(),
             };
-            said(
-                alloc,
-                report(alloc, fault, Some(place), call.text(), column)?,
-            )
+            let texts = report(alloc, fault, Some(place), call.text(), column)?;
+            said(alloc, LineKind::Report(fault), texts)
         }
     }
 }
@@ -69,7 +67,7 @@ pub fn context_fault(
 ) -> Result<Vec<OutLine>, AllocError>
     requires stacked { (p : Place) × AreStacked p (lent contexts) }
     requires column { IsColumn column }
-    ensures { IfOk result (λ lines. (ms : List Map) → lines.items ≡ plain_lines (fault_lines fault column (dressed ms (lent contexts.entry)))) }
+    ensures { IfOk result (λ lines. (ms : List Map) → lines.items ≡ fault_lines fault column (dressed ms (lent contexts.entry))) }
 {
     let Some((context, place)) = contexts.blamed(column) else {
         return Ok(Vec::new(alloc));
@@ -77,14 +75,14 @@ pub fn context_fault(
     line_fault(alloc, fault, context, place)
 }
 
-/// The report of a typed text that is no line; for want of memory there is none.
+/// The report of a typed text that is no line. One that was not read for an allocation that failed has none.
 pub fn token_fault(
     alloc: Global,
     error: TokenError,
     text: &[Ch],
 ) -> Result<Vec<OutLine>, AllocError>
     requires { IsPlaced error }
-    ensures lines { IfOk result (λ lines. lines.items ≡ plain_lines (token_fault text.now error)) }
+    ensures lines { IfOk result (λ lines. lines.items ≡ token_fault text.now error) }
     ensures memory { IfOk result (λ lines. error ≢ TokenError.Memory) }
 {
     match error {

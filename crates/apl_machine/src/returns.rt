@@ -65,6 +65,7 @@ pub(crate) fn returning(
     let Some(line) = newest_line(caller) else {
         unreachable!()
     };
+    // A line that stands is as its code says.
     let _lent = line.lend();
     if let Some(name) = answering(names, call) {
         return Ok((Return::Answers(name), Vec::new(alloc)));

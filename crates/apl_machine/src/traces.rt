@@ -4,7 +4,8 @@ ghost use Rattle.apl_arrays.specs.Cells.{Numbers};
 ghost use Rattle.apl_arrays.specs.Simple.{vector};
 ghost use Rattle.apl_faults.specs.Report.{place};
 ghost use Rattle.apl_format.specs.Display.{display};
-ghost use Rattle.apl_machine_state.specs.Reports.{plain_lines};
+ghost use Rattle.apl_machine_state.specs.declared.output.LineKind.TheVariants.{Trace};
+ghost use Rattle.apl_machine_state.specs.Reports.{lines_of};
 ghost use Rattle.apl_machine_state.specs.State.{stop_report};
 ghost use Rattle.apl_machine_state.specs.Watching.{behind, lines_array};
 ghost use Rattle.apl_machine.specs.inside.Traces.{AreFew, IsTraced, IsUntraced, trace_by};
@@ -15,7 +16,7 @@ use apl_contexts::Call;
 use apl_defn::Definition;
 use apl_faults::{Call as Place, place};
 use apl_format::display;
-use apl_machine_state::OutLine;
+use apl_machine_state::{LineKind, OutLine};
 use apl_phrases::said;
 use apl_vectors::Vectors;
 use std::alloc::{AllocError, Global};
@@ -42,7 +43,10 @@ pub(crate) fn stop_report(
     ensures { IfOk result (λ line. line ≡ stop_report definition.now at) }
 {
     let text = place_in(alloc, definition, at)?;
-    Ok(OutLine { text, stop: true })
+    Ok(OutLine {
+        text,
+        kind: LineKind::Stop,
+    })
 }
 
 /// The call, where there is one and its line is traced.
@@ -79,11 +83,11 @@ fn trace_call(
     mark: &[Ch],
     lines: Vec<Text>,
 ) -> Result<Vec<OutLine>, AllocError>
-    ensures { IfOk result (λ out. out.items ≡ plain_lines (behind (place (call.now.definition.header.name, call.now.at) ++ mark.now) lines.items)) }
+    ensures { IfOk result (λ out. out.items ≡ lines_of Trace (behind (place (call.now.definition.header.name, call.now.at) ++ mark.now) lines.items)) }
 {
     let mut front = place_in(alloc, call.definition(), call.at())?.into_chars();
     front.extend_from_slice(mark)?;
-    said(alloc, behind(front, lines)?)
+    said(alloc, LineKind::Trace, behind(front, lines)?)
 }
 
 /// What a line writes as it ends without a value, if it is that of a call and traced: its place and
@@ -94,7 +98,7 @@ pub(crate) fn trace(
     call: Option<&Call>,
     mark: &[Ch],
 ) -> Result<Vec<OutLine>, AllocError>
-    ensures { IfOk result (λ out. out.items ≡ plain_lines (trace_by traces.now (option_copied call.entry) mark.now [])) }
+    ensures { IfOk result (λ out. out.items ≡ trace_by traces.now (option_copied call.entry) mark.now []) }
 {
     match traced(traces, call) {
         Some(call) => trace_call(alloc, call, mark, Vec::new(alloc)),
@@ -111,7 +115,7 @@ pub(crate) fn trace_value(
     mark: &[Ch],
     value: &Array,
 ) -> Result<Vec<OutLine>, AllocError>
-    ensures { IfOk result (λ out. out.items ≡ plain_lines (trace_by traces.now (option_copied call.entry) mark.now (display value.now))) }
+    ensures { IfOk result (λ out. out.items ≡ trace_by traces.now (option_copied call.entry) mark.now (display value.now)) }
 {
     match traced(traces, call) {
         Some(call) => trace_call(alloc, call, mark, display(alloc, value)?),

@@ -13,6 +13,7 @@ use Rattle.apl_names.specs.Maps.{Map, map_of, said, value_in}
 use Rattle.apl_defn.specs.Definitions.{Text, Definition, line_of}
 use Rattle.apl_machine_state.specs.Items.{Item, Rest, fresh, answered}
 use Rattle.apl_machine_state.specs.Environment.{World, Context, Call, Scene, scalar, class_of, origin_name, index_origin, rest_of, with_rest}
+use Rattle.apl_machine_state.specs.declared.output.OutLine.{OutLine}
 use Rattle.apl_machine_state.specs.Reports.{fault_lines, abandoned}
 
 -- an argument's name stands for its value, or for none
@@ -57,7 +58,7 @@ begun_line w d n locals below = Call d n locals (begun_of w (Call d n locals Non
 -- contexts to which an answer has come, and what is then written
 pub record Answered : Type 0 where
   pub contexts : List Context
-  pub lines : List Text
+  pub lines : List OutLine
 
 -- without a value where one is wanted it is VALUE ERROR at the call
 abbrev pub answered_by : Context → List Context → Rest → Result (List Item) ℕ → Answered

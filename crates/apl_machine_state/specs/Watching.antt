@@ -10,7 +10,10 @@ use Rattle.apl_faults.specs.Report.{place}
 use Rattle.apl_names.specs.Maps.{function_in, last_map, said}
 use Rattle.apl_vectors.specs.Vectors.{has_line}
 use Rattle.apl_defn.specs.Definitions.{Text, Definition}
+use Rattle.apl_machine_state.specs.declared.output.LineKind.TheVariants.{Trace}
+use Rattle.apl_machine_state.specs.declared.output.OutLine.{OutLine}
 use Rattle.apl_machine_state.specs.Environment.{World, Context, Statement, Call, Execute, Scene}
+use Rattle.apl_machine_state.specs.Reports.{lines_of}
 
 -- a vector of line numbers as an array
 abbrev pub lines_array : List ℕ → Arr
@@ -45,11 +48,11 @@ behind front [] = front ∷ []
 behind front (line ∷ lines) = (front ++ line) ∷ lines
 
 -- what the line of the nearest statement or call writes as it ends, if it is traced: its place, this mark and these lines
-abbrev pub traced : World → List Context → Text → List Text → List Text
+abbrev pub traced : World → List Context → Text → List Text → List OutLine
 traced w [] mark lines = []
 traced w (Execute text rest ∷ below) mark lines = traced w below mark lines
 traced w (Statement text rest ∷ below) mark lines = []
-traced w (Call d n locals rest ∷ below) mark lines = if has_line d.header.name n w.traces then behind (place (d.header.name, n) ++ mark) lines else []
+traced w (Call d n locals rest ∷ below) mark lines = if has_line d.header.name n w.traces then lines_of Trace (behind (place (d.header.name, n) ++ mark) lines) else []
 
 -- the marks before a value and before where a branch goes
 abbrev pub blank : Text

@@ -10,6 +10,6 @@ mod watch;
 
 pub use level::Level;
 pub use operand::{Light, Operand, Slots};
-pub use output::{OutLine, Progress};
+pub use output::{LineKind, OutLine, Progress};
 pub use texts::colon_of;
 pub use watch::Watch;

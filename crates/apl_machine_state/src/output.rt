@@ -1,12 +1,28 @@
 //! What a machine writes and answers.
 
 use apl_charset::Text;
+use apl_faults::Fault;
 
-/// A line of output, and whether it reports a stop.
+/// What a line of output is.
+#[derive(Clone, Copy, PartialEq, Eq, Debug)]
+pub enum LineKind {
+    /// A value that a statement shows.
+    Shown,
+    /// What a line of a function whose number is in its trace vector came to.
+    Trace,
+    /// The report of a stop before a line.
+    Stop,
+    /// An answer to a command, or to a line of a definition.
+    Answer,
+    /// A line of the report of a fault.
+    Report(Fault),
+}
+
+/// A line of output, and what it is.
 #[derive(Drop)]
 pub struct OutLine {
     pub text: Text,
-    pub stop: bool,
+    pub kind: LineKind,
 }
 
 /// Where a machine stands after a step.

@@ -5,9 +5,10 @@ use Rattle.apl_arrays.specs.Cells.{Arr}
 use Rattle.apl_code.specs.declared.row.Ending.{Ending}
 use Rattle.apl_code.specs.declared.row.Ending.TheVariants.{Branch, Escape, Shown, Hidden, Nothing}
 use Rattle.apl_format.specs.Display.{display}
+use Rattle.apl_machine_state.specs.declared.output.OutLine.{OutLine}
 use Rattle.apl_machine_state.specs.declared.operand.Operand.{Operand}
 use Rattle.apl_machine_state.specs.declared.operand.Operand.TheVariants.{Value}
-use Rattle.apl_defn.specs.Definitions.{Text, is_line}
+use Rattle.apl_defn.specs.Definitions.{is_line}
 use Rattle.apl_machine_state.specs.Items.{Rest}
 use Rattle.apl_machine_state.specs.Environment.{World, Context, Statement, Call, Execute}
 use Rattle.apl_machine_state.specs.Watching.{arrow, traced}
@@ -27,7 +28,7 @@ keeps-if : (b : Bool) (x y : Change) → (b ≡ true → KeepsOrder x) → Keeps
 keeps-if true x y p q = p refl
 keeps-if false x y p q = q
 
-line-end-keeps : (w : World) (context : Context) (below : List Context) (value : Option Arr) (lines : List Text) → IsBelow context below → KeepsOrder (line_end w context below value lines)
+line-end-keeps : (w : World) (context : Context) (below : List Context) (value : Option Arr) (lines : List OutLine) → IsBelow context below → KeepsOrder (line_end w context below value lines)
 line-end-keeps w (Statement text rest) below value lines b = order-below text rest below b
 line-end-keeps w (Call d n locals rest) below value lines b = below-call d n locals rest below b
 line-end-keeps w (Execute text rest) below value lines b = given-order value below (below-execute text rest below b)
@@ -42,7 +43,7 @@ resumed-keeps w (Call d n locals rest ∷ below) (Some m) h =
     let p : ArePendent below = below-call d n locals rest below h.2 in
     keeps-if (is_line d m) _ _ (λ at. begun-order w d m locals below at p) (returned-order d locals below p)
 
-branch-to-keeps : (w : World) (context : Context) (below : List Context) (aim : Option ℕ) (lines : List Text) → IsBelow context below → KeepsOrder (branch_to w (context ∷ below) aim lines)
+branch-to-keeps : (w : World) (context : Context) (below : List Context) (aim : Option ℕ) (lines : List OutLine) → IsBelow context below → KeepsOrder (branch_to w (context ∷ below) aim lines)
 branch-to-keeps w (Statement text rest) below aim lines b = resumed-keeps w below aim (below-statement text rest below b)
 branch-to-keeps w (Call d n locals rest) below aim lines b = below-call d n locals rest below b
 branch-to-keeps w (Execute text rest) [] aim lines b = elim b [ ]
@@ -52,7 +53,7 @@ branch-keeps : (nowhere : Bool) (w : World) (context : Context) (below : List Co
 branch-keeps true w context below rest a at b = abandoned-order context below at b
 branch-keeps false w context below rest a at b = branch-to-keeps w context below (aim a.items) (traced w (context ∷ below) arrow (display a)) b
 
-escape-keeps : (w : World) (context : Context) (below : List Context) (lines : List Text) → IsBelow context below → KeepsOrder (escape_to w (context ∷ below) lines)
+escape-keeps : (w : World) (context : Context) (below : List Context) (lines : List OutLine) → IsBelow context below → KeepsOrder (escape_to w (context ∷ below) lines)
 escape-keeps w (Statement text rest) below lines b = behind-order (Unit {0}) IsSuspended below (below-statement text rest below b)
 escape-keeps w (Call d n locals rest) below lines b = behind-order ⊥ (HasHoles 1) below (below-call d n locals rest below b)
 escape-keeps w (Execute text rest) [] lines b = elim b [ ]

@@ -23,6 +23,7 @@ use Rattle.apl_names.specs.Maps.{Map, Text as Name, assigned, found, function_in
 use Rattle.apl_names.proofs.Texts.{same}
 use Rattle.apl_names.proofs.Maps.{said_with, with_map}
 use Rattle.apl_vectors.specs.Vectors.{Vectors, after_asking, has_line, vector_of, with_vector, without_vector}
+use Rattle.apl_machine_state.specs.declared.output.OutLine.{OutLine}
 use Rattle.apl_machine_state.specs.declared.operand.Operand.{Operand}
 use Rattle.apl_machine_state.specs.declared.operand.Operand.TheVariants.{Value}
 use Rattle.apl_machine_state.specs.declared.watch.Watch.TheVariants.{Stop, Trace}
@@ -144,7 +145,7 @@ KeepsAll stops (Arrives w d n locals below lines ended) = Keeps w stops below ×
 under-call : (d : Definition) (n : ℕ) (locals : Map) (rest : Option Rest) (below : List Context) → Fine (Call d n locals rest ∷ below) → CanBegin d locals below
 under-call d n locals rest below h = let few : suc (standing below) ≤ 256 = h.0 in record { few = omega arith; defined = h.1.0.0; is = h.1.0.1 }
 
-line-end-keeps : (w : World) (stops : Vectors) (context : Context) (below : List Context) (value : Option Arr) (lines : List Text) → Keeps w stops (context ∷ below) → KeepsAll stops (line_end w context below value lines)
+line-end-keeps : (w : World) (stops : Vectors) (context : Context) (below : List Context) (value : Option Arr) (lines : List OutLine) → Keeps w stops (context ∷ below) → KeepsAll stops (line_end w context below value lines)
 line-end-keeps w stops (Statement text rest) below value lines h = keeps-with w stops (Statement text rest ∷ below) below h (below-fine (Statement text rest) below (fine-of w stops _ h))
 line-end-keeps w stops (Call d n locals rest) below value lines h =
     (keeps-with w stops (Call d n locals rest ∷ below) below h (below-fine (Call d n locals rest) below (fine-of w stops _ h)), under-call d n locals rest below (fine-of w stops _ h))
@@ -165,7 +166,7 @@ resumed-keeps w stops (Call d n locals rest ∷ below) (Some m) h =
     let f = below-fine (Call d n locals rest) below all in
     keeps-if stops (is_line d m) _ _ (keeps-with w stops _ (begun_line w d m locals below) h (begun-fine w d m locals below c.few c.defined c.is f)) (keeps-with w stops _ (returned d locals below).contexts h (returned-fine d locals below f))
 
-branch-to-keeps : (w : World) (stops : Vectors) (contexts : List Context) (aim : Option ℕ) (lines : List Text) → Keeps w stops contexts → KeepsAll stops (branch_to w contexts aim lines)
+branch-to-keeps : (w : World) (stops : Vectors) (contexts : List Context) (aim : Option ℕ) (lines : List OutLine) → Keeps w stops contexts → KeepsAll stops (branch_to w contexts aim lines)
 branch-to-keeps w stops [] aim lines h = tt
 branch-to-keeps w stops (Statement text rest ∷ below) aim lines h = resumed-keeps w stops below aim (keeps-with w stops _ below h (below-fine (Statement text rest) below (fine-of w stops _ h)))
 branch-to-keeps w stops (Call d n locals rest ∷ below) aim lines h =
@@ -176,7 +177,7 @@ branch-keeps : (nowhere : Bool) (w : World) (stops : Vectors) (contexts : List C
 branch-keeps true w stops contexts rest a h = keeps-with w stops contexts (abandoned contexts) h (abandoned-fine contexts (fine-of w stops _ h))
 branch-keeps false w stops contexts rest a h = branch-to-keeps w stops contexts (aim a.items) (traced w contexts arrow (display a)) h
 
-escape-keeps : (w : World) (stops : Vectors) (contexts : List Context) (lines : List Text) → Keeps w stops contexts → KeepsAll stops (escape_to w contexts lines)
+escape-keeps : (w : World) (stops : Vectors) (contexts : List Context) (lines : List OutLine) → Keeps w stops contexts → KeepsAll stops (escape_to w contexts lines)
 escape-keeps w stops [] lines h = tt
 escape-keeps w stops (Statement text rest ∷ below) lines h = keeps-with w stops _ (behind_statement below) h (behind-fine below (below-fine (Statement text rest) below (fine-of w stops _ h)))
 escape-keeps w stops (Call d n locals rest ∷ below) lines h = keeps-with w stops _ (behind_statement below) h (behind-fine below (below-fine (Call d n locals rest) below (fine-of w stops _ h)))
@@ -297,11 +298,11 @@ change-keeps w stops (context ∷ below) h = change-in-keeps w stops context bel
 abbrev KeepsState : State → Type 0
 KeepsState s = Keeps s.world s.stops s.contexts
 
-comes-keeps : (b : Bool) (s : State) (w : World) (d : Definition) (n : ℕ) (locals : Map) (below : List Context) (lines : List Text) (ended : Bool) → Keeps w s.stops below → CanBegin d locals below → KeepsState (comes_to b s w d n locals below lines ended).state
+comes-keeps : (b : Bool) (s : State) (w : World) (d : Definition) (n : ℕ) (locals : Map) (below : List Context) (lines : List OutLine) (ended : Bool) → Keeps w s.stops below → CanBegin d locals below → KeepsState (comes_to b s w d n locals below lines ended).state
 comes-keeps true s w d n locals below lines ended h c = keeps-with w s.stops below _ h (stopped-fine d n locals below c.few c.defined c.is (fine-of w s.stops below h))
 comes-keeps false s w d n locals below lines ended h c = keeps-with w s.stops below _ h (begun-fine w d n locals below c.few c.defined c.is (fine-of w s.stops below h))
 
-arrived-keeps : (b : Bool) (s : State) (w : World) (d : Definition) (n : ℕ) (locals : Map) (below : List Context) (lines : List Text) (ended : Bool) → Keeps w s.stops below → CanBegin d locals below → KeepsState (arrived b s w d n locals below lines ended).state
+arrived-keeps : (b : Bool) (s : State) (w : World) (d : Definition) (n : ℕ) (locals : Map) (below : List Context) (lines : List OutLine) (ended : Bool) → Keeps w s.stops below → CanBegin d locals below → KeepsState (arrived b s w d n locals below lines ended).state
 arrived-keeps true s w d n locals below lines ended h c = comes-keeps (has_line d.header.name n s.stops) s w d n locals below lines ended h c
 arrived-keeps false s w d n locals below lines ended h c = keeps-with w s.stops below _ h (returned-fine d locals below (fine-of w s.stops below h))
 

@@ -7,6 +7,7 @@ use Rattle.apl_tokens.specs.declared.line.TokenError.{TokenError}
 use Rattle.apl_tokens.specs.Tokens.{tokens_of}
 use Rattle.apl_translate.specs.Phrase.{phrase}
 use Rattle.apl_translate.specs.Translation.{held, ending}
+use Rattle.apl_machine_state.specs.declared.output.OutLine.{OutLine}
 use Rattle.apl_machine_state.specs.declared.operand.Operand.{Operand}
 use Rattle.apl_machine_state.specs.declared.operand.Operand.TheVariants.{Value, Slots}
 use Rattle.apl_machine_state.specs.declared.watch.Watch.TheVariants.{Stop, Trace}
@@ -69,12 +70,12 @@ change-keeps w [] h = tt
 change-keeps w (context ∷ below) h = change-in-keeps w context below (rest_of context) h.1 h.0 h.2
 
 -- a call comes to a line of its definition, or returns
-comes-order : (stops : Bool) (s : State) (w : World) (d : Definition) (n : ℕ) (locals : Map) (below : List Context) (lines : List Text) (ended : Bool) →
+comes-order : (stops : Bool) (s : State) (w : World) (d : Definition) (n : ℕ) (locals : Map) (below : List Context) (lines : List OutLine) (ended : Bool) →
     is_line d n ≡ true → ArePendent below → AreInOrder (comes_to stops s w d n locals below lines ended).state.contexts
 comes-order true s w d n locals below lines ended at h = (at, tt, call-above d n locals None below h)
 comes-order false s w d n locals below lines ended at h = begun-order w d n locals below at h
 
-arrived-order : (b : Bool) (s : State) (w : World) (d : Definition) (n : ℕ) (locals : Map) (below : List Context) (lines : List Text) (ended : Bool) →
+arrived-order : (b : Bool) (s : State) (w : World) (d : Definition) (n : ℕ) (locals : Map) (below : List Context) (lines : List OutLine) (ended : Bool) →
     is_line d n ≡ b → ArePendent below → AreInOrder (arrived b s w d n locals below lines ended).state.contexts
 arrived-order true s w d n locals below lines ended at h = comes-order (has_line d.header.name n s.stops) s w d n locals below lines ended at h
 arrived-order false s w d n locals below lines ended at h = returned-order d locals below h

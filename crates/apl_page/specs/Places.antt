@@ -6,7 +6,11 @@ use Rattle.apl_workspace.specs.Numbers.{load_number}
 use Rattle.apl_workspace.specs.Refusals.{IsUnloaded}
 use Rattle.apl_workspace.specs.declared.error.LoadError.{LoadError}
 use Rattle.apl_workspace.specs.declared.error.LoadError.TheVariants as load
+use Rattle.apl_faults.specs.Report.{number_of}
 use Rattle.apl_kept.specs.Keeping.{BeginsWith, has_line_feed}
+use Rattle.apl_kept.specs.Standing.{told_of}
+use Rattle.apl_kept.specs.declared.standing.Told.{Told}
+use Rattle.apl_kept.specs.declared.standing.Told.TheVariants.{Fault}
 use Rattle.apl_page.specs.Spelling.{spelled, texts_of}
 
 -- a session's state, and what was spelled of what it wrote and nobody has taken
@@ -29,6 +33,15 @@ is_idle_at (Some k) = is_idle k.state
 abbrev pub next_line_at : Option Keeping → ℕ
 next_line_at None = 0
 next_line_at (Some k) = next_line k.state.definition
+
+-- the number of the fault that a session tells, 0 where it tells none
+abbrev pub told_fault : Told → ℕ
+told_fault (Fault fault) = number_of fault
+told_fault told = 0
+
+abbrev pub fault_at : Option Keeping → ℕ
+fault_at None = 0
+fault_at (Some k) = told_fault (told_of k.state)
 
 abbrev pub unsaid_at : Option Keeping → List ℕ
 unsaid_at None = []

@@ -7,7 +7,7 @@ ghost use Rattle.std.specs.Prelude.{◌≡◌, ◌≢◌, ◌⊎◌, ◌<◌, �
 ghost use Rattle.apl_machine_state.specs.State.{interrupt, steps};
 ghost use Rattle.apl_session.specs.Events.{typed};
 ghost use Rattle.apl_page.specs.Answers.{IsDue, IsFile, Reads, laid};
-ghost use Rattle.apl_page.specs.Places.{IsNumber, Opens, at, gathered, is_idle_at, line_number, next_line_at, session_number, taken, unsaid_at};
+ghost use Rattle.apl_page.specs.Places.{IsNumber, Opens, at, fault_at, gathered, is_idle_at, line_number, next_line_at, session_number, taken, unsaid_at};
 ghost use Rattle.apl_page.specs.Texts.{levels_bytes, listing_due, names_bytes};
 
 mod giving;
@@ -18,7 +18,7 @@ mod texts;
 
 use crate::giving::give;
 use crate::page::{Page, open_page};
-use crate::refusal::Refusal;
+use crate::refusal::{Refusal, told_fault};
 use crate::texts::{file_text, levels_text, listing_text, names_text};
 use std::alloc::Global;
 
@@ -107,6 +107,17 @@ pub fn page_next_line(place: &Option<Page>) -> usize
 {
     match place {
         Some(page) => page.kept.next_line(),
+        None => 0,
+    }
+}
+
+/// The number of the fault with which what was typed there has ended, from 1 to 12, as long as its report isn't gathered; else 0.
+#[inline(never)]
+pub fn page_fault(place: &Option<Page>) -> u32
+    ensures { result ≡ fault_at place.now }
+{
+    match place {
+        Some(page) => told_fault(page.kept.told()),
         None => 0,
     }
 }
@@ -201,6 +212,7 @@ fn main(rt: HostRuntime) {
     let defining = page_type(&mut place, "∇Z←F X".as_bytes());
     let line = page_next_line(&place);
     let left = page_interrupt(&mut place);
+    let fault = page_fault(&place);
     let gathered = page_gather(&mut place, &mut waiting);
     let taken = page_take(&mut place, &mut buffer);
     let is_idle = page_is_idle(&place);
@@ -209,6 +221,6 @@ fn main(rt: HostRuntime) {
     let stands = page_levels(&place, &mut buffer, &mut told);
     let saved = page_save(&place, &mut buffer, &mut told);
     let _ = println!(rt;
-        "{opened} {typed} {made} {defining} {line} {left} {gathered} {waiting} {taken} {is_idle} {named} {listed} {stands} {saved} {told}"
+        "{opened} {typed} {made} {defining} {line} {left} {fault} {gathered} {waiting} {taken} {is_idle} {named} {listed} {stands} {saved} {told}"
     );
 }

@@ -1,6 +1,9 @@
-//! What a call refuses.
+//! The numbers of what a call refuses, and of faults.
 ghost use Rattle.std.specs.Prelude.{◌≡◌};
 ghost use Rattle.apl_page.specs.Numbers.{refusal_number};
+ghost use Rattle.apl_page.specs.Places.{told_fault};
+
+use apl_kept::Told;
 
 /// Why a call gives nothing.
 #[derive(Clone, Copy, Debug, PartialEq, Eq)]
@@ -23,5 +26,15 @@ impl Refusal {
             Refusal::Running => 16,
             Refusal::NoFunction => 18,
         }
+    }
+}
+
+/// The number of the fault that a session tells, 0 where it tells none.
+pub(crate) fn told_fault(told: Told) -> u32
+    ensures { result ≡ told_fault told }
+{
+    match told {
+        Told::Fault(fault) => u32::from(fault.number()),
+        Told::Running | Told::Stopped | Told::Idle => 0,
     }
 }

@@ -41,6 +41,7 @@ fn waiting_line(
     } = rest;
     let bound = bind(alloc, tokens, classes.as_slice())?;
     let code = cache.translate(&bound)?.code;
+    // The items are those of a line, and the length says that the instructions are a code.
     let _items = bound.items();
     let _len = code.len();
     let line = FrameBuf::pendent(alloc, bound, code, done, operands)?;
@@ -168,6 +169,7 @@ fn open_scope(
 ) -> Result<(), AllocError>
     ensures { OnOk result (names.new ≡ map_of (map (λ l. (l.0, bound_to l.1)) locals.items ++ map label_of definition.now.labels) ∷ names.old) }
 {
+    // The header says that this is a definition, so its names differ.
     let _header = definition.header();
     names.open()?;
     bind_labels(names, definition.labels())?;

@@ -8,8 +8,7 @@ ghost use Rattle.apl_machine_state.specs.declared.operand.Operand.{Operand};
 ghost use Rattle.apl_code.specs.declared.row.Row.TheVariants.{Group};
 ghost use Rattle.apl_machine_state.specs.Environment as model;
 ghost use Rattle.apl_machine_state.specs.Outcomes.{Makes, outcome, shown, operand_value, of_result};
-ghost use Rattle.apl_format.specs.Display.{display};
-ghost use Rattle.apl_machine_state.specs.Reports.{plain_lines};
+ghost use Rattle.apl_machine_state.specs.Changes.{shown_lines};
 ghost use Rattle.apl_primitives.specs.Taken.{as_taken};
 ghost use Rattle.apl_primitives.specs.Values.{phrase_value};
 ghost use Rattle.apl_operands.specs.Operands.{Offers, fetched_from, one_value};
@@ -25,7 +24,7 @@ use apl_arrays::Array;
 use apl_code::{Action, Row, Source};
 use apl_faults::Fault;
 use apl_format::display;
-use apl_machine_state::{Operand, OutLine, Slots};
+use apl_machine_state::{LineKind, Operand, OutLine, Slots};
 use apl_operands::{Held, Operands, arguments, fetch, one_value};
 use apl_primitives::Arguments;
 use std::alloc::{AllocError, Global};
@@ -43,9 +42,9 @@ fn group(arguments: Arguments<'_>) -> Effect
 
 /// The lines that show a value.
 fn shown(alloc: Global, b: &Array) -> Result<Vec<OutLine>, AllocError>
-    ensures { IfOk result (λ lines. lines.items ≡ plain_lines (display b.now)) }
+    ensures { IfOk result (λ lines. lines.items ≡ shown_lines b.now) }
 {
-    said(alloc, display(alloc, b)?)
+    said(alloc, LineKind::Shown, display(alloc, b)?)
 }
 
 /// `⎕ ← B`

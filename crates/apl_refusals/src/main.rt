@@ -54,8 +54,8 @@ impl Wrong {
     /// Tells it on standard error.
     fn report<R: Eprint>(self, rt: &R) -> io::Result<()> {
         match self {
-            Wrong::Answered => eprintln!(rt; "the call is refused, and not for want of memory"),
-            Wrong::Refused => eprintln!(rt; "memory is wanting a second time"),
+            Wrong::Answered => eprintln!(rt; "the call is refused, and not because memory ran out"),
+            Wrong::Refused => eprintln!(rt; "memory runs out a second time"),
             Wrong::Changed(what) => eprintln!(rt; "the refused call has changed {what}"),
             Wrong::Strayed(what) => eprintln!(rt; "made again, the call gives another {what}"),
         }

@@ -9,10 +9,11 @@ use Rattle.apl_code.specs.declared.row.Ending.TheVariants.{Branch, Escape, Shown
 use Rattle.apl_translate.specs.Phrase.{phrase}
 use Rattle.apl_translate.specs.Translation.{held, ending}
 use Rattle.apl_tokens.specs.Tokens.{tokens_of}
-use Rattle.apl_defn.specs.Definitions.{Text, Definition, is_line, line_of}
+use Rattle.apl_defn.specs.Definitions.{Definition, is_line, line_of}
 use Rattle.apl_names.specs.declared.binding.Binding.TheVariants as bindings
 use Rattle.apl_names.specs.Maps.{Map, assigned}
 use Rattle.apl_vectors.specs.Vectors.{has_line, vector_of}
+use Rattle.apl_machine_state.specs.declared.output.OutLine.{OutLine}
 use Rattle.apl_machine_state.specs.declared.operand.Operand.{Operand}
 use Rattle.apl_machine_state.specs.declared.operand.Operand.TheVariants.{Value, Slots}
 use Rattle.apl_machine_state.specs.declared.watch.Watch.TheVariants.{Stop, Trace}
@@ -22,7 +23,7 @@ use Rattle.apl_machine_state.specs.Reports.{abandoned}
 use Rattle.apl_machine_state.specs.Watching.{arrow, blank, lines_array, traced}
 use Rattle.apl_machine_state.specs.Calls.{begun_line, answered_by, answered_in, given_to, result_of}
 use Rattle.apl_machine_state.specs.Outcomes.{Outcome, Becomes, Makes, Writes, Assigns, SetsOrigin, Enters, Watches, Faults}
-use Rattle.apl_machine_state.specs.Changes.{Change, Rests, Moves, Asks, Arrives, rebinds, change_by, line_end, leads_nowhere, aim, returns, resumed, branch_to, branch, escape_to, change_at_end, change_of, change_in, change}
+use Rattle.apl_machine_state.specs.Changes.{Change, Rests, Moves, Asks, Arrives, rebinds, change_by, line_end, leads_nowhere, aim, returns, resumed, branch_to, branch, escape_to, change_at_end, change_of, change_in, change, shown_lines}
 use Rattle.apl_machine_state.specs.State.{State, applied, arrived, comes_to}
 use Rattle.apl_resume.specs.Cut.{is_quiet}
 use Rattle.apl_resume.specs.Quiet.{IsCleanFunction, IsCleanMap, AreClean, IsCleanRest, IsCleanContext, AreCleanContexts, IsClean}
@@ -106,7 +107,7 @@ change_by-clean w context below rest n r (Faults fault) g c b h o = (g, abandone
 change_by-clean w context below rest n r other g c b h o = absurd o
 
 -- a line ends
-line_end-clean : (w : World) (context : Context) (below : List Context) (value : Option Arr) (lines : List Text) → IsCleanMap w.globals → IsCleanContext context → AreCleanContexts below → IsCleanChange (line_end w context below value lines)
+line_end-clean : (w : World) (context : Context) (below : List Context) (value : Option Arr) (lines : List OutLine) → IsCleanMap w.globals → IsCleanContext context → AreCleanContexts below → IsCleanChange (line_end w context below value lines)
 line_end-clean w (Statement text rest) below value lines g c b = (g, b)
 line_end-clean w (Call d n locals rest) below value lines g c b = (g, c.0, c.1, b)
 line_end-clean w (Execute text rest) below value lines g c b = (g, given-clean value below b)
@@ -117,7 +118,7 @@ resumed-clean w (Call d n locals rest ∷ below) (Some m) g h =
     (g, begun_line-clean w d m locals below h.0.0 h.0.1 h.1) (g, given-clean (result_of d.header.result locals) below h.1)
 resumed-clean w contexts aim g h = (g, h)
 
-branch_to-clean : (w : World) (contexts : List Context) (aim : Option ℕ) (lines : List Text) → IsCleanMap w.globals → AreCleanContexts contexts → IsCleanChange (branch_to w contexts aim lines)
+branch_to-clean : (w : World) (contexts : List Context) (aim : Option ℕ) (lines : List OutLine) → IsCleanMap w.globals → AreCleanContexts contexts → IsCleanChange (branch_to w contexts aim lines)
 branch_to-clean w [] aim lines g h = tt
 branch_to-clean w (Statement text rest ∷ below) aim lines g h = resumed-clean w below aim g h.1
 branch_to-clean w (Call d n locals rest ∷ below) aim lines g h = (g, h.0.0, h.0.1, h.1)
@@ -127,7 +128,7 @@ branch-clean : (nowhere : Bool) (w : World) (contexts : List Context) (rest : Re
 branch-clean true w contexts rest a g h = (g, abandoned-clean contexts h)
 branch-clean false w contexts rest a g h = branch_to-clean w contexts (aim a.items) (traced w contexts arrow (display a)) g h
 
-escape_to-clean : (w : World) (contexts : List Context) (lines : List Text) → IsCleanMap w.globals → AreCleanContexts contexts → IsCleanChange (escape_to w contexts lines)
+escape_to-clean : (w : World) (contexts : List Context) (lines : List OutLine) → IsCleanMap w.globals → AreCleanContexts contexts → IsCleanChange (escape_to w contexts lines)
 escape_to-clean w [] lines g h = tt
 escape_to-clean w (Statement text rest ∷ below) lines g h = (g, behind-clean below h.1)
 escape_to-clean w (Call d n locals rest ∷ below) lines g h = (g, behind-clean below h.1)
@@ -136,7 +137,7 @@ escape_to-clean w (Execute text rest ∷ below) lines g h = escape_to-clean w be
 at_end-clean : (w : World) (context : Context) (below : List Context) (rest : Rest) (end : Ending) (values : List (Option Operand)) → IsCleanMap w.globals → IsCleanContext context → AreCleanContexts below → IsCleanChange (change_at_end w context below rest end values)
 at_end-clean w context below rest Nothing values g c b = line_end-clean w context below None (traced w (context ∷ below) [] []) g c b
 at_end-clean w context below rest Hidden (Some (Value a) ∷ []) g c b = line_end-clean w context below (Some a) (traced w (context ∷ below) blank (display a)) g c b
-at_end-clean w context below rest Shown (Some (Value a) ∷ []) g c b = line_end-clean w context below (Some a) (display a ++ traced w (context ∷ below) blank (display a)) g c b
+at_end-clean w context below rest Shown (Some (Value a) ∷ []) g c b = line_end-clean w context below (Some a) (shown_lines a ++ traced w (context ∷ below) blank (display a)) g c b
 at_end-clean w context below rest Branch (Some (Value a) ∷ []) g c b = branch-clean (leads_nowhere a.items) w (context ∷ below) rest a g (c, b)
 at_end-clean w context below rest Escape values g c b = escape_to-clean w (context ∷ below) (traced w (context ∷ below) arrow []) g (c, b)
 at_end-clean w context below rest end values g c b = (g, abandoned-clean (context ∷ below) (c, b))
@@ -156,12 +157,12 @@ change-clean : (w : World) (contexts : List Context) → IsCleanMap w.globals �
 change-clean w [] g h = tt
 change-clean w (context ∷ below) g h = change_in-clean w context below (rest_of context) g h.0 h.1 (rest-clean context h.0)
 
-comes-clean : (b : Bool) (s : State) (w : World) (d : Definition) (n : ℕ) (locals : Map) (below : List Context) (lines : List Text) (ended : Bool) →
+comes-clean : (b : Bool) (s : State) (w : World) (d : Definition) (n : ℕ) (locals : Map) (below : List Context) (lines : List OutLine) (ended : Bool) →
     IsCleanMap w.globals → IsCleanFunction d → IsCleanMap locals → AreCleanContexts below → IsClean (comes_to b s w d n locals below lines ended).state
 comes-clean true s w d n locals below lines ended g f l h = record { globals = g; contexts = ((f, l, tt), h) }
 comes-clean false s w d n locals below lines ended g f l h = record { globals = g; contexts = begun_line-clean w d n locals below f l h }
 
-arrived-clean : (b : Bool) (s : State) (w : World) (d : Definition) (n : ℕ) (locals : Map) (below : List Context) (lines : List Text) (ended : Bool) →
+arrived-clean : (b : Bool) (s : State) (w : World) (d : Definition) (n : ℕ) (locals : Map) (below : List Context) (lines : List OutLine) (ended : Bool) →
     IsCleanMap w.globals → IsCleanFunction d → IsCleanMap locals → AreCleanContexts below → IsClean (arrived b s w d n locals below lines ended).state
 arrived-clean true s w d n locals below lines ended g f l h = comes-clean (has_line d.header.name n s.stops) s w d n locals below lines ended g f l h
 arrived-clean false s w d n locals below lines ended g f l h = record { globals = g; contexts = given-clean (result_of d.header.result locals) below h }

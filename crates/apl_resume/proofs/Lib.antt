@@ -1,4 +1,5 @@
 pub mod Output
+pub mod Plain
 pub mod Typing
 pub mod Resuming
 pub mod Stops

@@ -1,20 +1,22 @@
 -- A run that is cut at its stops does what the same run does without them.
 use Rattle.std.proofs.Common.{◌≡◌, ℕ, zero, suc, ◌+◌, ◌≤◌, List, [], ◌∷◌, ◌++◌, Bool, true, false, Option, Some, None, arith, ap, ◌∙◌, sym, refl, subst, ◌⊎◌, inl, inr}
 use Rattle.std.specs.Prelude.{if◌then◌else◌, not, ◌&&◌}
-use Rattle.apl_defn.specs.Definitions.{Text, Definition, is_line}
+use Rattle.apl_defn.specs.Definitions.{Definition, is_line}
+use Rattle.apl_faults.specs.declared.fault.Fault.TheVariants.{Interrupt}
 use Rattle.apl_names.specs.Maps.{Map}
 use Rattle.apl_vectors.specs.Vectors.{Vectors, after_asking, has_line, vector_of}
 use Rattle.apl_machine_state.specs.declared.output.OutLine.{OutLine}
 use Rattle.apl_machine_state.specs.declared.watch.Watch.TheVariants.{Stop, Trace}
 use Rattle.apl_machine_state.specs.Items.{Rest}
 use Rattle.apl_machine_state.specs.Watching.{lines_array}
-use Rattle.apl_machine_state.specs.Environment.{World, Context, is_idle_in, is_suspended, rest_of}
+use Rattle.apl_machine_state.specs.Environment.{World, Context, is_idle_in, is_suspended, nearest, rest_of}
 use Rattle.apl_machine_state.specs.Reports.{abandoned}
-use Rattle.apl_machine_state.specs.Calls.{begun_line, returned}
+use Rattle.apl_machine_state.specs.Calls.{begun_line, result_of, returned}
 use Rattle.apl_machine_state.specs.Changes.{Change, Rests, Moves, Asks, Arrives, change, change_in}
-use Rattle.apl_machine_state.specs.State.{State, Turn, turn, step, steps, is_idle, interrupt, interrupted, moved, comes_to, arrived, applied, stop_report}
+use Rattle.apl_machine_state.specs.State.{State, Turn, turn, step, steps, is_idle, interrupt, interrupted, moved, comes_to, arrived, applied}
 use Rattle.apl_resume.specs.Cut.{free, resumed, after_stop, cut_steps, stops_in, is_quiet, IsQuietRun, is_named_by, named_in, moves, count}
-use Rattle.apl_resume.proofs.Output.{plain-more, plain-stop}
+use Rattle.apl_resume.proofs.Output.{IsPlain, plain-both, plain-more, plain-stop}
+use Rattle.apl_resume.proofs.Plain.{IsPlainChange, change-plain, fault-plain, given-plain}
 use Rattle.apl_resume.proofs.Resuming.{IsResumed, gone_on, resumed-by}
 
 -- a step's state, where the newest call begins the line of a stop
@@ -24,33 +26,35 @@ going t = if t.stopped then gone_on t.state else t.state
 abbrev freed : State → World → List Context → List OutLine → State
 freed s w contexts output = record { world = w; stops = []; contexts = contexts; definition = s.definition; output = output }
 
-moved-free : (s : State) (w : World) (contexts : List Context) (lines : List Text) (ended : Bool) → free (moved s w contexts lines ended).state ≡ (moved (free s) w contexts lines ended).state
-moved-free s w contexts lines ended = ap (freed s w contexts) (plain-more s.output lines)
+moved-free : (s : State) (w : World) (contexts : List Context) (lines : List OutLine) (ended : Bool) → IsPlain lines → free (moved s w contexts lines ended).state ≡ (moved (free s) w contexts lines ended).state
+moved-free s w contexts lines ended h = ap (freed s w contexts) (plain-more s.output lines h)
 
-comes-free : (b : Bool) (s : State) (w : World) (d : Definition) (n : ℕ) (locals : Map) (below : List Context) (lines : List Text) (ended : Bool) →
-    free (going (comes_to b s w d n locals below lines ended)) ≡ (comes_to false (free s) w d n locals below lines ended).state
-comes-free true s w d n locals below lines ended = ap (freed s w (begun_line w d n locals below)) (plain-stop s.output lines (stop_report d n).text)
-comes-free false s w d n locals below lines ended = moved-free s w (begun_line w d n locals below) lines ended
+comes-free : (b : Bool) (s : State) (w : World) (d : Definition) (n : ℕ) (locals : Map) (below : List Context) (lines : List OutLine) (ended : Bool) →
+    IsPlain lines → free (going (comes_to b s w d n locals below lines ended)) ≡ (comes_to false (free s) w d n locals below lines ended).state
+comes-free true s w d n locals below lines ended h = ap (freed s w (begun_line w d n locals below)) (plain-stop s.output lines d n h)
+comes-free false s w d n locals below lines ended h = moved-free s w (begun_line w d n locals below) lines ended h
 
-arrived-free : (b : Bool) (s : State) (w : World) (d : Definition) (n : ℕ) (locals : Map) (below : List Context) (lines : List Text) (ended : Bool) →
-    free (going (arrived b s w d n locals below lines ended)) ≡ (arrived b (free s) w d n locals below lines ended).state
-arrived-free true s w d n locals below lines ended = comes-free (has_line d.header.name n s.stops) s w d n locals below lines ended
-arrived-free false s w d n locals below lines ended = moved-free s w (returned d locals below).contexts (lines ++ (returned d locals below).lines) ended
+arrived-free : (b : Bool) (s : State) (w : World) (d : Definition) (n : ℕ) (locals : Map) (below : List Context) (lines : List OutLine) (ended : Bool) →
+    IsPlain lines → free (going (arrived b s w d n locals below lines ended)) ≡ (arrived b (free s) w d n locals below lines ended).state
+arrived-free true s w d n locals below lines ended h = comes-free (has_line d.header.name n s.stops) s w d n locals below lines ended h
+arrived-free false s w d n locals below lines ended h =
+    let back = returned d locals below in
+    moved-free s w back.contexts (lines ++ back.lines) ended (plain-both lines back.lines h (given-plain below (result_of d.header.result locals)))
 
 -- One change, on a state with stops and on the same state without: where it stops, going on gives the other state.
-applied-free : (s : State) (c : Change) → is_quiet c ≡ true → free (going (applied s c)) ≡ (applied (free s) c).state
-applied-free s Rests q = refl
-applied-free s (Moves w contexts lines ended) q = moved-free s w contexts lines ended
-applied-free s (Asks Stop w name lines given) q = cc
-applied-free s (Asks Trace w name lines given) q = moved-free s (record w { traces = after_asking name lines w.traces }) (given (lines_array (vector_of name w.traces))) [] false
-applied-free s (Arrives w d n locals below lines ended) q = arrived-free (is_line d n) s w d n locals below lines ended
+applied-free : (s : State) (c : Change) → IsPlainChange c → is_quiet c ≡ true → free (going (applied s c)) ≡ (applied (free s) c).state
+applied-free s Rests p q = refl
+applied-free s (Moves w contexts lines ended) p q = moved-free s w contexts lines ended p
+applied-free s (Asks Stop w name lines given) p q = cc
+applied-free s (Asks Trace w name lines given) p q = moved-free s (record w { traces = after_asking name lines w.traces }) (given (lines_array (vector_of name w.traces))) [] false refl
+applied-free s (Arrives w d n locals below lines ended) p q = arrived-free (is_line d n) s w d n locals below lines ended p
 
-comes-keeps : (b : Bool) (s : State) (w : World) (d : Definition) (n : ℕ) (locals : Map) (below : List Context) (lines : List Text) (ended : Bool) →
+comes-keeps : (b : Bool) (s : State) (w : World) (d : Definition) (n : ℕ) (locals : Map) (below : List Context) (lines : List OutLine) (ended : Bool) →
     ((going (comes_to b s w d n locals below lines ended)).definition ≡ s.definition) × ((going (comes_to b s w d n locals below lines ended)).stops ≡ s.stops)
 comes-keeps true s w d n locals below lines ended = (refl, refl)
 comes-keeps false s w d n locals below lines ended = (refl, refl)
 
-arrived-keeps : (b : Bool) (s : State) (w : World) (d : Definition) (n : ℕ) (locals : Map) (below : List Context) (lines : List Text) (ended : Bool) →
+arrived-keeps : (b : Bool) (s : State) (w : World) (d : Definition) (n : ℕ) (locals : Map) (below : List Context) (lines : List OutLine) (ended : Bool) →
     ((going (arrived b s w d n locals below lines ended)).definition ≡ s.definition) × ((going (arrived b s w d n locals below lines ended)).stops ≡ s.stops)
 arrived-keeps true s w d n locals below lines ended = comes-keeps (has_line d.header.name n s.stops) s w d n locals below lines ended
 arrived-keeps false s w d n locals below lines ended = (refl, refl)
@@ -63,12 +67,12 @@ applied-keeps s (Asks Stop w name lines given) q = cc
 applied-keeps s (Asks Trace w name lines given) q = (refl, refl)
 applied-keeps s (Arrives w d n locals below lines ended) q = arrived-keeps (is_line d n) s w d n locals below lines ended
 
-comes-resumed : (b : Bool) (s : State) (w : World) (d : Definition) (n : ℕ) (locals : Map) (below : List Context) (lines : List Text) (ended : Bool) →
+comes-resumed : (b : Bool) (s : State) (w : World) (d : Definition) (n : ℕ) (locals : Map) (below : List Context) (lines : List OutLine) (ended : Bool) →
     is_line d n ≡ true → s.definition ≡ None → (comes_to b s w d n locals below lines ended).stopped ≡ true → IsResumed (comes_to b s w d n locals below lines ended).state
 comes-resumed true s w d n locals below lines ended h none stops = resumed-by s.definition none w s.stops d n locals below _ h
 comes-resumed false s w d n locals below lines ended h none stops = cc
 
-arrived-resumed : (b : Bool) (s : State) (w : World) (d : Definition) (n : ℕ) (locals : Map) (below : List Context) (lines : List Text) (ended : Bool) →
+arrived-resumed : (b : Bool) (s : State) (w : World) (d : Definition) (n : ℕ) (locals : Map) (below : List Context) (lines : List OutLine) (ended : Bool) →
     is_line d n ≡ b → s.definition ≡ None → (arrived b s w d n locals below lines ended).stopped ≡ true → IsResumed (arrived b s w d n locals below lines ended).state
 arrived-resumed true s w d n locals below lines ended h none stops = comes-resumed (has_line d.header.name n s.stops) s w d n locals below lines ended h none stops
 arrived-resumed false s w d n locals below lines ended h none stops = cc
@@ -134,7 +138,7 @@ matches s (inl none) q =
     let goes : after_stop (turn s) ≡ going (turn s) = goes_on (turn s).stopped (turn s).state (turn-resumed s (inl none)) in
     let keeps : ((going (applied s c)).definition ≡ s.definition) × ((going (applied s c)).stops ≡ s.stops) = applied-keeps s c q in
     record {
-      same = ap free goes ∙ applied-free s c q;
+      same = ap free goes ∙ applied-free s c (change-plain s.world s.contexts) q;
       ready = inl (ap (λ (t : State). t.definition) goes ∙ keeps.0 ∙ none);
       stops = ap (λ (t : State). t.stops) goes ∙ keeps.1;
     }
@@ -153,11 +157,11 @@ cut-free (suc n) s ready q =
     let m : StepMatches s = matches s ready q.0 in
     cut-free n (after_stop (turn s)) m.ready (subst (IsQuietRun n) (sym m.same) q.1) ∙ ap (steps n) m.same
 
-comes-stops : (b : Bool) (s : State) (w : World) (d : Definition) (n : ℕ) (locals : Map) (below : List Context) (lines : List Text) (ended : Bool) → (comes_to b s w d n locals below lines ended).stopped ≡ b
+comes-stops : (b : Bool) (s : State) (w : World) (d : Definition) (n : ℕ) (locals : Map) (below : List Context) (lines : List OutLine) (ended : Bool) → (comes_to b s w d n locals below lines ended).stopped ≡ b
 comes-stops true s w d n locals below lines ended = refl
 comes-stops false s w d n locals below lines ended = refl
 
-arrived-stops : (b : Bool) (s : State) (w : World) (d : Definition) (n : ℕ) (locals : Map) (below : List Context) (lines : List Text) (ended : Bool) →
+arrived-stops : (b : Bool) (s : State) (w : World) (d : Definition) (n : ℕ) (locals : Map) (below : List Context) (lines : List OutLine) (ended : Bool) →
     (arrived b s w d n locals below lines ended).stopped ≡ (b && has_line d.header.name n s.stops)
 arrived-stops true s w d n locals below lines ended = comes-stops (has_line d.header.name n s.stops) s w d n locals below lines ended
 arrived-stops false s w d n locals below lines ended = refl
@@ -202,7 +206,7 @@ stops-most (suc n) s ready q =
 
 interrupted-free : (b : Bool) (s : State) → free (interrupted b s) ≡ interrupted b (free s)
 interrupted-free true s = refl
-interrupted-free false s = ap (freed s s.world (abandoned s.contexts)) (plain-more s.output _)
+interrupted-free false s = ap (freed s s.world (abandoned s.contexts)) (plain-more s.output _ (fault-plain Interrupt 1 (nearest s.contexts)))
 
 pub interrupt-free : (s : State) → free (interrupt s) ≡ interrupt (free s)
 interrupt-free s = interrupted-free (is_idle s) s

@@ -4,29 +4,32 @@ use Rattle.std.specs.Prelude.{if◌then◌else◌, Result, Ok, Err, ◌==◌}
 use Rattle.std.specs.Str.{bytes_eq}
 use Rattle.apl_charset.specs.Decoding.{decoded}
 use Rattle.apl_faults.specs.declared.fault.Fault.{Fault}
-use Rattle.apl_faults.specs.declared.fault.Fault.TheVariants.{Character, Command as CommandFault, Defn}
-use Rattle.apl_faults.specs.Report.{name_of}
+use Rattle.apl_faults.specs.declared.fault.Fault.TheVariants.{Character, Command as CommandFault, Defn, Syntax}
+use Rattle.apl_faults.specs.Report.{name_of, report}
 use Rattle.apl_defn.specs.declared.error.DefnError.{DefnError}
 use Rattle.apl_defn.specs.Blanks.{trimmed}
 use Rattle.apl_defn.specs.Definitions.{Text, Header, Definition}
 use Rattle.apl_defn.specs.Defining.{defined_of}
+use Rattle.apl_defn.specs.Listing.{listed}
 use Rattle.apl_defn.specs.Reading.{header_of}
 use Rattle.apl_tokens.specs.declared.token.Token.{Token}
 use Rattle.apl_tokens.specs.declared.line.TokenError.{TokenError}
 use Rattle.apl_tokens.specs.Tokens.{tokens_of}
 use Rattle.apl_vectors.specs.Vectors.{without_vector}
+use Rattle.apl_machine_state.specs.declared.output.LineKind.TheVariants.{Answer, Report}
 use Rattle.apl_machine_state.specs.declared.output.OutLine.{OutLine}
+use Rattle.apl_machine_state.specs.Reports.{lines_of, report_lines}
 use Rattle.apl_machine_state.specs.State.{State, is_idle, is_global_variable, definition_of, with_function, with_lines}
-use Rattle.apl_machine_state.specs.Beginning.{begun, begun_by, started, token_fault}
-use Rattle.apl_machine_state.specs.Texts.{colon_of}
+use Rattle.apl_machine_state.specs.Beginning.{begun, begun_by, reported, started, token_fault}
+use Rattle.apl_machine_state.specs.Texts.{colon_of, column_of, fault_of}
 use Rattle.apl_machine_state.specs.Objects.{cleared, erased, without_global}
 use Rattle.apl_session.specs.declared.commands.Command.{Command}
 use Rattle.apl_session.specs.declared.commands.Command.TheVariants.{StateIndicator, Functions, Variables, Erase, Clear}
 use Rattle.apl_session.specs.Commands.{before_blank, command_of, erasing, from_blank, names_in, obeyed, ordered, words_of}
-use Rattle.apl_session.specs.Defining.{added, behind_mark, closed, defined_by, del, kept, opened, opened_by, refused, shown, shown_name, shown_or_opened}
+use Rattle.apl_session.specs.Defining.{added, answered, behind_mark, closed, defined_by, del, kept, opened, opened_by, refused, shown, shown_name, shown_or_opened}
 use Rattle.apl_session.specs.Events.{first_mark, typed, typed_as, typed_behind, typed_in}
 use Rattle.apl_resume.specs.Cut.{free}
-use Rattle.apl_resume.proofs.Output.{plain-more}
+use Rattle.apl_resume.proofs.Output.{IsPlain, plain-more, plain-of}
 
 -- A line makes t of an idle state x, and u of that state freed, at once: nothing runs then.
 pub record IsDone (x t u : State) : Type 0 where
@@ -43,14 +46,21 @@ either R false p q = q
 abbrev with_output : State → List OutLine → State
 with_output s output = record { world = s.world; stops = []; contexts = s.contexts; definition = s.definition; output = output }
 
-says : (x : State) (lines : List Text) → is_idle x ≡ true → IsDone x (with_lines lines x) (with_lines lines (free x))
-says x lines idle = record { freed = ap (with_output x) (plain-more x.output lines); idle = idle; emptied = λ e. e }
+says : (x : State) (lines : List OutLine) → IsPlain lines → is_idle x ≡ true → IsDone x (with_lines lines x) (with_lines lines (free x))
+says x lines plain idle = record { freed = ap (with_output x) (plain-more x.output lines plain); idle = idle; emptied = λ e. e }
+
+answers : (x : State) (texts : List Text) → is_idle x ≡ true → IsDone x (answered texts x) (answered texts (free x))
+answers x texts idle = says x (lines_of Answer texts) (plain-of Answer texts refl) idle
 
 refuses : (x : State) (fault : Fault) → is_idle x ≡ true → IsDone x (refused x fault) (refused (free x) fault)
-refuses x fault idle = says x (name_of fault ∷ []) idle
+refuses x fault idle = says x (lines_of (Report fault) (name_of fault ∷ [])) (plain-of (Report fault) (name_of fault ∷ []) refl) idle
 
 refuses_closed : (x : State) (fault : Fault) → is_idle x ≡ true → IsDone x (refused (closed x) fault) (refused (closed (free x)) fault)
-refuses_closed x fault idle = record { freed = ap (with_output (closed x)) (plain-more x.output (name_of fault ∷ [])); idle = idle; emptied = λ e. e }
+refuses_closed x fault idle = record {
+  freed = ap (with_output (closed x)) (plain-more x.output (lines_of (Report fault) (name_of fault ∷ [])) (plain-of (Report fault) (name_of fault ∷ []) refl));
+  idle = idle;
+  emptied = λ e. e;
+}
 
 opens : (x : State) (lines : List Text) → is_idle x ≡ true → IsDone x (opened lines x) (opened lines (free x))
 opens x lines idle = record { freed = refl; idle = idle; emptied = λ e. e }
@@ -67,7 +77,7 @@ added_done x lines line idle = either (IsDone x) (bytes_eq line del) (defined_do
 
 shown_done : (x : State) (d : Option Definition) → is_idle x ≡ true → IsDone x (shown x d) (shown (free x) d)
 shown_done x None idle = refuses x Defn idle
-shown_done x (Some d) idle = says x _ idle
+shown_done x (Some d) idle = answers x (listed d) idle
 
 opened_done : (x : State) (text : Text) (h : Result Header DefnError) → is_idle x ≡ true → IsDone x (opened_by x text h) (opened_by (free x) text h)
 opened_done x text (Err e) idle = refuses x Defn idle
@@ -102,9 +112,9 @@ clears : (x : State) → IsDone x (cleared x) (cleared (free x))
 clears x = record { freed = refl; idle = refl; emptied = λ e. refl }
 
 obeyed_done : (x : State) (command : Command) → is_idle x ≡ true → IsDone x (obeyed x command) (obeyed (free x) command)
-obeyed_done x StateIndicator idle = says x _ idle
-obeyed_done x Functions idle = says x _ idle
-obeyed_done x Variables idle = says x _ idle
+obeyed_done x StateIndicator idle = answers x _ idle
+obeyed_done x Functions idle = answers x _ idle
+obeyed_done x Variables idle = answers x _ idle
 obeyed_done x Erase idle = refuses x CommandFault idle
 obeyed_done x Clear idle = clears x
 
@@ -174,13 +184,17 @@ pub record IsLine (x t u : State) : Type 0 where
 done_line : (x : State) {t u : State} → IsDone x t u → IsLine x t u
 done_line x done = record { freed = done.freed; settled = inr done.idle; emptied = done.emptied }
 
+token-plain : (fault : Fault) (text : Text) (at : Option ℕ) → IsPlain (reported fault text at)
+token-plain fault text (Some at) = plain-of (Report fault) (report fault None text at) refl
+token-plain fault text None = refl
+
 started_line : (x : State) (text : Text) (tokens : List Token) (colon : Option ℕ) → is_idle x ≡ true → x.definition ≡ None → IsLine x (started x text tokens colon) (started (free x) text tokens colon)
-started_line x text tokens (Some at) idle none = done_line x (says x _ idle)
+started_line x text tokens (Some at) idle none = done_line x (says x (report_lines Syntax None text at) (plain-of (Report Syntax) (report Syntax None text at) refl) idle)
 started_line x text tokens None idle none = record { freed = refl; settled = inl (none, refl); emptied = λ e. e }
 
 begun_line : (x : State) (text : Text) (tokens : Result (List Token) TokenError) → is_idle x ≡ true → x.definition ≡ None → IsLine x (begun_by x text tokens) (begun_by (free x) text tokens)
 begun_line x text (Ok tokens) idle none = started_line x text tokens (colon_of tokens) idle none
-begun_line x text (Err error) idle none = done_line x (says x (token_fault text error) idle)
+begun_line x text (Err error) idle none = done_line x (says x (token_fault text error) (token-plain (fault_of error) text (column_of error)) idle)
 
 pub settled_line : (x : State) (line : List ℕ) {t u : State} → is_idle x ≡ true → IsTyped x line t u → IsLine x t u
 settled_line x line idle (inl done) = done_line x done

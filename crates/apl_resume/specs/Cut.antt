@@ -2,15 +2,21 @@
 use Rattle.std.specs.Prelude.{◌≡◌, ℕ, zero, suc, ◌+◌, List, [], ◌∷◌, filter, Bool, true, false, ◌&&◌, not, if◌then◌else◌}
 use Rattle.apl_defn.specs.Definitions.{is_line}
 use Rattle.apl_vectors.specs.Vectors.{Vectors, has_line}
+use Rattle.apl_machine_state.specs.declared.output.LineKind.{LineKind}
+use Rattle.apl_machine_state.specs.declared.output.LineKind.TheVariants as line_kind
 use Rattle.apl_machine_state.specs.declared.output.OutLine.{OutLine}
 use Rattle.apl_machine_state.specs.declared.watch.Watch.TheVariants.{Stop}
 use Rattle.apl_machine_state.specs.Changes.{Change, Arrives, Asks, change}
 use Rattle.apl_machine_state.specs.State.{State, Turn, turn, step, steps, is_idle, interrupt}
 use Rattle.apl_session.specs.Events.{typed}
 
+abbrev pub reports_stop : LineKind → Bool
+reports_stop line_kind.Stop = true
+reports_stop kind = false
+
 -- the output without stop reports
 abbrev pub plain : List OutLine → List OutLine
-plain output = filter (λ l. not l.stop) output
+plain output = filter (λ l. not (reports_stop l.kind)) output
 
 -- a state without its stop vectors and stop reports
 abbrev pub free : State → State

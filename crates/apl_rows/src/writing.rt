@@ -2,13 +2,17 @@
 
 use crate::page::Page;
 use apl_arrays::{Array, Cell, Elements, Lent, Stop};
-use apl_machine::{Operand, OutLine, Slots};
+use apl_machine::{LineKind, Operand, OutLine, Slots};
 use apl_symbols::{Class, Name};
 
 /// Writes lines of output; those that report a stop behind another mark.
 pub fn write_output(page: &mut Page, lines: &[OutLine]) {
     for line in lines {
-        let mark = if line.stop { '!' } else { '|' };
+        let mark = if line.kind == LineKind::Stop {
+            '!'
+        } else {
+            '|'
+        };
         page.text(mark, line.text.as_slice());
     }
 }

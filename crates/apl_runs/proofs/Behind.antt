@@ -16,7 +16,8 @@ use Rattle.apl_defn.specs.Listing.{listed}
 use Rattle.apl_names.specs.Maps.{Map}
 use Rattle.apl_machine_state.specs.Environment.{World, Context, Call}
 use Rattle.apl_machine_state.specs.Calls.{begun_line, returned}
-use Rattle.apl_machine_state.specs.Reports.{plain_lines}
+use Rattle.apl_machine_state.specs.declared.output.LineKind.TheVariants.{Answer, Report}
+use Rattle.apl_machine_state.specs.Reports.{lines_of}
 use Rattle.apl_machine_state.specs.declared.watch.Watch.TheVariants.{Stop, Trace}
 use Rattle.apl_machine_state.specs.Changes.{Change, Rests, Moves, Asks, Arrives, change}
 use Rattle.apl_machine_state.specs.State.{State, Turn, turn, is_idle, step, steps, interrupt, applied, arrived, comes_to, stop_report, with_lines, interrupted, definition_of, is_global_variable, with_function}
@@ -46,16 +47,19 @@ use Rattle.apl_runs.specs.declared.manner.Manner.TheVariants.{Plain, Answered}
 abbrev pub behind : List OutLine → State → State
 behind front s = record s { output = front ++ s.output }
 
-lines-behind : (front : List OutLine) (s : State) (lines : List Text) → with_lines lines (behind front s) ≡ behind front (with_lines lines s)
-lines-behind front s lines = ap (λ (o : List OutLine). record s { output = o }) (append_assoc front s.output (plain_lines lines))
+lines-behind : (front : List OutLine) (s : State) (lines : List OutLine) → with_lines lines (behind front s) ≡ behind front (with_lines lines s)
+lines-behind front s lines = ap (λ (o : List OutLine). record s { output = o }) (append_assoc front s.output lines)
 
-comes-behind : (front : List OutLine) (stops : Bool) (s : State) (w : World) (d : Definition) (n : ℕ) (locals : Map) (below : List Context) (lines : List Text) (ended : Bool) →
+refused-behind : (front : List OutLine) (s : State) (fault : Fault) → refused (behind front s) fault ≡ behind front (refused s fault)
+refused-behind front s fault = lines-behind front s (lines_of (Report fault) (name_of fault ∷ []))
+
+comes-behind : (front : List OutLine) (stops : Bool) (s : State) (w : World) (d : Definition) (n : ℕ) (locals : Map) (below : List Context) (lines : List OutLine) (ended : Bool) →
     (comes_to stops (behind front s) w d n locals below lines ended).state ≡ behind front (comes_to stops s w d n locals below lines ended).state
 comes-behind front true s w d n locals below lines ended =
-    ap (λ (o : List OutLine). record s { world = w; contexts = Call d n locals None ∷ below; output = o }) (append_assoc front s.output (plain_lines lines ++ stop_report d n ∷ []))
+    ap (λ (o : List OutLine). record s { world = w; contexts = Call d n locals None ∷ below; output = o }) (append_assoc front s.output (lines ++ stop_report d n ∷ []))
 comes-behind front false s w d n locals below lines ended = lines-behind front (record s { world = w; contexts = begun_line w d n locals below }) lines
 
-arrived-behind : (front : List OutLine) (is_there : Bool) (s : State) (w : World) (d : Definition) (n : ℕ) (locals : Map) (below : List Context) (lines : List Text) (ended : Bool) →
+arrived-behind : (front : List OutLine) (is_there : Bool) (s : State) (w : World) (d : Definition) (n : ℕ) (locals : Map) (below : List Context) (lines : List OutLine) (ended : Bool) →
     (arrived is_there (behind front s) w d n locals below lines ended).state ≡ behind front (arrived is_there s w d n locals below lines ended).state
 arrived-behind front true s w d n locals below lines ended = comes-behind front (has_line d.header.name n s.stops) s w d n locals below lines ended
 arrived-behind front false s w d n locals below lines ended =
@@ -92,33 +96,30 @@ choose-behind front true x y x' y' e f = e
 choose-behind front false x y x' y' e f = f
 
 shown-behind : (front : List OutLine) (s : State) (function : Option Definition) → shown (behind front s) function ≡ behind front (shown s function)
-shown-behind front s None = lines-behind front s (name_of Defn ∷ [])
-shown-behind front s (Some d) = lines-behind front s (listed d)
+shown-behind front s None = refused-behind front s Defn
+shown-behind front s (Some d) = lines-behind front s (lines_of Answer (listed d))
 
 opened_by-behind : (front : List OutLine) (s : State) (text : Text) (read : Result Header DefnError) → opened_by (behind front s) text read ≡ behind front (opened_by s text read)
-opened_by-behind front s text (Err error) = lines-behind front s (name_of Defn ∷ [])
+opened_by-behind front s text (Err error) = refused-behind front s Defn
 opened_by-behind front s text (Ok h) =
     choose-behind front (is_global_variable s h.name) (refused s Defn) (opened (text ∷ []) s) (refused (behind front s) Defn) (opened (text ∷ []) (behind front s))
-    (lines-behind front s (name_of Defn ∷ [])) refl
+    (refused-behind front s Defn) refl
 
 shown_or_opened-behind : (front : List OutLine) (s : State) (text : Text) (name : Option Text) → shown_or_opened (behind front s) text name ≡ behind front (shown_or_opened s text name)
 shown_or_opened-behind front s text None = opened_by-behind front s text (header_of text)
 shown_or_opened-behind front s text (Some name) = shown-behind front s (definition_of s name)
 
 defined_by-behind : (front : List OutLine) (s : State) (defined : Result Definition DefnError) → defined_by (behind front s) defined ≡ behind front (defined_by s defined)
-defined_by-behind front s (Err error) = lines-behind front s (name_of Defn ∷ [])
+defined_by-behind front s (Err error) = refused-behind front s Defn
 defined_by-behind front s (Ok d) =
     choose-behind front (is_global_variable s d.header.name) (refused s Defn) (with_function d s) (refused (behind front s) Defn) (with_function d (behind front s))
-    (lines-behind front s (name_of Defn ∷ [])) refl
+    (refused-behind front s Defn) refl
 
 added-behind : (front : List OutLine) (s : State) (lines : List Text) (line : Text) → added (behind front s) lines line ≡ behind front (added s lines line)
 added-behind front s lines line =
     choose-behind front (bytes_eq line del) (defined_by (closed s) (defined_of lines)) (opened (kept lines line) s)
     (defined_by (closed (behind front s)) (defined_of lines)) (opened (kept lines line) (behind front s))
     (defined_by-behind front (closed s) (defined_of lines)) refl
-
-refused-behind : (front : List OutLine) (s : State) (fault : Fault) → refused (behind front s) fault ≡ behind front (refused s fault)
-refused-behind front s fault = lines-behind front s (name_of fault ∷ [])
 
 erased-behind : (front : List OutLine) (names : List Text) (s : State) → erased names (behind front s) ≡ behind front (erased names s)
 erased-behind front [] s = refl
@@ -167,7 +168,7 @@ typed_in-behind front s None text = typed_behind-behind front s text (first_mark
 typed_in-behind front s (Some lines) text = added-behind front s lines (trimmed text)
 
 typed_as-behind : (front : List OutLine) (s : State) (text : Option Text) → typed_as (behind front s) text ≡ behind front (typed_as s text)
-typed_as-behind front s None = lines-behind front s (name_of Character ∷ [])
+typed_as-behind front s None = refused-behind front s Character
 typed_as-behind front s (Some text) = typed_in-behind front s s.definition text
 
 after_event-behind : (front : List OutLine) (s : State) (event : Event) → after_event (behind front s) event ≡ behind front (after_event s event)

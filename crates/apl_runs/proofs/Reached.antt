@@ -211,7 +211,7 @@ module _ {S : Type 0} (way : Way S) (order : IsInOrder way) where
   finished : (ws : S) (before left left' : List ℕ) (tells : Bool) (old mid new : List ℕ) (s s' : S) (count : ℕ) (lines : List (List ℕ))
       (r : Reached way ws before left tells old mid s count) → lines_of before ≡ complete_lines r.taken ++ lines → IsWithinLimits before → left' ≡ [] →
       s' ≡ way.quiet (way.at_end (after_lines way s lines)) → (IsTrue tells → new ≡ mid ++ way.unwritten (way.at_end (after_lines way s lines))) →
-      HasEnded way ws s' before left' tells old new
+      HasEnded (λ (t : S). t) way ws s' before left' tells old new
   finished ws before left left' tells old mid new s s' count lines r all fits end state wrote =
       let first : List (List ℕ) = complete_lines r.taken in
       let last : List ℕ = way.unwritten (way.at_end (after_lines way s lines)) in

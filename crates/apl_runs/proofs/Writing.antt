@@ -1,7 +1,8 @@
 -- Lines that are written one after the other.
 use Rattle.std.proofs.Common.{◌≡◌, ℕ, Bool, List, [], ◌∷◌, ◌++◌, drop, take, ap, ◌∙◌, sym, refl, append_assoc, length, get_or, subst, ◌+◌, ◌<◌}
-use Rattle.std.specs.Prelude.{IsTrue, Result, Ok, Err}
-use Rattle.std.proofs.lemmas.List.{at_drop_more, take-append-drop}
+use Rattle.std.specs.Prelude.{IsTrue, Result, Ok, Err, encode_utf8}
+use Rattle.std.proofs.lemmas.List.{take_more, take-append-drop, append-nil}
+use Rattle.std.proofs.lemmas.Str.{encodes-append}
 use Rattle.apl_charset.specs.Text.{bytes}
 use Rattle.apl_machine_state.specs.declared.output.OutLine.{OutLine}
 use Rattle.apl_devices.specs.Devices.{Wrote, Extends}
@@ -21,19 +22,19 @@ writes-second (Err e) first second tells old mid new f h = (h.0, λ t. extends-s
 pub writes-first : (e : RunError) (first second : List ℕ) (tells : Bool) (old new : List ℕ) → Writes {A = Unit {0}} (Err e) first tells old new → Writes {A = Unit {0}} (Err e) (first ++ second) tells old new
 writes-first e first second tells old new h = (h.0, λ t. extends-first old new first second (h.1 t))
 
+-- a character more of a text
+pub text-more : (old out new text : List ℕ) (i x c : ℕ) → i < length text → out ≡ old ++ bytes (take i text) → new ≡ out ++ encode_utf8 c → c ≡ x → x ≡ get_or text i x →
+    new ≡ old ++ bytes (take (i + 1) text)
+text-more old out new text i x c within so_far grown same at =
+    let more : take (i + 1) text ≡ take i text ++ get_or text i x ∷ [] = take_more text i x within in
+    let spelled : bytes (take i text) ++ encode_utf8 c ≡ bytes (take (i + 1) text) =
+    rw (more, encodes-append (take i text) (get_or text i x ∷ []), ← at, same) (ap (λ (t : List ℕ). bytes (take i text) ++ t) (sym (append-nil _))) in
+    grown ∙ ap (λ (o : List ℕ). o ++ encode_utf8 c) so_far ∙ append_assoc old (bytes (take i text)) (encode_utf8 c) ∙ ap (λ (b : List ℕ). old ++ b) spelled
+
 -- lines behind no label
 pub labelled-none : (lines : List OutLine) → labelled [] lines ≡ written lines
 labelled-none [] = refl
 labelled-none (line ∷ lines) = ap (λ (rest : List ℕ). bytes line.text ++ 10 ∷ rest) (labelled-none lines)
-
--- the next line
-pub labelled-next : (label : List ℕ) (lines : List OutLine) (i : ℕ) (x : OutLine) → i < length lines → x ≡ get_or lines i x →
-    labelled label (drop i lines) ≡ (label ++ (bytes x.text ++ 10 ∷ [])) ++ labelled label (drop (i + 1) lines)
-labelled-next label lines i x within read =
-    at_drop_more (labelled label) lines i x within
-    ∙ ap (λ (y : OutLine). label ++ bytes y.text ++ 10 ∷ labelled label (drop (i + 1) lines)) (sym read)
-    ∙ sym (append_assoc (label ++ bytes x.text) (10 ∷ []) (labelled label (drop (i + 1) lines)))
-    ∙ ap (λ (front : List ℕ). front ++ labelled label (drop (i + 1) lines)) (append_assoc label (bytes x.text) (10 ∷ []))
 
 -- lines, and others after them
 pub labelled-append : (label : List ℕ) (lines more : List OutLine) → labelled label (lines ++ more) ≡ labelled label lines ++ labelled label more
@@ -47,32 +48,24 @@ pub labelled-split : (label : List ℕ) (n : ℕ) (lines : List OutLine) → lab
 labelled-split label n lines = ap (labelled label) (sym (take-append-drop n lines)) ∙ labelled-append label (take n lines) (drop n lines)
 
 -- the first of the lines that are left are written
-pub wrote-lines : (label old mid new : List ℕ) (lines left front rest : List OutLine) (n : ℕ) → front ≡ take n left → rest ≡ drop n left →
-    Wrote old mid (labelled label lines) (labelled label left) → new ≡ mid ++ labelled label front → Wrote old new (labelled label lines) (labelled label rest)
-wrote-lines label old mid new lines left front rest n first others w e =
+pub wrote-lines : (label old mid new text : List ℕ) (lines left front rest : List OutLine) (n : ℕ) → front ≡ take n left → rest ≡ drop n left →
+    Wrote old mid (labelled label lines) (labelled label left) → text ≡ labelled label front → new ≡ mid ++ text → Wrote old new (labelled label lines) (labelled label rest)
+wrote-lines label old mid new text lines left front rest n first others w spelled e =
     wrote-more old mid new (labelled label lines) (labelled label left) (labelled label rest) w (record {
       front = labelled label front;
       spelled = labelled-split label n left ∙ ap (λ (f : List OutLine). labelled label f ++ labelled label (drop n left)) (sym first)
           ∙ ap (λ (r : List OutLine). labelled label front ++ labelled label r) (sym others);
-      added = e;
+      added = e ∙ ap (λ (t : List ℕ). mid ++ t) spelled;
     })
 
 -- a front of the first of the lines that are left
-pub extends-lines : (label old mid new : List ℕ) (lines left front : List OutLine) (n : ℕ) → front ≡ take n left →
-    Wrote old mid (labelled label lines) (labelled label left) → Extends mid new (labelled label front) → Extends old new (labelled label lines)
-extends-lines label old mid new lines left front n first w e =
+pub extends-lines : (label old mid new text : List ℕ) (lines left front : List OutLine) (n : ℕ) → front ≡ take n left →
+    Wrote old mid (labelled label lines) (labelled label left) → text ≡ labelled label front → Extends mid new text → Extends old new (labelled label lines)
+extends-lines label old mid new text lines left front n first w spelled e =
     extends-rest old mid new (labelled label lines) (labelled label left) w
     (subst (λ (t : List ℕ). Extends mid new t) (sym (labelled-split label n left ∙ ap (λ (f : List OutLine). labelled label f ++ labelled label (drop n left)) (sym first)))
-    (extends-first mid new (labelled label front) (labelled label (drop n left)) e))
+    (extends-first mid new (labelled label front) (labelled label (drop n left)) (subst (λ (t : List ℕ). Extends mid new t) spelled e)))
 
--- a front of the next line
-pub extends-line : (label old mid new : List ℕ) (lines : List OutLine) (i : ℕ) (x : OutLine) → i < length lines → x ≡ get_or lines i x →
-    Wrote old mid (labelled label lines) (labelled label (drop i lines)) → Extends mid new (label ++ (bytes x.text ++ 10 ∷ [])) → Extends old new (labelled label lines)
-extends-line label old mid new lines i x within read w e =
-    extends-rest old mid new (labelled label lines) (labelled label (drop i lines)) w
-    (subst (λ (t : List ℕ). Extends mid new t) (sym (labelled-next label lines i x within read))
-    (extends-first mid new (label ++ (bytes x.text ++ 10 ∷ [])) (labelled label (drop (i + 1) lines)) e))
-
-pub ruleset writing = (wrote-none, wrote-all, wrote-more, wrote-take, extends-wrote, extends-none, extends-first, extends-second, extends-line, wrote-lines, extends-lines)
+pub ruleset writing = (wrote-none, wrote-all, wrote-more, wrote-take, extends-wrote, extends-none, extends-first, extends-second, wrote-lines, extends-lines)
 
 pub ruleset unlabelled = (labelled-none)

@@ -23,11 +23,12 @@ pub record IsWithinLimits (input : List ℕ) : Type 0 where
   pub unfinished_short : length (unfinished input) ≤ 2000
   pub few : length (lines_of input) ≤ 1000000
 
--- A run from s in a way came to the end of its input: the input is within the limits, all of it was read, and its transcript was written.
-pub record HasEnded {S : Type 0} (way : Way S) (s s' : S) (before after : List ℕ) (tells : Bool) (old new : List ℕ) : Type 0 where
+-- A run from s in a way came to the end of its input: the input is within the limits, all of it was read, its transcript was written, and m is what the run
+-- gives of the state behind the end.
+pub record HasEnded {S M : Type 0} (gives : S → M) (way : Way S) (s : S) (m : M) (before after : List ℕ) (tells : Bool) (old new : List ℕ) : Type 0 where
   pub within : IsWithinLimits before
   pub read : after ≡ []
-  pub state : s' ≡ way.quiet (after_input way s before)
+  pub state : m ≡ gives (way.quiet (after_input way s before))
   pub wrote : IsTrue tells → new ≡ old ++ transcript way s before
 
 -- The byte behind an input within the limits that an error refuses: the 2,001st of a line, or the first behind 1,000,000 lines; other errors refuse none.
@@ -71,9 +72,15 @@ pub record StoppedAt {S : Type 0} (error : RunError) (way : Way S) (s : S) (befo
   pub wrote : IsTrue tells → IsWritten error way s taken after old new
   pub in_turn : IsTrue tells → IsInTurn way s taken old new
 
+-- What a run from s in a way does, by its result: it came to the end of its input, or stopped. The bytes left are those before and after it, the bytes written
+-- the old and the new ones, where the writer tells them.
+abbrev pub Ran : {S M : Type 0} → (S → M) → Way S → S → Result M RunError → List ℕ → List ℕ → Bool → List ℕ → List ℕ → Type 0
+Ran gives way s (Ok m) before after tells old new = HasEnded gives way s m before after tells old new
+Ran gives way s (Err e) before after tells old new = StoppedAt e way s before after tells old new
+
 -- how a run from s to s' ends
 abbrev pub EndsRun : {A S : Type 0} → Result A RunError → Way S → S → S → List ℕ → List ℕ → Bool → List ℕ → List ℕ → Type 0
-EndsRun (Ok x) way s s' before after tells old new = HasEnded way s s' before after tells old new
+EndsRun (Ok x) way s s' before after tells old new = HasEnded (λ t. t) way s s' before after tells old new
 EndsRun (Err e) way s s' before after tells old new = StoppedAt e way s before after tells old new
 
 -- an error of running or writing a line

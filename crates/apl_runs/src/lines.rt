@@ -1,12 +1,12 @@
 // Lines that are read and written.
-ghost use Rattle.std.specs.Prelude.{◌≡◌, ◌≢◌, [], ◌∷◌, ◌++◌, IfOk, IfErr, IsTrue};
+ghost use Rattle.std.specs.Prelude.{◌≡◌, ◌≢◌, ◌++◌, IfErr, OnOk, IsTrue, string_bytes};
 ghost use Rattle.apl_charset.specs.Text.{bytes};
 ghost use Rattle.apl_runs.specs.Transcript.{without_return};
 ghost use Rattle.apl_runs.specs.Output.{labelled};
 ghost use Rattle.apl_runs.specs.Runs.{ReadsEnd, ReadsLine, Writes, reader_failed, writer_failed};
 
 use crate::runs::RunError;
-use apl_charset::encode;
+use apl_charset::Ch;
 use apl_devices::{Failed, Sink, Source, read_byte, write_all};
 use apl_machine::OutLine;
 use std::alloc::{AllocError, Global};
@@ -77,89 +77,27 @@ pub fn write_text<W: Sink>(writer: &mut W, text: &[u8]) -> Result<(), RunError>
     }
 }
 
-/// A text behind a label.
-fn behind(alloc: Global, label: &[u8], text: Vec<u8>) -> Result<Vec<u8>, AllocError>
-    ensures { IfOk result (λ v. v.items ≡ label.now ++ text.items) }
+/// Adds a text in UTF-8.
+fn push_text(out: &mut String, text: &[Ch]) -> Result<(), AllocError>
+    ensures { OnOk result (string_bytes out.new ≡ string_bytes out.old ++ bytes text.now) }
 {
-    if label.is_empty() {
-        return Ok(text);
-    }
-    let mut whole = Vec::from_slice(alloc, label)?;
-    whole.extend_from_slice(&text)?;
-    Ok(whole)
-}
-
-/// A line as it is written: in UTF-8, with its line feed.
-fn encode_line(alloc: Global, line: &OutLine) -> Result<Vec<u8>, AllocError>
-    ensures { IfOk result (λ v. v.items ≡ bytes line.now.text ++ 10 ∷ []) }
-{
-    let mut text = encode(alloc, line.text.as_slice())?;
-    text.push(b'\n')?;
-    Ok(text)
-}
-
-/// Writes a line behind a label. After an error a prefix of it is written.
-#[tactic(auto, using(crate::proofs::Writing::writing))]
-fn write_line<W: Sink>(
-    alloc: Global,
-    writer: &mut W,
-    label: &[u8],
-    line: &OutLine,
-) -> Result<(), RunError>
-    ensures wrote { Writes result (label.now ++ (bytes line.now.text ++ 10 ∷ [])) W.tells (W.written writer.old) (W.written writer.new) }
-    ensures writer { W.failed writer.new ≡ writer_failed result (W.failed writer.old) }
-{
-    let text = behind(alloc, label, encode_line(alloc, line)?)?;
-    write_text(writer, &text)
-}
-
-/// Writes the lines one by one, each behind the label. After an error a prefix of what they spell is written.
-#[tactic(auto, using(crate::proofs::Writing::writing))]
-fn write_each<W: Sink>(
-    alloc: Global,
-    writer: &mut W,
-    label: &[u8],
-    lines: &[OutLine],
-) -> Result<(), RunError>
-    ensures wrote { Writes result (labelled label.now lines.now) W.tells (W.written writer.old) (W.written writer.new) }
-    ensures writer { W.failed writer.new ≡ writer_failed result (W.failed writer.old) }
-{
-    for line in lines {
-        write_line(alloc, writer, label, line)?;
+    for c in text {
+        out.push(c.code())?;
     }
     Ok(())
 }
 
-/// What lines spell, each behind the label.
-fn spelled(alloc: Global, label: &[u8], lines: &[OutLine]) -> Result<Vec<u8>, AllocError>
-    ensures { IfOk result (λ v. v.items ≡ labelled label.now lines.now) }
+/// Spells lines in place of what the buffer holds: each behind the label, in UTF-8, with its line feed.
+fn spell(text: &mut String, label: &str, lines: &[OutLine]) -> Result<(), AllocError>
+    ensures { OnOk result (string_bytes text.new ≡ labelled label.now lines.now) }
 {
-    let mut text = Vec::new(alloc);
+    text.clear();
     for line in lines {
-        text.extend_from_slice(label)?;
-        text.extend_from_slice(&encode_line(alloc, line)?)?;
+        text.push_str(label)?;
+        push_text(text, line.text.as_slice())?;
+        text.push('\n')?;
     }
-    Ok(text)
-}
-
-/// Writes the lines, each behind the label, at once, or one by one where there is one alone or no memory for all. After an error a prefix of
-/// what they spell is written.
-fn write_together<W: Sink>(
-    alloc: Global,
-    writer: &mut W,
-    label: &[u8],
-    lines: &[OutLine],
-) -> Result<(), RunError>
-    ensures wrote { Writes result (labelled label.now lines.now) W.tells (W.written writer.old) (W.written writer.new) }
-    ensures writer { W.failed writer.new ≡ writer_failed result (W.failed writer.old) }
-{
-    if lines.len() < 2 {
-        return write_each(alloc, writer, label, lines);
-    }
-    match spelled(alloc, label, lines) {
-        Ok(text) => write_text(writer, &text),
-        Err(AllocError) => write_each(alloc, writer, label, lines),
-    }
+    Ok(())
 }
 
 /// Writes the lines, each behind the label. After an error a prefix of what they spell is written.
@@ -167,16 +105,18 @@ fn write_together<W: Sink>(
 pub fn write_lines<W: Sink>(
     alloc: Global,
     writer: &mut W,
-    label: &[u8],
+    label: &str,
     lines: &[OutLine],
 ) -> Result<(), RunError>
     ensures wrote { Writes result (labelled label.now lines.now) W.tells (W.written writer.old) (W.written writer.new) }
     ensures writer { W.failed writer.new ≡ writer_failed result (W.failed writer.old) }
 {
+    let mut text = String::new(alloc);
     let mut left = lines;
     while !left.is_empty() {
         let (front, rest) = left.split_at(left.len().min(AT_ONCE));
-        write_together(alloc, writer, label, front)?;
+        spell(&mut text, label, front)?;
+        write_text(writer, text.as_bytes())?;
         left = rest;
     }
     Ok(())

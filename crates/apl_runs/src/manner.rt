@@ -44,6 +44,7 @@ fn do_line(session: &mut Session, line: &[u8], manner: Manner) -> Result<(), All
     ensures done { OnOk result (session.new ≡ does manner session.old line.now) }
     ensures idle { OnOk result (IsTrue (is_idle session.new)) }
 {
+    // By these laws a line leaves nothing running.
     session.keeps_order();
     lines_leave_idle();
     match manner {
@@ -68,7 +69,7 @@ fn write_output<W: Sink>(
     ensures writer { W.failed writer.new ≡ writer_failed result (W.failed writer.old) }
 {
     let lines = session.take_output();
-    write_lines(alloc, writer, &[], &lines)
+    write_lines(alloc, writer, "", &lines)
 }
 
 impl Listener for Manner {

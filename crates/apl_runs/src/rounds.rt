@@ -1,5 +1,6 @@
 // Rounds over the sessions of a desk.
-ghost use Rattle.std.specs.Prelude.{◌≡◌, ◌++◌, ◌<◌, length, map, IfOk, IfSome, OnOk, MatchOption, None, Some, codes};
+ghost use Rattle.std.specs.Prelude.{◌≡◌, ◌≢◌, ◌==◌, ◌++◌, ◌<◌, ◌^◌, ℕ, length, map, IfOk, IfSome, OnOk, MatchOption, None, Some, codes, decimal, string_bytes};
+ghost use Rattle.std.specs.List.{position};
 ghost use Rattle.apl_session.specs.Events.{after_event};
 ghost use Rattle.apl_session.specs.Views.{event as event_view};
 ghost use Rattle.apl_runs.specs.Output.{labelled, silent};
@@ -33,46 +34,50 @@ impl Model for Board {
     ghost invariant = { λ b. length b.sessions.items ≤ 64 };
 }
 
-/// What follows a prefix of a line, if the line begins with that.
-#[tactic(auto, using(crate::proofs::Spoken::stripping))]
-fn behind<'a>(line: &'a [u8], front: &[u8]) -> Option<&'a [u8]>
-    ensures { MatchOption result (model.behind front.now line.now ≡ None) (λ rest. model.behind front.now line.now ≡ Some rest.now) }
+/// The place of the first blank.
+fn blank_at(line: &[u8]) -> Option<usize>
+    ensures place { result ≡ position (λ b. b == 32) line.now }
+    ensures within { IfSome result (λ at. at < length line.now) }
 {
-    line.strip_prefix(front)
+    line.iter().position(|byte| *byte == b' ')
 }
 
-/// What follows the number of a session and a blank, if a line begins with these.
-#[tactic(auto, using(crate::proofs::Spoken::stripping))]
-fn text_behind(line: &[u8], number: usize) -> Option<&[u8]>
-    ensures { MatchOption result (model.behind (model.label number) line.now ≡ None) (λ text. model.behind (model.label number) line.now ≡ Some text.now) }
+/// The number that a text is in decimal.
+fn number_of(text: &[u8]) -> Option<usize>
+    ensures { MatchOption result ((n : ℕ) → n < 2 ^ 64 → text.now ≢ decimal n) (λ n. (n < 2 ^ 64) × (text.now ≡ decimal n)) }
 {
+    let number = str::from_utf8(text).ok()?.parse::<usize>().ok()?;
+    // A sign and leading zeros are parsed too, but are in no label.
     let mut digits = Buffer::new();
-    let rest = behind(line, digits.format(number).as_bytes())?;
-    behind(rest, b" ")
+    if digits.format(number).as_bytes() == text {
+        Some(number)
+    } else {
+        None
+    }
 }
 
 /// What a line says to one of so many sessions: a number and the text for it.
+#[tactic(auto, using(crate::proofs::Spoken::speaking))]
 fn spoken(line: &[u8], count: usize) -> Option<(usize, &[u8])>
     ensures said { MatchOption result (model.spoken count line.now ≡ None)
         (λ said. model.spoken count line.now ≡ Some (record { number = said.0; text = said.1.now })) }
     ensures within { IfSome result (λ said. said.0 < count) }
 {
-    for number in 0..count {
-        if let Some(text) = text_behind(line, number) {
-            return Some((number, text));
-        }
+    let (digits, rest) = line.split_at(blank_at(line)?);
+    let (_, text) = rest.split_at(1);
+    let number = number_of(digits)?;
+    if number < count {
+        Some((number, text))
+    } else {
+        None
     }
-    None
 }
 
 /// What stands before the lines of a session: its number and a blank.
-fn label(alloc: Global, number: usize) -> Result<Vec<u8>, AllocError>
-    ensures { IfOk result (λ v. v.items ≡ model.label number) }
+fn label(alloc: Global, number: usize) -> Result<String, AllocError>
+    ensures { IfOk result (λ s. string_bytes s ≡ model.label number) }
 {
-    let mut digits = Buffer::new();
-    let mut label = Vec::from_slice(alloc, digits.format(number).as_bytes())?;
-    label.push(b' ')?;
-    Ok(label)
+    format!(in alloc; "{number} ")
 }
 
 /// Answers a line for a session that runs.
@@ -81,8 +86,8 @@ fn write_busy<W: Sink>(alloc: Global, number: usize, writer: &mut W) -> Result<(
     ensures writer { W.failed writer.new ≡ writer_failed result (W.failed writer.old) }
 {
     let mut text = label(alloc, number)?;
-    text.extend_from_slice(b"BUSY\n")?;
-    write_text(writer, &text)
+    text.push_str("BUSY\n")?;
+    write_text(writer, text.as_bytes())
 }
 
 /// Types a line to the session that it is for, or answers it where there is none or it runs.
@@ -128,7 +133,7 @@ fn serve<W: Sink>(
     if lines.is_empty() {
         return Ok(());
     }
-    write_lines(alloc, writer, &label(alloc, number)?, &lines)
+    write_lines(alloc, writer, label(alloc, number)?.as_str(), &lines)
 }
 
 /// Gives each session an event, by ascending number, and writes what it has to say. After an error

@@ -1,13 +1,11 @@
 // A run over the lines of an input.
-ghost use Rattle.std.specs.Prelude.{◌≡◌, [], ◌++◌, IfOk, IfErr, OnOk, IsTrue};
+ghost use Rattle.std.specs.Prelude.{◌≡◌, [], IfOk, IsTrue};
 ghost use Rattle.apl_machine_state.specs.State.{is_idle};
 ghost use Rattle.apl_session.specs.Defining.{closed};
 ghost use Rattle.apl_runs.specs.Manners.{way};
-ghost use Rattle.apl_runs.specs.Output.{silent};
 ghost use Rattle.apl_runs.specs.Refusals.{run_number};
-ghost use Rattle.apl_runs.specs.Runs.{IsWithinLimits, StoppedAt, reader_failed, writer_failed};
+ghost use Rattle.apl_runs.specs.Runs.{Ran, reader_failed, writer_failed};
 ghost use Rattle.apl_runs.specs.Sessions.{plain, answered};
-ghost use Rattle.apl_runs.specs.Transcript.{lines_of, after_lines, transcript};
 
 use crate::input::run_lines;
 use crate::manner::Manner;
@@ -80,14 +78,9 @@ fn run_in<R: Source, W: Sink>(
 ) -> Result<Machine, RunError>
     requires idle { IsTrue (is_idle ws) }
     requires quiet { ws.output ≡ [] }
-    ensures transcript { IsTrue R.tells → IsTrue W.tells →
-        OnOk result (W.written writer.new ≡ W.written writer.old ++ transcript (way manner) (closed ws) (R.left reader.old)) }
-    ensures state { IsTrue R.tells → IfOk result (λ m. m ≡ closed (silent (after_lines (way manner) (closed ws) (lines_of (R.left reader.old))))) }
+    ensures ran { IsTrue R.tells → Ran closed (way manner) (closed ws) result (R.left reader.old) (R.left reader.new)
+        W.tells (W.written writer.old) (W.written writer.new) }
     ensures idle { IfOk result (λ m. IsTrue (is_idle m)) }
-    ensures read_to_end { IsTrue R.tells → OnOk result (R.left reader.new ≡ []) }
-    ensures within { IsTrue R.tells → OnOk result (IsWithinLimits (R.left reader.old)) }
-    ensures stopped { IsTrue R.tells →
-        IfErr result (λ e. StoppedAt e (way manner) (closed ws) (R.left reader.old) (R.left reader.new) W.tells (W.written writer.old) (W.written writer.new)) }
     ensures reader { R.failed reader.new ≡ reader_failed result (R.failed reader.old) }
     ensures writer { W.failed writer.new ≡ writer_failed result (W.failed writer.old) }
 {
@@ -119,15 +112,9 @@ pub fn run<R: Source, W: Sink>(
 ) -> Result<Machine, RunError>
     requires idle { IsTrue (is_idle ws) }
     requires quiet { ws.output ≡ [] }
-    ensures transcript { IsTrue R.tells → IsTrue W.tells →
-        OnOk result (W.written writer.new ≡ W.written writer.old ++ transcript (plain steps) (closed ws) (R.left reader.old)) }
-    ensures state { IsTrue R.tells → IfOk result (λ m. m ≡ closed (silent (after_lines (plain steps) (closed ws) (lines_of (R.left reader.old))))) }
+    ensures ran { IsTrue R.tells → Ran closed (plain steps) (closed ws) result (R.left reader.old) (R.left reader.new)
+        W.tells (W.written writer.old) (W.written writer.new) }
     ensures idle { IfOk result (λ m. IsTrue (is_idle m)) }
-    ensures read_to_end { IsTrue R.tells → OnOk result (R.left reader.new ≡ []) }
-    ensures within { IsTrue R.tells → OnOk result (IsWithinLimits (R.left reader.old)) }
-    ensures stopped { IsTrue R.tells →
-        IfErr result (λ e. StoppedAt e (plain steps) (closed ws) (R.left reader.old) (R.left reader.new)
-        W.tells (W.written writer.old) (W.written writer.new)) }
     ensures reader { R.failed reader.new ≡ reader_failed result (R.failed reader.old) }
     ensures writer { W.failed writer.new ≡ writer_failed result (W.failed writer.old) }
 {
@@ -154,15 +141,9 @@ pub fn run_resumed<R: Source, W: Sink>(
 ) -> Result<Machine, RunError>
     requires idle { IsTrue (is_idle ws) }
     requires quiet { ws.output ≡ [] }
-    ensures transcript { IsTrue R.tells → IsTrue W.tells →
-        OnOk result (W.written writer.new ≡ W.written writer.old ++ transcript (answered steps) (closed ws) (R.left reader.old)) }
-    ensures state { IsTrue R.tells → IfOk result (λ m. m ≡ closed (silent (after_lines (answered steps) (closed ws) (lines_of (R.left reader.old))))) }
+    ensures ran { IsTrue R.tells → Ran closed (answered steps) (closed ws) result (R.left reader.old) (R.left reader.new)
+        W.tells (W.written writer.old) (W.written writer.new) }
     ensures idle { IfOk result (λ m. IsTrue (is_idle m)) }
-    ensures read_to_end { IsTrue R.tells → OnOk result (R.left reader.new ≡ []) }
-    ensures within { IsTrue R.tells → OnOk result (IsWithinLimits (R.left reader.old)) }
-    ensures stopped { IsTrue R.tells →
-        IfErr result (λ e. StoppedAt e (answered steps) (closed ws) (R.left reader.old) (R.left reader.new)
-        W.tells (W.written writer.old) (W.written writer.new)) }
     ensures reader { R.failed reader.new ≡ reader_failed result (R.failed reader.old) }
     ensures writer { W.failed writer.new ≡ writer_failed result (W.failed writer.old) }
 {

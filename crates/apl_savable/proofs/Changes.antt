@@ -9,6 +9,7 @@ use Rattle.apl_tokens.specs.Tokens.{tokens_of}
 use Rattle.apl_translate.specs.Translation.{held}
 use Rattle.apl_defn.specs.Definitions.{Text, Definition, is_line, line_of}
 use Rattle.apl_names.specs.Maps.{Map, said}
+use Rattle.apl_machine_state.specs.declared.output.OutLine.{OutLine}
 use Rattle.apl_machine_state.specs.declared.operand.Operand.{Operand}
 use Rattle.apl_machine_state.specs.declared.operand.Operand.TheVariants.{Value}
 use Rattle.apl_machine_state.specs.Items.{Item, Rest, answered, filled}
@@ -130,7 +131,7 @@ begun-savable w d n locals below c h =
 pub stopped-savable : (d : Definition) (n : ℕ) (locals : Map) (below : List Context) → CanBegin d locals below → AreSavable below → AreSavable (Call d n locals None ∷ below)
 stopped-savable d n locals below c h = ((c.origin, tt), called-like (Call d 0 [] None) (Call d n locals None) below refl c.called, h)
 
-pub line-end-saves : (w : World) (c : Context) (below : List Context) (value : Option Arr) (lines : List Text) → IsBelow c below → Saves w (c ∷ below) → SavesAll (line_end w c below value lines)
+pub line-end-saves : (w : World) (c : Context) (below : List Context) (value : Option Arr) (lines : List OutLine) → IsBelow c below → Saves w (c ∷ below) → SavesAll (line_end w c below value lines)
 line-end-saves w (Statement text rest) below value lines b h = saves-with w _ below h h.savable.2
 line-end-saves w (Call d n locals rest) below value lines b h = (saves-with w _ below h h.savable.2, under-call d n locals rest below b h.savable)
 line-end-saves w (Execute text rest) below value lines b h = saves-with w _ (given_to below value).contexts h (given-savable value below (below-execute text rest below b) h.savable.2)
@@ -148,7 +149,7 @@ resumed-saves w (Call d n locals rest ∷ below) (Some m) i h =
     let c = under-call d n locals rest below i.2 h.savable in
     saves-if (is_line d m) _ _ (saves-with w _ (begun_line w d m locals below) h (begun-savable w d m locals below c h.savable.2)) (saves-with w _ (returned d locals below).contexts h (returned-savable d locals below c.pendent h.savable.2))
 
-pub branch-to-saves : (w : World) (c : Context) (below : List Context) (aim : Option ℕ) (lines : List Text) → IsBelow c below → Saves w (c ∷ below) → SavesAll (branch_to w (c ∷ below) aim lines)
+pub branch-to-saves : (w : World) (c : Context) (below : List Context) (aim : Option ℕ) (lines : List OutLine) → IsBelow c below → Saves w (c ∷ below) → SavesAll (branch_to w (c ∷ below) aim lines)
 branch-to-saves w (Statement text rest) below aim lines b h = resumed-saves w below aim (below-statement text rest below b) (saves-with w _ below h h.savable.2)
 branch-to-saves w (Call d n locals rest) below aim lines b h = (saves-with w _ below h h.savable.2, under-call d n locals rest below b h.savable)
 branch-to-saves w (Execute text rest) [] aim lines b h = absurd b
@@ -158,7 +159,7 @@ pub branch-saves : (nowhere : Bool) (w : World) (c : Context) (below : List Cont
 branch-saves true w c below rest a b h = saves-with w _ (abandoned (c ∷ below)) h (abandoned-savable (c ∷ below) h.savable)
 branch-saves false w c below rest a b h = branch-to-saves w c below (aim a.items) (traced w (c ∷ below) arrow (display a)) b h
 
-pub escape-saves : (w : World) (contexts : List Context) (lines : List Text) → Saves w contexts → SavesAll (escape_to w contexts lines)
+pub escape-saves : (w : World) (contexts : List Context) (lines : List OutLine) → Saves w contexts → SavesAll (escape_to w contexts lines)
 escape-saves w [] lines h = tt
 escape-saves w (Statement text rest ∷ below) lines h = saves-with w _ (behind_statement below) h (behind-savable below h.savable.2)
 escape-saves w (Call d n locals rest ∷ below) lines h = saves-with w _ (behind_statement below) h (behind-savable below h.savable.2)

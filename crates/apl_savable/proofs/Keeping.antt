@@ -28,6 +28,7 @@ use Rattle.apl_names.specs.Maps.{Map, assigned, found, said}
 use Rattle.apl_names.proofs.Maps.{said_with}
 use Rattle.apl_order.proofs.Maps.{said-without}
 use Rattle.apl_vectors.specs.Vectors.{has_line, vector_of}
+use Rattle.apl_machine_state.specs.declared.output.OutLine.{OutLine}
 use Rattle.apl_machine_state.specs.declared.operand.Operand.{Operand}
 use Rattle.apl_machine_state.specs.declared.operand.Operand.TheVariants.{Slots, Value}
 use Rattle.apl_machine_state.specs.declared.watch.Watch.TheVariants.{Stop, Trace}
@@ -215,11 +216,11 @@ change-saves w (c ∷ below) o g k h = change-in-saves w c below (rest_of c) ref
 abbrev SavesState : State → Type 0
 SavesState s = Saves s.world s.contexts
 
-comes-saves : (t : Bool) (s : State) (w : World) (d : Definition) (n : ℕ) (locals : Map) (below : List Context) (lines : List Text) (ended : Bool) → Saves w below → CanBegin d locals below → SavesState (comes_to t s w d n locals below lines ended).state
+comes-saves : (t : Bool) (s : State) (w : World) (d : Definition) (n : ℕ) (locals : Map) (below : List Context) (lines : List OutLine) (ended : Bool) → Saves w below → CanBegin d locals below → SavesState (comes_to t s w d n locals below lines ended).state
 comes-saves true s w d n locals below lines ended h c = saves-with w below _ h (stopped-savable d n locals below c h.savable)
 comes-saves false s w d n locals below lines ended h c = saves-with w below _ h (begun-savable w d n locals below c h.savable)
 
-arrived-saves : (t : Bool) (s : State) (w : World) (d : Definition) (n : ℕ) (locals : Map) (below : List Context) (lines : List Text) (ended : Bool) → Saves w below → CanBegin d locals below → SavesState (arrived t s w d n locals below lines ended).state
+arrived-saves : (t : Bool) (s : State) (w : World) (d : Definition) (n : ℕ) (locals : Map) (below : List Context) (lines : List OutLine) (ended : Bool) → Saves w below → CanBegin d locals below → SavesState (arrived t s w d n locals below lines ended).state
 arrived-saves true s w d n locals below lines ended h c = comes-saves (has_line d.header.name n s.stops) s w d n locals below lines ended h c
 arrived-saves false s w d n locals below lines ended h c = saves-with w below _ h (returned-savable d locals below c.pendent h.savable)
 

@@ -2,7 +2,6 @@
 use Rattle.std.proofs.Common.{List, [], ◌∷◌, ◌++◌, Option}
 use Rattle.apl_defn.specs.Definitions.{Text}
 use Rattle.apl_machine_state.specs.declared.output.OutLine.{OutLine}
-use Rattle.apl_machine_state.specs.Reports.{plain_lines}
 use Rattle.apl_machine_state.specs.State.{State, clear, with_lines}
 use Rattle.apl_machine_state.specs.Objects.{cleared, erased, without_global}
 use Rattle.apl_savable.specs.Savable.{IsSavable}
@@ -25,8 +24,8 @@ pub erasures-savable : (names : List Text) (s : State) → IsSavable s → IsSav
 erasures-savable [] s h = h
 erasures-savable (n ∷ ns) s h = erasures-savable ns (without_global n s) (erasure-savable s n h)
 
-pub with_lines-savable : (s : State) (lines : List Text) → IsSavable s → IsSavable (with_lines lines s)
-with_lines-savable s lines h = told-savable s (s.output ++ plain_lines lines) h
+pub with_lines-savable : (s : State) (lines : List OutLine) → IsSavable s → IsSavable (with_lines lines s)
+with_lines-savable s lines h = told-savable s (s.output ++ lines) h
 
 pub cleared-savable : (s : State) → IsSavable (cleared s)
 cleared-savable s = told-savable clear s.output clear-savable

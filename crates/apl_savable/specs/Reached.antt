@@ -2,6 +2,7 @@
 use Rattle.std.specs.Prelude.{◌≡◌, List, [], true, Option, None}
 use Rattle.apl_defn.specs.Definitions.{Text, Definition}
 use Rattle.apl_defn.specs.Defining.{IsDefined}
+use Rattle.apl_machine_state.specs.declared.output.OutLine.{OutLine}
 use Rattle.apl_machine_state.specs.State.{State, clear, interrupt, is_idle, step, with_function, with_lines}
 use Rattle.apl_machine_state.specs.Beginning.{begun}
 use Rattle.apl_machine_state.specs.Objects.{cleared, erased}
@@ -22,7 +23,7 @@ pub data IsReached : State → Type 0 where
   with_definition : (s : State) (d : Definition) → IsDefined d → IsReached s → IsReached (with_function d s)
   without_objects : (s : State) (names : List Text) → IsReached s → IsReached (erased names s)
   emptied : (s : State) → IsReached s → IsReached (cleared s)
-  told : (s : State) (lines : List Text) → IsReached s → IsReached (with_lines lines s)
+  told : (s : State) (lines : List OutLine) → IsReached s → IsReached (with_lines lines s)
   output_taken : (s : State) → IsReached s → IsReached (record s { output = [] })
   defining : (s : State) (lines : Option (List Text)) → IsReached s → IsReached (record s { definition = lines })
 

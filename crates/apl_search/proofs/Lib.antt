@@ -8,6 +8,7 @@ pub mod Digits
 pub mod Shapes
 pub mod Grades
 pub mod Lookups
+pub mod Markings
 pub mod Searches
 pub mod Rounded
 pub mod LastFirst

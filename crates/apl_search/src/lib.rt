@@ -10,8 +10,10 @@ mod grading;
 mod index;
 mod listing;
 mod lookup;
+mod marks;
 mod membership;
 mod places;
+mod standing;
 mod table;
 
 pub use counting::iota;

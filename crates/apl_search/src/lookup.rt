@@ -4,9 +4,10 @@ ghost use Rattle.std.specs.Ordering.{int_eq};
 ghost use Rattle.std.specs.List.{list_any, position_or_len};
 ghost use Rattle.apl_arrays.specs.Origins.{origin_number};
 ghost use Rattle.apl_scalar.specs.Functions.{number_of};
-ghost use Rattle.apl_search.specs.inside.Tables.{IsIndexOf};
+ghost use Rattle.apl_search.specs.inside.Tables.{IsIndexOf, IsStandingOf};
 
 use crate::index::Index;
+use crate::standing::Standing;
 use apl_arrays::{MAX_ELEMENTS, Origin};
 use apl_charset::Ch;
 use std::alloc::{AllocError, Global};
@@ -71,36 +72,32 @@ pub(crate) fn standing_among(
 ) -> Result<Vec<i64>, AllocError>
     ensures { IfOk result (λ v. v.items ≡ map (λ x. number_of (list_any (int_eq x) among.now)) sought.now) }
 {
-    let index = Index::of(alloc, among, sought.len())?;
-    standing_by(alloc, &index, sought, among)
+    let standing = Standing::of(alloc, among, sought.len())?;
+    standing_by(alloc, &standing, sought, among)
 }
 
-/// The same by the others' index.
+/// The same by how it is found.
 fn standing_by(
     alloc: Global,
-    index: &Index,
+    standing: &Standing,
     sought: &[i64],
     among: &[i64],
 ) -> Result<Vec<i64>, AllocError>
-    requires { IsIndexOf index.now among.now }
+    requires { IsStandingOf standing.now among.now }
     ensures { IfOk result (λ v. v.items ≡ map (λ x. number_of (list_any (int_eq x) among.now)) sought.now) }
 {
     let mut verdicts = Vec::with_capacity(alloc, sought.len())?;
     for number in sought {
-        verdicts.push(verdict(index, among, *number))?;
+        verdicts.push(verdict(standing, among, *number))?;
     }
     Ok(verdicts)
 }
 
-/// 1 where a number stands among these, by their index, else 0.
+/// 1 where a number stands among these, else 0.
 #[inline(always)]
-fn verdict(index: &Index, numbers: &[i64], number: i64) -> i64
-    requires { IsIndexOf index.now numbers.now }
+fn verdict(standing: &Standing, numbers: &[i64], number: i64) -> i64
+    requires { IsStandingOf standing.now numbers.now }
     ensures { result ≡ number_of (list_any (int_eq number) numbers.now) }
 {
-    if index.first_place(numbers, number) < numbers.len() {
-        1
-    } else {
-        0
-    }
+    i64::from(standing.has(numbers, number))
 }

@@ -15,8 +15,8 @@ const FEWEST: usize = 64;
 /// All numbers from one to another.
 #[derive(Clone, Copy)]
 pub(crate) struct Span {
-    smallest: i64,
-    largest: i64,
+    pub(crate) smallest: i64,
+    pub(crate) largest: i64,
 }
 
 /// The first places of numbers, each in a slot for the number, from the smallest to the largest.
@@ -55,7 +55,7 @@ impl Span {
 
     /// The slot of one of these numbers.
     #[inline(always)]
-    fn slot(self, number: i64) -> usize
+    pub(crate) fn slot(self, number: i64) -> usize
         requires within { IsWithin self number }
         requires near { (self.largest -ℤ self.smallest) <ℤ pos (2 ^ 63) }
         ensures { self.smallest +ℤ pos result ≡ number }
@@ -65,7 +65,7 @@ impl Span {
 }
 
 /// From the smallest of numbers to their largest, how many numbers these are, and what a slot holds where none of the numbers stands; if a table has room for them.
-fn plan(numbers: &[i64]) -> Option<(Span, usize, u32)>
+pub(crate) fn plan(numbers: &[i64]) -> Option<(Span, usize, u32)>
     ensures within { IfSome result (λ r. All (IsWithin r.0) numbers.now) }
     ensures slots { IfSome result (λ r. Spans r.0 r.1) }
     ensures none { IfSome result (λ r. r.2 ≡ length numbers.now) }

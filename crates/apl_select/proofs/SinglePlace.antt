@@ -20,7 +20,7 @@ use Rattle.apl_arrays.specs.Checks.{demand, limited}
 use Rattle.apl_arrays.specs.Index.{indices, is_within, position_in, size_of}
 use Rattle.apl_arrays.specs.Kinds.{are_numbers}
 use Rattle.apl_arrays.specs.Results.{and_then, ok_map}
-use Rattle.apl_arrays.specs.Simple.{number_of_scalar, single}
+use Rattle.apl_arrays.specs.Simple.{lone_number, number_of_scalar, single}
 use Rattle.apl_arrays.specs.Views.{picked, selected}
 use Rattle.apl_arrays.specs.Written.{number_written, with_number}
 use Rattle.apl_arrays.proofs.Scalars.{number_alone}
@@ -230,6 +230,23 @@ pub assigned_if : (v b new : Arr) (origin : ℕ) (slots : List (Option Arr)) (pl
     MatchBool done (assigned v slots b origin ≡ Ok new) (new ≡ v)
 assigned_if v b new origin slots place z true full p e h there = assigned_one v b origin slots place z full p e (there (search rules)).0 ∙ ap (λ (a : Arr). Ok a) (sym h)
 assigned_if v b new origin slots place z false full p e h there = h
+
+-- numbers that pick no place are at fault, whatever is assigned
+pub fault_assigned : (v b : Arr) (origin : ℕ) (slots : List (Option Arr)) (fault : Fault) → PicksNone v origin slots → AreNumbers slots → fault ≡ fault_of_numbers v slots →
+    assigned v slots b origin ≡ Err fault
+fault_assigned v b origin slots fault p n e =
+    ap (λ (m : Result (List Places) Fault). and_then m (λ ps. and_then (limited (joined_shape ps)) (λ shape. assigned_at v ps shape b))) (p n) ∙ ap (λ (f : Fault). Err f) (sym e)
+
+-- the only place of a vector of one number
+pub only_place : (v : Arr) (origin : ℕ) (slots : List (Option Arr)) (place : ℕ) → v.shape ≡ 1 ∷ [] → PicksPlace v origin slots place → place ≡ 0
+only_place v origin slots place e p = let one : size_of v.shape ≡ 1 = ap size_of e in omega (arith, p.there, position_in-lt v.shape p.index p.within)
+
+-- the only number of a list
+pub lone : (items : Items) (z : ℤ) → lone_number items ≡ Some z → items ≡ Numbers (z ∷ [])
+lone (Numbers []) z e = absurd (cc)
+lone (Numbers (y ∷ [])) z e = let s : y ≡ z = cc in ap (λ (x : ℤ). Numbers (x ∷ [])) s
+lone (Numbers (y ∷ x ∷ zs)) z e = absurd (cc)
+lone (Characters cs) z e = absurd (cc)
 
 -- the element at one place
 number_one : (zs : List ℤ) (place : ℕ) (cell : Cell) → slice_get (map Num zs) place ≡ Some cell → record { shape = []; items = Numbers (get_or zs place (pos 0) ∷ []) } ≡ single cell

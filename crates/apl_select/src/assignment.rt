@@ -1,23 +1,27 @@
 // Indexed assignment.
-ghost use Rattle.std.specs.Prelude.{◌≡◌, ◌<◌, ◌≤◌, length, IfOk, MatchBool, Ok, OnErr};
+ghost use Rattle.std.specs.Prelude.{◌≡◌, ◌<◌, ◌≤◌, ℤ, length, IfOk, IsSome, IsTrue, OnErr, Some};
 ghost use Rattle.std.specs.List.{All};
-ghost use Rattle.apl_arrays.specs.Answers.{Answers, FaultsFirst};
+ghost use Rattle.apl_arrays.specs.Answers.{Answers, FaultsFirst, HadMemory};
 ghost use Rattle.apl_arrays.specs.Checks.{count_of};
 ghost use Rattle.apl_arrays.specs.Index.{bound_of};
+ghost use Rattle.apl_arrays.specs.Left.{listed};
 ghost use Rattle.apl_arrays.specs.Origins.{origin_number};
+ghost use Rattle.apl_arrays.specs.Simple.{at_most_one, lone_number};
 ghost use Rattle.apl_arrays.specs.Written.{AreEnough};
 ghost use Rattle.apl_select.specs.Assignment.{assigned, assigned_at};
-ghost use Rattle.apl_select.specs.Indexing.{joined_shape, slots_fit};
+ghost use Rattle.apl_select.specs.Indexing.{joined_shape, slots_fit, AreNumbers};
 ghost use Rattle.apl_select.specs.inside.Reached.{AreOnAxes};
+ghost use Rattle.apl_select.specs.inside.Single.{IsTried};
 ghost use Rattle.apl_select.specs.inside.Written.{overwritten};
 
 use crate::fitting::{fits_over, of_one_type};
 use crate::reach::places_led;
-use crate::single::place_picked;
+use crate::single::{fault_of_numbers, place_picked};
 use crate::slots::{Picked, joined_shape, picks_of};
 use apl_arrays::{
     Array, Elements, Lent, MAX_ELEMENTS, Origin, SharedArray, Stop, size, within_limits,
 };
+use apl_faults::Fault;
 use std::alloc::{AllocError, Global};
 
 /// The places to which index lists within what is joined lead, where `b` fits the joined shape: its shape is asked first and then its type.
@@ -76,24 +80,60 @@ fn overwritten(
     Ok(Array::in_shape(v.shape(), ravel))
 }
 
-/// Writes a number over the one element that slots pick, and says whether it did. It did not where anything is at fault, and where more is
-/// written than a number.
+/// The number, where there is just one element and it is a number.
+#[inline]
+fn lone_number(items: Elements<'_>) -> Option<i64>
+    ensures { result ≡ lone_number (listed items.entry) }
+{
+    match items {
+        Elements::Nums([number]) => Some(*number),
+        _ => None,
+    }
+}
+
+/// Writes a number over the one element that slots pick, and says whether it did. It did not where more is written than a number, and where
+/// a slot holds anything but one number. Slots of one number each that pick no place are at fault. It takes no memory.
 #[inline]
 fn number_assigned(
     array: &mut SharedArray,
     slots: &[Option<Array>],
     value: &Array,
     origin: usize,
-) -> bool
-    ensures { MatchBool result (assigned array.old slots.now value.now origin ≡ Ok array.new) (array.new ≡ array.old) }
+) -> Result<bool, Fault>
+    ensures value { IsTried result (assigned array.old slots.now value.now origin) array.old array.new }
+    ensures single { (z : ℤ) → array.old ≡ at_most_one (Some z) → AreNumbers slots.now → IsSome (lone_number value.now.items) → IfOk result (λ done. IsTrue done) }
 {
     let Some(place) = place_picked(&array.lend(), slots, origin) else {
-        return false;
+        return match fault_of_numbers(&array.lend(), slots) {
+            Some(fault) => Err(fault),
+            None => Ok(false),
+        };
     };
-    match value.items() {
-        Elements::Nums([number]) => array.set_number(place, *number),
-        _ => false,
+    match lone_number(value.items()) {
+        Some(number) => Ok(array.set_number(place, number)),
+        None => Ok(false),
     }
+}
+
+/// Changes the array itself, element by element. After each error it is as it was.
+fn elements_assigned(
+    alloc: Global,
+    array: &mut SharedArray,
+    slots: &[Option<Array>],
+    value: &Array,
+    origin: usize,
+) -> Result<(), Stop>
+    ensures value { Answers (λ u. array.new) (assigned array.old slots.now value.now origin) result }
+    ensures at_once { FaultsFirst (slots_fit array.old slots.now) result }
+    ensures err { OnErr result (array.new ≡ array.old) }
+{
+    let places = places_assigned(alloc, &array.lend(), slots, value, origin)?;
+    if array.write(places.as_slice(), value.items()) {
+        return Ok(());
+    }
+    let changed = overwritten(alloc, &array.lend(), value, places.as_slice())?;
+    *array = changed.into_shared(alloc)?;
+    Ok(())
 }
 
 /// The array `v` with the elements of `b` where slots pick, one slot for each axis, in ravel order of the slots' shapes one after another:
@@ -119,6 +159,8 @@ pub fn index_assign(
 }
 
 /// Changes the array itself so. After each error it is as it was.
+///
+/// One number over that of a vector of one number takes no memory, where slots of one number each count places or not.
 // Where no copy shares the elements they are written in place, one number for slots of one number each without an allocation. Whether a copy
 // shares them isn't in the model of a `SharedArray`, nor in that of the `Rc` below it, so no clause can say this.
 pub fn index_assign_into(
@@ -131,16 +173,11 @@ pub fn index_assign_into(
     ensures value { Answers (λ u. array.new) (assigned array.old slots.now value.now (origin_number origin)) result }
     ensures at_once { FaultsFirst (slots_fit array.old slots.now) result }
     ensures err { OnErr result (array.new ≡ array.old) }
+    ensures numbers { (z : ℤ) → array.old ≡ at_most_one (Some z) → AreNumbers slots.now → IsSome (lone_number value.now.items) → HadMemory result }
 {
     let first = origin.number();
-    if number_assigned(array, slots, value, first) {
+    if number_assigned(array, slots, value, first)? {
         return Ok(());
     }
-    let places = places_assigned(alloc, &array.lend(), slots, value, first)?;
-    if array.write(places.as_slice(), value.items()) {
-        return Ok(());
-    }
-    let changed = overwritten(alloc, &array.lend(), value, places.as_slice())?;
-    *array = changed.into_shared(alloc)?;
-    Ok(())
+    elements_assigned(alloc, array, slots, value, first)
 }

@@ -115,7 +115,7 @@ pub fn index(
     if let Some(cell) = element_picked(b, slots, first) {
         return Ok(Array::scalar(cell));
     }
-    if let Some(fault) = fault_of_numbers(b, slots) {
+    if let Some(fault) = fault_of_numbers(&b.lend(), slots) {
         return Err(Stop::Fault(fault));
     }
     elements_picked(alloc, b, slots, first)

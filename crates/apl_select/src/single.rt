@@ -72,7 +72,7 @@ fn all_hold_numbers(slots: &[Option<Array>]) -> bool
 }
 
 /// The fault of slots of one number each, which pick no place; none where a slot holds anything else. It takes no memory.
-pub(crate) fn fault_of_numbers(array: &Array, slots: &[Option<Array>]) -> Option<Fault>
+pub(crate) fn fault_of_numbers(array: &Lent<'_>, slots: &[Option<Array>]) -> Option<Fault>
     ensures { MatchOption result (AreNumbers slots.now → ⊥) (λ fault. AreNumbers slots.now × (fault ≡ fault_of_numbers array.now slots.now)) }
 {
     if !all_hold_numbers(slots) {

@@ -7,10 +7,11 @@ use Rattle.apl_arrays.specs.Cells.{Arr, Items, Numbers, Characters}
 use Rattle.apl_kept.specs.declared.names.Reading.{Reading}
 use Rattle.apl_kept.specs.declared.names.Reading.TheVariants as reading
 use Rattle.apl_machine_state.specs.declared.output.OutLine.{OutLine}
-use Rattle.apl_machine_state.specs.declared.output.Progress.{Progress}
+use Rattle.apl_kept.specs.declared.standing.Told.{Told}
+use Rattle.apl_kept.specs.declared.standing.Told.TheVariants.{Running, Stopped, Fault, Idle}
 use Rattle.apl_machine_state.specs.State.{State}
 use Rattle.apl_workspace_file.specs.Trees.{list_tree, number_tree, whole_tree}
-use Rattle.apl_serve.specs.Trees.{array_tree, items_tree, line_tree, named_tree, told_tree}
+use Rattle.apl_serve.specs.Trees.{array_tree, items_tree, line_tree, named_tree, standing_tree}
 
 items_plain : {A : Type 0} (f : A → Data) → ((x : A) → has_float (f x) ≡ false) → (xs : List A) → items_have_float (items_of (map f xs)) ≡ false
 items_plain f each [] = refl
@@ -42,5 +43,8 @@ named_plain name (reading.Numbers shape) = rw (list_plain whole_tree whole_plain
 named_plain name (reading.Characters shape) = rw (list_plain whole_tree whole_plain shape) refl
 named_plain name reading.Unset = refl
 
-pub told_plain : (s : State) (progress : Progress) → has_float (told_tree s progress) ≡ false
-told_plain s progress = rw (lines_plain s.output) refl
+pub standing_plain : (s : State) (told : Told) → has_float (standing_tree s told) ≡ false
+standing_plain s Running = rw (lines_plain s.output) refl
+standing_plain s Stopped = rw (lines_plain s.output) refl
+standing_plain s (Fault fault) = rw (lines_plain s.output) refl
+standing_plain s Idle = rw (lines_plain s.output) refl

@@ -4,10 +4,8 @@ use Rattle.serde_json.specs.Data.{Data}
 use Rattle.serde_json.specs.Find.{as_null}
 use Rattle.apl_charset.specs.Decoding.{decoded}
 use Rattle.apl_defn.specs.Definitions.{Text}
-use Rattle.apl_machine_state.specs.declared.output.Progress.{Progress}
-use Rattle.apl_machine_state.specs.declared.output.Progress.TheVariants.{Idle}
 use Rattle.apl_machine_state.specs.Objects.{levels}
-use Rattle.apl_machine_state.specs.State.{State, clear, interrupt, is_idle, progress_at, steps, steps_progress, value_of}
+use Rattle.apl_machine_state.specs.State.{State, clear, interrupt, is_idle, steps, value_of}
 use Rattle.apl_session.specs.Defining.{closed, name_in}
 use Rattle.apl_session.specs.Events.{typed}
 use Rattle.apl_workspace_file.specs.Json.{IsJson}
@@ -28,28 +26,28 @@ use Rattle.apl_serve.specs.declared.error.Refusal.TheVariants as refusal
 abbrev pub Outcome : Type 0
 Outcome = Result (List ℕ) Refusal
 
--- A session in this state, which stands so, tells it, and what it has written is taken; or there is no memory for that, and the state stays.
-abbrev pub Tells : State → Progress → Outcome → State → Type 0
-Tells s progress (Ok text) s' = (text ≡ line_of (told_tree s progress)) × (s' ≡ record s { output = [] })
-Tells s progress (Err refusal.Answer) s' = s' ≡ s
-Tells s progress (Err e) s' = ⊥
+-- A session in this state tells how it stands, and what it has written is taken; or there is no memory for that, and the state stays.
+abbrev pub Tells : State → Outcome → State → Type 0
+Tells s (Ok text) s' = (text ≡ line_of (told_tree s)) × (s' ≡ record s { output = [] })
+Tells s (Err refusal.Answer) s' = s' ≡ s
+Tells s (Err e) s' = ⊥
 
 -- A line is typed where it can be and nothing runs. Its steps are still to be made.
 abbrev pub Types : List ℕ → State → Outcome → State → Type 0
 Types line s (Err refusal.Line) s' = (¬ IsOneLine line) × (s' ≡ s)
 Types line s (Err refusal.Running) s' = IsOneLine line × IsFalse (is_idle s) × (s' ≡ s)
 Types line s (Err refusal.Memory) s' = IsOneLine line × IsTrue (is_idle s) × (s' ≡ s)
-Types line s outcome s' = IsOneLine line × IsTrue (is_idle s) × Tells (typed s line) (progress_at (typed s line)) outcome s'
+Types line s outcome s' = IsOneLine line × IsTrue (is_idle s) × Tells (typed s line) outcome s'
 
 -- At most so many steps are made, or less where memory runs out.
 abbrev pub Advances : ℕ → State → Outcome → State → Type 0
 Advances count s (Err refusal.Memory) s' = (done : ℕ) × (done < count) × (s' ≡ steps done s)
-Advances count s outcome s' = Tells (steps count s) (steps_progress count s) outcome s'
+Advances count s outcome s' = Tells (steps count s) outcome s'
 
 -- What runs is abandoned.
 abbrev pub Interrupts : State → Outcome → State → Type 0
 Interrupts s (Err refusal.Memory) s' = s' ≡ s
-Interrupts s outcome s' = Tells (interrupt s) (progress_at (interrupt s)) outcome s'
+Interrupts s outcome s' = Tells (interrupt s) outcome s'
 
 abbrev pub IsOpenedBy : Option ⊤ → Data → State → Type 0
 IsOpenedBy None tree s = IsSaved tree s
@@ -67,7 +65,7 @@ IsUnopened tree e = ((s : State) → ¬ IsOpened tree s) × ((bytes : List ℕ) 
 abbrev pub Opens : Data → State → Outcome → State → Type 0
 Opens tree s (Err (refusal.Load e)) s' = IsUnopened tree e × (s' ≡ s)
 Opens tree s (Err refusal.Memory) s' = s' ≡ s
-Opens tree s outcome s' = (t : State) × IsOpened tree t × Tells t Idle outcome s'
+Opens tree s outcome s' = (t : State) × IsOpened tree t × Tells t outcome s'
 
 -- What is asked for is answered by this tree, or there is nothing such, which is refused so.
 abbrev pub Answered : Option Data → Refusal → Outcome → Type 0

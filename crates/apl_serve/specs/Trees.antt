@@ -1,5 +1,5 @@
 -- The trees of answers.
-use Rattle.std.specs.Prelude.{ℕ, Bool, true, false, List, [], ◌∷◌, ◌++◌, codes}
+use Rattle.std.specs.Prelude.{ℕ, List, [], ◌∷◌, ◌++◌, codes}
 use Rattle.serde_json.specs.Data.{Data, boolean, string, object, Members, member, no_members}
 use Rattle.serde_json.specs.Written.{compact_text}
 use Rattle.apl_charset.specs.Text.{bytes}
@@ -8,37 +8,52 @@ use Rattle.apl_workspace_file.specs.Trees.{whole_tree, list_tree, elements_tree}
 use Rattle.apl_workspace_file.specs.declared.fields.Elements.TheVariants as elements
 use Rattle.apl_defn.specs.Definitions.{Text}
 use Rattle.apl_machine_state.specs.declared.level.Level.{Level}
+use Rattle.apl_faults.specs.Report.{number_of}
+use Rattle.apl_machine_state.specs.declared.output.LineKind.{LineKind}
+use Rattle.apl_machine_state.specs.declared.output.LineKind.TheVariants.{Shown, Trace, Stop, Answer, Report}
 use Rattle.apl_machine_state.specs.declared.output.OutLine.{OutLine}
-use Rattle.apl_machine_state.specs.declared.output.Progress.{Progress}
-use Rattle.apl_machine_state.specs.declared.output.Progress.TheVariants.{Idle, Stopped, LineEnd, Running}
 use Rattle.apl_machine_state.specs.State.{State}
 use Rattle.apl_session.specs.Defining.{next_line}
 use Rattle.apl_kept.specs.declared.names.Named.{Named}
 use Rattle.apl_kept.specs.declared.names.Reading.{Reading}
 use Rattle.apl_kept.specs.declared.names.Reading.TheVariants as reading
+use Rattle.apl_kept.specs.declared.standing.Told.{Told}
+use Rattle.apl_kept.specs.declared.standing.Told.TheVariants.{Running, Stopped, Fault, Idle}
+use Rattle.apl_kept.specs.Standing.{told_of}
 
 abbrev pub text_tree : Text → Data
 text_tree text = string (bytes text)
 
--- whether a line reports a stop
-abbrev pub kind_of : Bool → List ℕ
-kind_of true = codes "stop"
-kind_of false = codes "line"
+-- what a line is
+abbrev pub kind_word : LineKind → List ℕ
+kind_word Shown = codes "shown"
+kind_word Trace = codes "trace"
+kind_word Stop = codes "stop"
+kind_word Answer = codes "answer"
+kind_word (Report fault) = codes "report"
 
 abbrev pub line_tree : OutLine → Data
-line_tree line = object (member (codes "kind") (string (kind_of line.stop)) (member (codes "text") (text_tree line.text) no_members))
+line_tree line = object (member (codes "kind") (string (kind_word line.kind)) (member (codes "text") (text_tree line.text) no_members))
 
--- where a session stands
-abbrev pub word_of : Progress → List ℕ
-word_of Idle = codes "idle"
-word_of Stopped = codes "stopped"
-word_of LineEnd = codes "running"
+-- how a session stands
+abbrev pub word_of : Told → List ℕ
 word_of Running = codes "running"
+word_of Stopped = codes "stopped"
+word_of (Fault fault) = codes "fault"
+word_of Idle = codes "idle"
+
+-- a fault is told by its number
+abbrev pub with_fault : Told → Members → Members
+with_fault (Fault fault) members = member (codes "fault") (whole_tree (number_of fault)) members
+with_fault told members = members
 
 -- what a session in this state tells that stands so: what it has written and nobody has taken, and the number of the next line of an open definition
-abbrev pub told_tree : State → Progress → Data
-told_tree s progress = object (member (codes "lines") (list_tree line_tree s.output) (member (codes "next") (whole_tree (next_line s.definition))
-    (member (codes "state") (string (word_of progress)) no_members)))
+abbrev pub standing_tree : State → Told → Data
+standing_tree s told = object (with_fault told (member (codes "lines") (list_tree line_tree s.output)
+    (member (codes "next") (whole_tree (next_line s.definition)) (member (codes "state") (string (word_of told)) no_members))))
+
+abbrev pub told_tree : State → Data
+told_tree s = standing_tree s (told_of s)
 
 abbrev pub level_tree : Level → Data
 level_tree level = object (member (codes "line") (whole_tree level.line) (member (codes "name") (text_tree level.name)

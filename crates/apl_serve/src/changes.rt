@@ -3,43 +3,48 @@ ghost use Rattle.std.specs.Prelude.{◌≡◌, ◌≤◌, IfErr, IfOk, MatchResu
 ghost use Rattle.serde_json.specs.Data.{depth};
 ghost use Rattle.serde_json.specs.Read.{max_depth};
 ghost use Rattle.serde_json.specs.View.{view};
-ghost use Rattle.apl_machine_state.specs.State.{clear, progress_at};
+ghost use Rattle.apl_machine_state.specs.State.{clear};
 ghost use Rattle.apl_kept.specs.Keeping.{BeginsWith};
 ghost use Rattle.apl_serve.specs.Answers.{Advances, Interrupts, IsOpened, Opens, Tells, Types};
-ghost use Rattle.apl_serve.specs.Trees.{line_of, told_tree};
+ghost use Rattle.apl_serve.specs.Trees.{line_of, standing_tree, told_tree};
 ghost use Rattle.apl_serve.specs.inside.Parts.{IsClosed, IsShut};
 
 use crate::answer::line_of;
 use crate::error::Refusal;
 use crate::shown::{show_list, word_of};
-use apl_kept::{Kept, KeptError, open};
-use apl_machine::Progress;
+use apl_kept::{Kept, KeptError, Told, open};
 use apl_session::Bytes;
 use apl_workspace::LoadError;
 use serde_json::{Value, json};
 use std::alloc::{AllocError, Global};
 
 /// The tree of what a session tells that stands so.
-fn show_told(alloc: Global, kept: &Kept, progress: Progress) -> Result<Value, AllocError>
-    ensures { IfOk result (λ v. view v ≡ told_tree kept.now progress) }
+fn show_standing(alloc: Global, kept: &Kept, told: Told) -> Result<Value, AllocError>
+    ensures { IfOk result (λ v. view v ≡ standing_tree kept.now told) }
 {
     let lines = show_list(alloc, kept.output())?;
-    json!(in alloc; {"lines": lines, "next": kept.next_line(), "state": word_of(progress)})
+    let (next, state) = (kept.next_line(), word_of(told));
+    match told {
+        Told::Fault(fault) => {
+            json!(in alloc; {"fault": usize::from(fault.number()), "lines": lines, "next": next, "state": state})
+        }
+        _ => json!(in alloc; {"lines": lines, "next": next, "state": state}),
+    }
 }
 
-/// What a session tells that stands so.
-fn told(alloc: Global, kept: &Kept, progress: Progress) -> Result<Bytes, AllocError>
-    ensures { IfOk result (λ b. b ≡ line_of (told_tree kept.now progress)) }
+/// What a session tells.
+fn standing(alloc: Global, kept: &Kept) -> Result<Bytes, AllocError>
+    ensures { IfOk result (λ b. b ≡ line_of (told_tree kept.now)) }
 {
-    let tree = show_told(alloc, kept, progress)?;
+    let tree = show_standing(alloc, kept, kept.told())?;
     line_of(alloc, &tree)
 }
 
 /// Tells how a session stands; what it has written is taken then. Answer: there is no memory for that.
-fn tell(alloc: Global, kept: &mut Kept, progress: Progress) -> Result<Bytes, Refusal>
-    ensures { Tells kept.old progress result kept.new }
+fn tell(alloc: Global, kept: &mut Kept) -> Result<Bytes, Refusal>
+    ensures { Tells kept.old result kept.new }
 {
-    match told(alloc, kept, progress) {
+    match standing(alloc, kept) {
         Ok(text) => {
             drop(kept.take_output());
             Ok(text)
@@ -48,26 +53,12 @@ fn tell(alloc: Global, kept: &mut Kept, progress: Progress) -> Result<Bytes, Ref
     }
 }
 
-/// Where a session stands that no step was made of.
-fn progress_at(kept: &Kept) -> Progress
-    ensures { result ≡ progress_at kept.now }
-{
-    if kept.is_idle() {
-        Progress::Idle
-    } else {
-        Progress::Running
-    }
-}
-
 /// Types a line.
 pub(crate) fn type_line(alloc: Global, kept: &mut Kept, line: &str) -> Result<Bytes, Refusal>
     ensures { Types line.now kept.old result kept.new }
 {
     match kept.type_line(line.as_bytes()) {
-        Ok(()) => {
-            let progress = progress_at(kept);
-            tell(alloc, kept, progress)
-        }
+        Ok(()) => tell(alloc, kept),
         Err(KeptError::LineTooLong | KeptError::LineFeed) => Err(Refusal::Line),
         Err(KeptError::Running) => Err(Refusal::Running),
         Err(KeptError::Memory) => Err(Refusal::Memory),
@@ -79,7 +70,7 @@ pub(crate) fn advance(alloc: Global, kept: &mut Kept, count: u64) -> Result<Byte
     ensures { Advances count kept.old result kept.new }
 {
     match kept.advance(count) {
-        Ok(progress) => tell(alloc, kept, progress),
+        Ok(_) => tell(alloc, kept),
         Err(AllocError) => Err(Refusal::Memory),
     }
 }
@@ -89,10 +80,7 @@ pub(crate) fn interrupt(alloc: Global, kept: &mut Kept) -> Result<Bytes, Refusal
     ensures { Interrupts kept.old result kept.new }
 {
     match kept.interrupt() {
-        Ok(()) => {
-            let progress = progress_at(kept);
-            tell(alloc, kept, progress)
-        }
+        Ok(()) => tell(alloc, kept),
         Err(AllocError) => Err(Refusal::Memory),
     }
 }
@@ -138,5 +126,5 @@ pub(crate) fn open_anew(alloc: Global, kept: &mut Kept, tree: &Value) -> Result<
     ensures { Opens (view tree.now) kept.old result kept.new }
 {
     *kept = open_tree(alloc, tree)?;
-    tell(alloc, kept, Progress::Idle)
+    tell(alloc, kept)
 }

@@ -5,12 +5,12 @@ ghost use Rattle.serde_json.specs.Data.{Data};
 ghost use Rattle.serde_json.specs.View.{view};
 ghost use Rattle.apl_workspace_file.specs.Trees.{whole_tree, number_tree, list_tree};
 ghost use Rattle.apl_arrays.specs.Left.{listed};
-ghost use Rattle.apl_serve.specs.Trees.{text_tree, line_tree, level_tree, named_tree, array_tree, items_tree, word_of};
+ghost use Rattle.apl_serve.specs.Trees.{text_tree, kind_word, line_tree, level_tree, named_tree, array_tree, items_tree, word_of};
 
 use apl_arrays::{Elements, SharedArray};
 use apl_charset::{Ch, Text};
-use apl_kept::{Named, Reading};
-use apl_machine::{Level, OutLine, Progress};
+use apl_kept::{Named, Reading, Told};
+use apl_machine::{Level, LineKind, OutLine};
 use serde_json::{Value, json};
 use std::alloc::{AllocError, Global};
 
@@ -77,11 +77,24 @@ impl Shown for Text {
     }
 }
 
+/// The word of what a line is.
+fn kind_word(kind: LineKind) -> &'static str
+    ensures { result.now ≡ kind_word kind }
+{
+    match kind {
+        LineKind::Shown => "shown",
+        LineKind::Trace => "trace",
+        LineKind::Stop => "stop",
+        LineKind::Answer => "answer",
+        LineKind::Report(_) => "report",
+    }
+}
+
 impl Shown for OutLine {
     ghost tree = { line_tree };
 
     fn show(&self, alloc: Global) -> Result<Value, AllocError> {
-        let kind = if self.stop { "stop" } else { "line" };
+        let kind = kind_word(self.kind);
         let text = self.text.show(alloc)?;
         json!(in alloc; {"kind": kind, "text": text})
     }
@@ -144,13 +157,14 @@ impl Shown for SharedArray {
     }
 }
 
-/// The word for where a session stands.
-pub(crate) fn word_of(progress: Progress) -> &'static str
-    ensures { result.now ≡ word_of progress }
+/// The word for how a session stands.
+pub(crate) fn word_of(told: Told) -> &'static str
+    ensures { result.now ≡ word_of told }
 {
-    match progress {
-        Progress::Idle => "idle",
-        Progress::Stopped => "stopped",
-        Progress::LineEnd | Progress::Running => "running",
+    match told {
+        Told::Running => "running",
+        Told::Stopped => "stopped",
+        Told::Fault(_) => "fault",
+        Told::Idle => "idle",
     }
 }

@@ -2,6 +2,7 @@
 use Rattle.std.proofs.Common.{◌≡◌, ℕ, zero, suc, List, Option, Bool, true, false, cond, ap, ◌∙◌, refl}
 use Rattle.apl_defn.specs.Definitions.{Text, Definition, is_line}
 use Rattle.apl_names.specs.Maps.{Map}
+use Rattle.apl_machine_state.specs.declared.output.OutLine.{OutLine}
 use Rattle.apl_machine_state.specs.declared.output.Progress.{Progress}
 use Rattle.apl_machine_state.specs.Environment.{World, Context}
 use Rattle.apl_machine_state.specs.declared.watch.Watch.TheVariants.{Stop, Trace}
@@ -13,12 +14,12 @@ use Rattle.apl_vectors.specs.Vectors.{has_line}
 abbrev pub within : Option (List Text) → State → State
 within d s = record s { definition = d }
 
-comes-within : (d : Option (List Text)) (stops : Bool) (s : State) (w : World) (f : Definition) (n : ℕ) (locals : Map) (below : List Context) (lines : List Text) (ended : Bool) →
+comes-within : (d : Option (List Text)) (stops : Bool) (s : State) (w : World) (f : Definition) (n : ℕ) (locals : Map) (below : List Context) (lines : List OutLine) (ended : Bool) →
     (comes_to stops (within d s) w f n locals below lines ended).state ≡ within d (comes_to stops s w f n locals below lines ended).state
 comes-within d true s w f n locals below lines ended = refl
 comes-within d false s w f n locals below lines ended = refl
 
-arrived-within : (d : Option (List Text)) (is_there : Bool) (s : State) (w : World) (f : Definition) (n : ℕ) (locals : Map) (below : List Context) (lines : List Text) (ended : Bool) →
+arrived-within : (d : Option (List Text)) (is_there : Bool) (s : State) (w : World) (f : Definition) (n : ℕ) (locals : Map) (below : List Context) (lines : List OutLine) (ended : Bool) →
     (arrived is_there (within d s) w f n locals below lines ended).state ≡ within d (arrived is_there s w f n locals below lines ended).state
 arrived-within d true s w f n locals below lines ended = comes-within d (has_line f.header.name n s.stops) s w f n locals below lines ended
 arrived-within d false s w f n locals below lines ended = refl
@@ -34,12 +35,12 @@ pub steps-within : (d : Option (List Text)) (n : ℕ) (s : State) → steps n (w
 steps-within d zero s = refl
 steps-within d (suc n) s = ap (steps n) (applied-within d s (change s.world s.contexts)) ∙ steps-within d n (step s)
 
-comes-progress : (d : Option (List Text)) (stops : Bool) (s : State) (w : World) (f : Definition) (n : ℕ) (locals : Map) (below : List Context) (lines : List Text) (ended : Bool) →
+comes-progress : (d : Option (List Text)) (stops : Bool) (s : State) (w : World) (f : Definition) (n : ℕ) (locals : Map) (below : List Context) (lines : List OutLine) (ended : Bool) →
     progress (comes_to stops (within d s) w f n locals below lines ended) ≡ progress (comes_to stops s w f n locals below lines ended)
 comes-progress d true s w f n locals below lines ended = refl
 comes-progress d false s w f n locals below lines ended = refl
 
-arrived-progress : (d : Option (List Text)) (is_there : Bool) (s : State) (w : World) (f : Definition) (n : ℕ) (locals : Map) (below : List Context) (lines : List Text) (ended : Bool) →
+arrived-progress : (d : Option (List Text)) (is_there : Bool) (s : State) (w : World) (f : Definition) (n : ℕ) (locals : Map) (below : List Context) (lines : List OutLine) (ended : Bool) →
     progress (arrived is_there (within d s) w f n locals below lines ended) ≡ progress (arrived is_there s w f n locals below lines ended)
 arrived-progress d true s w f n locals below lines ended = comes-progress d (has_line f.header.name n s.stops) s w f n locals below lines ended
 arrived-progress d false s w f n locals below lines ended = refl

@@ -7,11 +7,11 @@ use Rattle.apl_faults.specs.Report.{place}
 use Rattle.apl_defn.specs.Definitions.{Text}
 use Rattle.apl_defn.specs.Reading.{name_of}
 use Rattle.apl_machine_state.specs.declared.level.Level.{Level}
-use Rattle.apl_machine_state.specs.State.{State, with_lines}
+use Rattle.apl_machine_state.specs.State.{State}
 use Rattle.apl_machine_state.specs.Objects.{cleared, erased, globals, levels}
 use Rattle.apl_session.specs.declared.commands.Command.{Command}
 use Rattle.apl_session.specs.declared.commands.Command.TheVariants.{StateIndicator, Functions, Variables, Erase, Clear}
-use Rattle.apl_session.specs.Defining.{refused}
+use Rattle.apl_session.specs.Defining.{answered, refused}
 
 -- what stands before the first blank
 abbrev pub before_blank : Text → Text
@@ -78,9 +78,9 @@ erasing s names = refused s CommandFault
 
 -- a command without words behind it is obeyed
 abbrev pub obeyed : State → Command → State
-obeyed s StateIndicator = with_lines (map shown_level (levels s.contexts)) s
-obeyed s Functions = with_lines (function_names (globals s)) s
-obeyed s Variables = with_lines (variable_names (globals s)) s
+obeyed s StateIndicator = answered (map shown_level (levels s.contexts)) s
+obeyed s Functions = answered (function_names (globals s)) s
+obeyed s Variables = answered (variable_names (globals s)) s
 obeyed s Erase = refused s CommandFault
 obeyed s Clear = cleared s
 

@@ -1,5 +1,5 @@
 -- Definitions of functions, as their lines are typed.
-use Rattle.std.specs.Prelude.{ℕ, nat_le, Bool, ◌==◌, not, List, [], ◌∷◌, ◌++◌, length, take, drop, filter, Option, Some, None, Result, Ok, Err, if◌then◌else◌}
+use Rattle.std.specs.Prelude.{ℕ, nat_le, Bool, ◌==◌, not, List, [], ◌∷◌, ◌++◌, length, take, drop, filter, slice_get, Option, Some, None, Result, Ok, Err, if◌then◌else◌}
 use Rattle.std.specs.List.{position}
 use Rattle.std.specs.Str.{bytes_eq}
 use Rattle.apl_symbols.specs.Names.{is_short_enough}
@@ -12,11 +12,17 @@ use Rattle.apl_defn.specs.Blanks.{trimmed}
 use Rattle.apl_defn.specs.Reading.{header_of}
 use Rattle.apl_defn.specs.Defining.{defined_of}
 use Rattle.apl_defn.specs.Listing.{listed}
+use Rattle.apl_machine_state.specs.declared.output.LineKind.TheVariants.{Answer, Report}
+use Rattle.apl_machine_state.specs.Reports.{lines_of}
 use Rattle.apl_machine_state.specs.State.{State, definition_of, is_global_variable, with_function, with_lines}
 
 -- a fault is reported by its name alone
 abbrev pub refused : State → Fault → State
-refused s fault = with_lines (name_of fault ∷ []) s
+refused s fault = with_lines (lines_of (Report fault) (name_of fault ∷ [])) s
+
+-- a command or a line of a definition is answered
+abbrev pub answered : List Text → State → State
+answered texts s = with_lines (lines_of Answer texts) s
 
 -- the state without an open definition
 abbrev pub closed : State → State
@@ -30,6 +36,11 @@ opened lines s = record s { definition = Some lines }
 abbrev pub next_line : Option (List Text) → ℕ
 next_line None = 0
 next_line (Some lines) = length lines
+
+-- the header of an open definition, if one is open
+abbrev pub open_header : Option (List Text) → Option Text
+open_header None = None
+open_header (Some lines) = slice_get lines 0
 
 -- The text behind a first ∇.
 
@@ -66,7 +77,7 @@ shown_name text = shown_before text (position (λ c. c == 0x5B) text)
 -- a function is shown, where there is one
 abbrev pub shown : State → Option Definition → State
 shown s None = refused s Defn
-shown s (Some d) = with_lines (listed d) s
+shown s (Some d) = answered (listed d) s
 
 -- a text that is this header opens a definition, unless the header's name is that of a global variable
 abbrev pub opened_by : State → Text → Result Header DefnError → State

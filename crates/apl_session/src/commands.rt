@@ -1,15 +1,15 @@
 // Commands, as they are typed behind `)`.
 ghost use Rattle.std.specs.Prelude.{◌≡◌, map, IfOk, OnErr, OnOk};
 ghost use Rattle.apl_machine_state.specs.Objects.{globals, levels};
-ghost use Rattle.apl_machine_state.specs.State.{with_lines};
 ghost use Rattle.apl_session.specs.Commands as model;
+ghost use Rattle.apl_session.specs.Defining.{answered};
 
 use crate::definition::refuse;
 use crate::words::{names_in, next_word, split_blank};
 use apl_charset::{Ch, Text, push_ascii};
 use apl_debug::{Level, state_indicator};
 use apl_faults::{Call, Fault, place};
-use apl_machine::Machine;
+use apl_machine::{LineKind, Machine};
 use apl_symbols::Name;
 use std::alloc::{AllocError, Global};
 
@@ -126,32 +126,32 @@ fn variable_lines(alloc: Global, names: &[(Name, bool)]) -> Result<Vec<Text>, Al
 
 /// Shows the standing calls, newest first.
 fn show_levels(alloc: Global, machine: &mut Machine) -> Result<(), AllocError>
-    ensures ok { OnOk result (machine.new ≡ with_lines (map model.shown_level (levels machine.old.contexts)) machine.old) }
+    ensures ok { OnOk result (machine.new ≡ answered (map model.shown_level (levels machine.old.contexts)) machine.old) }
     ensures err { OnErr result (machine.new ≡ machine.old) }
 {
     let levels = state_indicator(machine)?;
     let lines = level_lines(alloc, &levels)?;
-    machine.say_lines(lines)
+    machine.say_lines(LineKind::Answer, lines)
 }
 
 /// Shows the names of the functions, ascending.
 fn show_functions(alloc: Global, machine: &mut Machine) -> Result<(), AllocError>
-    ensures ok { OnOk result (machine.new ≡ with_lines (model.function_names (globals machine.old)) machine.old) }
+    ensures ok { OnOk result (machine.new ≡ answered (model.function_names (globals machine.old)) machine.old) }
     ensures err { OnErr result (machine.new ≡ machine.old) }
 {
     let names = machine.globals()?;
     let lines = function_lines(alloc, &names)?;
-    machine.say_lines(lines)
+    machine.say_lines(LineKind::Answer, lines)
 }
 
 /// Shows the names of the variables, ascending.
 fn show_variables(alloc: Global, machine: &mut Machine) -> Result<(), AllocError>
-    ensures ok { OnOk result (machine.new ≡ with_lines (model.variable_names (globals machine.old)) machine.old) }
+    ensures ok { OnOk result (machine.new ≡ answered (model.variable_names (globals machine.old)) machine.old) }
     ensures err { OnErr result (machine.new ≡ machine.old) }
 {
     let names = machine.globals()?;
     let lines = variable_lines(alloc, &names)?;
-    machine.say_lines(lines)
+    machine.say_lines(LineKind::Answer, lines)
 }
 
 /// Obeys a command behind which no words stand.

@@ -1,16 +1,16 @@
 // A machine that is typed to.
-ghost use Rattle.std.specs.Prelude.{◌≡◌, ◌↔◌, [], ◌∷◌, ℕ, ◌<◌, take, slice_get, not, ◌==◌, find, true, Some, None, IfErr, IfOk, OnOk, OnErr, IsErrOf, IsFalse};
+ghost use Rattle.std.specs.Prelude.{◌≡◌, ◌↔◌, [], ◌∷◌, ℕ, ◌<◌, take, option_copied, slice_get, not, ◌==◌, find, true, Some, None, IfErr, IfOk, OnOk, OnErr, IsErrOf, IsFalse};
 ghost use Rattle.apl_machine_state.specs.State.{is_idle, steps, steps_progress, interrupt};
 ghost use Rattle.apl_order.specs.Kept.{IsKept};
 ghost use Rattle.apl_session.specs.Commands.{commanded};
-ghost use Rattle.apl_session.specs.Defining.{refused, closed, next_line, typed_behind_del};
+ghost use Rattle.apl_session.specs.Defining.{refused, closed, next_line, open_header, typed_behind_del};
 ghost use Rattle.apl_session.specs.Events as model;
 ghost use Rattle.apl_session.specs.Refusals.{feed_number};
 ghost use Rattle.apl_session.specs.Views.{event as event_view, event_list};
 
 use crate::commands::obey;
 use crate::definition::{OpenDefinition, behind_mark, close, is_close, refuse, show_or_open};
-use apl_charset::{Ch, CharFault, decode_line};
+use apl_charset::{Ch, CharFault, Text, decode_line};
 use apl_defn::trimmed;
 use apl_faults::Fault;
 use apl_machine::{BeginError, Machine, OutLine, Progress};
@@ -100,11 +100,23 @@ pub struct DriveError {
 
 /// A machine with what is typed to it. Contracts see it as the machine's state with the definition
 /// that is open.
-#[derive(Drop)]
 pub struct Session {
     alloc: Global,
     machine: Machine,
     definition: Option<OpenDefinition>,
+}
+
+// Written out, so that no crate above proves again what it does.
+impl Drop for Session {
+    fn drop(self) {
+        let Session {
+            alloc: _,
+            machine,
+            definition,
+        } = self;
+        drop(machine);
+        drop(definition);
+    }
 }
 
 impl Model for Session {
@@ -138,7 +150,11 @@ impl Session {
     pub fn into_machine(self) -> Machine
         ensures { result ≡ closed self }
     {
-        let Session { machine, .. } = self;
+        let Session {
+            alloc: _,
+            machine,
+            definition: _,
+        } = self;
         machine.opens_no_definition();
         machine
     }
@@ -166,6 +182,16 @@ impl Session {
         match &self.definition {
             Some(definition) => definition.as_slice().len(),
             None => 0,
+        }
+    }
+
+    /// The header of the definition that is open, as it was typed behind `∇`; none where none is open.
+    pub fn header(&self) -> Option<&Text>
+        ensures { option_copied result ≡ open_header self.now.definition }
+    {
+        match &self.definition {
+            Some(definition) => definition.as_slice().first(),
+            None => None,
         }
     }
 

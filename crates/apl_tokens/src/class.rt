@@ -21,6 +21,7 @@ pub enum Class {
 }
 
 /// What a character may begin or belong to.
+#[inline(always)]
 #[tactic(auto, unfolding(crate::specs::Characters::class_of))]
 pub fn class_of(c: Ch) -> Class
     ensures { result ≡ class_of c }

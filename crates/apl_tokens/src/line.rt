@@ -123,7 +123,8 @@ fn spelled(alloc: Global, text: &[Ch]) -> Result<Vec<Token>, TokenError>
     ensures found { IfOk result (λ v. Joins text.now v.items) }
     ensures fault { IfErr result (λ e. Breaks text.now e) }
 {
-    let mut out = Vec::new(alloc);
+    // A token takes at least a character; the room that is left over is given back.
+    let mut out = Vec::with_capacity(alloc, text.len())?;
     let mut place = Place::Start;
     let mut rest = text;
     while let Some((token, after)) = piece(alloc, text.len() + 1, place, rest)? {
@@ -131,6 +132,7 @@ fn spelled(alloc: Global, text: &[Ch]) -> Result<Vec<Token>, TokenError>
         push_joined(&mut out, token)?;
         rest = after;
     }
+    out.shrink_to_fit();
     Ok(out)
 }
 

@@ -12,10 +12,17 @@ pub const MOST_LINES: usize = 999;
 
 /// The stop or trace vectors of functions. Contracts see a list of names, which ascend, with their
 /// line numbers. The vector of a function that isn't listed is empty.
-#[derive(Drop)]
 pub struct Vectors {
     alloc: Global,
     vectors: BTreeMap<Name, Vec<usize>>,
+}
+
+// Written out, so that no crate above proves again what it does.
+impl Drop for Vectors {
+    fn drop(self) {
+        let Vectors { alloc: _, vectors } = self;
+        drop(vectors);
+    }
 }
 
 impl Model for Vectors {

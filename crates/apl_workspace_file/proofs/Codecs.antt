@@ -9,7 +9,7 @@ use Rattle.serde_json.specs.View.{items_of}
 use Rattle.serde_json.specs.Find.{as_object}
 use Rattle.apl_workspace_file.specs.Trees.{whole_tree, number_tree, list_tree, option_tree}
 use Rattle.apl_workspace_file.specs.Fitting.{IsWhole, IsNumber, FitsOption}
-use Rattle.apl_workspace_file.specs.Reading.{◌>>=◌, form_of, field, ended, with_field, whole_of, number_of, text_of, word_of, read_items, list_of, option_by, option_of}
+use Rattle.apl_workspace_file.specs.Reading.{◌>>=◌, form_of, object_of, field, next, ended, with_field, whole_of, number_of, text_of, word_of, read_items, list_of, option_by, option_of}
 use Rattle.apl_workspace_file.specs.declared.error.TreeError.{TreeError}
 use Rattle.apl_workspace_file.specs.declared.error.TreeError.TheVariants.{Form}
 
@@ -122,6 +122,15 @@ word_again word u h = rw (equal_bytes word) refl
 pub word_codec : (word : List ℕ) → IsCodec (word_of word) (λ _. string word) Always
 word_codec word = record { takes = word_takes word; again = word_again word }
 
+-- what is read of one kind, as a value of all kinds
+pub wrapped_takes : {A B : Type 0} (read : Data → Result A TreeError) (tree : A → Data) (Fits : A → Type 0) → IsCodec read tree Fits
+    → (wrap : A → B) (whole : B → Data) (WholeFits : B → Type 0) → ((x : A) → tree x ≡ whole (wrap x)) → ((x : A) → Fits x → WholeFits (wrap x))
+    → (d : Data) (y : B) → (read d >>= λ x. Ok (wrap x)) ≡ Ok y → (d ≡ whole y) × WholeFits y
+wrapped_takes read tree Fits codec wrap whole WholeFits same fits d y e =
+    let x = bind_ok (read d) (λ x. Ok (wrap x)) y e in
+    let t = codec.takes d x.0 x.1 in
+    subst (λ z. (d ≡ whole z) × WholeFits z) (ok_is (wrap x.0) y x.2) (t.0 ∙ same x.0, fits x.0 t.1)
+
 -- ---- lists, and what may be missing
 
 module _ {A : Type 0} (read : Data → Result A TreeError) (tree : A → Data) (Fits : A → Type 0) (codec : IsCodec read tree Fits) where
@@ -154,19 +163,14 @@ module _ {A : Type 0} (read : Data → Result A TreeError) (tree : A → Data) (
   pub list_codec : IsCodec (list_of read) (list_tree tree) (AllByRecursion Fits)
   list_codec = record { takes = list_takes; again = list_again }
 
-  some_takes : (d : Data) (o : Option A) → (read d >>= λ x. Ok (Some x)) ≡ Ok o → (d ≡ option_tree tree o) × FitsOption Fits o
-  some_takes d o e =
-      let x = bind_ok (read d) (λ x. Ok (Some x)) o e in
-      subst (λ (p : Option A). (d ≡ option_tree tree p) × FitsOption Fits p) (ok_is (Some x.0) o x.2) (codec.takes d x.0 x.1)
-
   option_takes : (d : Data) (o : Option A) → option_of read d ≡ Ok o → (d ≡ option_tree tree o) × FitsOption Fits o
   unfolding option_of
   option_takes null o e = subst (λ (p : Option A). (null ≡ option_tree tree p) × FitsOption Fits p) (ok_is None o e) (refl, tt)
-  option_takes (array ds) o e = some_takes (array ds) o e
-  option_takes (string s) o e = some_takes (string s) o e
-  option_takes (number n) o e = some_takes (number n) o e
-  option_takes (boolean b) o e = some_takes (boolean b) o e
-  option_takes (object ms) o e = some_takes (object ms) o e
+  option_takes (array ds) o e = wrapped_takes read tree Fits codec Some (option_tree tree) (FitsOption Fits) (λ x. refl) (λ x h. h) (array ds) o e
+  option_takes (string s) o e = wrapped_takes read tree Fits codec Some (option_tree tree) (FitsOption Fits) (λ x. refl) (λ x h. h) (string s) o e
+  option_takes (number n) o e = wrapped_takes read tree Fits codec Some (option_tree tree) (FitsOption Fits) (λ x. refl) (λ x h. h) (number n) o e
+  option_takes (boolean b) o e = wrapped_takes read tree Fits codec Some (option_tree tree) (FitsOption Fits) (λ x. refl) (λ x h. h) (boolean b) o e
+  option_takes (object ms) o e = wrapped_takes read tree Fits codec Some (option_tree tree) (FitsOption Fits) (λ x. refl) (λ x h. h) (object ms) o e
 
   -- what isn't null is read by the reader itself
   some_again : (d : Data) (x : A) → ¬ (read null ≡ Ok x) → read d ≡ Ok x → option_by d (read d) ≡ Ok (Some x)
@@ -209,40 +213,28 @@ module _ {A R : Type 0} (k : List ℕ) (f : Data → Result A TreeError) (tree :
   abbrev pub FitsThen : A × R → Type 0
   FitsThen p = Fits p.0 × RestFits p.1
 
+  next_takes : (ms : Members) (x : A × Members) → next k f ms ≡ Ok x → (ms ≡ member k (tree x.0) x.1) × Fits x.0
+  unfolding next
+  next_takes ms x e =
+      let d = bind_ok (field k ms) (λ d. f d.0 >>= λ a. Ok (a, d.1)) x e in
+      let a = bind_ok (f d.0.0) (λ a. Ok (a, d.0.1)) x d.2 in
+      let t = codec.takes d.0.0 a.0 a.1 in
+      subst (λ (y : A × Members). (ms ≡ member k (tree y.0) y.1) × Fits y.0) (ok_is (a.0, d.0.1) x a.2) (field_takes k ms d.0 d.1 ∙ ap (λ (u : Data). member k u d.0.1) t.0, t.1)
+
   then_takes : (ms : Members) (p : A × R) → with_field k f rest ms ≡ Ok p → (ms ≡ members_then p) × FitsThen p
   then_takes ms p e =
-      let x = bind_ok (field k ms) (λ x. f x.0 >>= λ a. rest x.1 >>= λ r. Ok (a, r)) p e in
-      let a = bind_ok (f x.0.0) (λ a. rest x.0.1 >>= λ r. Ok (a, r)) p x.2 in
-      let r = bind_ok (rest x.0.1) (λ r. Ok (a.0, r)) p a.2 in
-      let first = codec.takes x.0.0 a.0 a.1 in
-      let second = others.takes x.0.1 r.0 r.1 in
-      let here : ms ≡ member k (tree a.0) (members r.0) = field_takes k ms x.0 x.1 ∙ ap (λ (d : Data). member k d x.0.1) first.0 ∙ ap (member k (tree a.0)) second.0 in
-      subst (λ (q : A × R). (ms ≡ members_then q) × FitsThen q) (ok_is (a.0, r.0) p r.2) (here, (first.1, second.1))
+      let a = bind_ok (next k f ms) (λ a. rest a.1 >>= λ r. Ok (a.0, r)) p e in
+      let r = bind_ok (rest a.0.1) (λ r. Ok (a.0.0, r)) p a.2 in
+      let first = next_takes ms a.0 a.1 in
+      let second = others.takes a.0.1 r.0 r.1 in
+      subst (λ (q : A × R). (ms ≡ members_then q) × FitsThen q) (ok_is (a.0.0, r.0) p r.2) (first.0 ∙ ap (member k (tree a.0.0)) second.0, (first.1, second.1))
 
   then_again : (p : A × R) → FitsThen p → with_field k f rest (members_then p) ≡ Ok p
+  unfolding next
   then_again p h = rw (equal_bytes k, codec.again p.0 h.0, others.again p.1 h.1) refl
 
   pub then_codec : IsMembersCodec (with_field k f rest) members_then FitsThen
   then_codec = record { takes = then_takes; again = then_again }
-
--- what is made of all members
-pub built : {P B : Type 0} (read : Members → Result P TreeError) (members : P → Members) (PartsFit : P → Type 0) → IsMembersCodec read members PartsFit
-    → (make : P → B) (parts : B → P) (whole : B → Members) (Fits : B → Type 0)
-    → ((b : B) → make (parts b) ≡ b) → ((p : P) → members p ≡ whole (make p)) → ((p : P) → PartsFit p → Fits (make p)) → ((b : B) → Fits b → PartsFit (parts b))
-    → IsMembersCodec (λ ms. read ms >>= λ p. Ok (make p)) whole Fits
-built {P} {B} read members PartsFit codec make parts whole Fits same tree fits fit = record { takes = made_takes; again = made_again }
-  where
-    made_takes : (ms : Members) (b : B) → (read ms >>= λ p. Ok (make p)) ≡ Ok b → (ms ≡ whole b) × Fits b
-    made_takes ms b e =
-        let p = bind_ok (read ms) (λ p. Ok (make p)) b e in
-        let t = codec.takes ms p.0 p.1 in
-        subst (λ (x : B). (ms ≡ whole x) × Fits x) (ok_is (make p.0) b p.2) (t.0 ∙ tree p.0, fits p.0 t.1)
-
-    made_again : (b : B) → Fits b → (read (whole b) >>= λ p. Ok (make p)) ≡ Ok b
-    made_again b h =
-        let here : members (parts b) ≡ whole b = tree (parts b) ∙ ap whole (same b) in
-        let found : read (whole b) ≡ Ok (parts b) = subst (λ (ms : Members). read ms ≡ Ok (parts b)) here (codec.again (parts b) (fit b h)) in
-        rw found (ap Ok (same b))
 
 -- ---- objects
 
@@ -255,11 +247,24 @@ object_is null x e = absurd cc
 object_is (boolean b) x e = absurd cc
 
 pub object_codec : {A : Type 0} (read : Members → Result A TreeError) (members : A → Members) (Fits : A → Type 0) → IsMembersCodec read members Fits
-    → IsCodec (λ d. form_of (as_object d) >>= read) (λ x. object (members x)) Fits
+    → IsCodec (object_of read) (λ x. object (members x)) Fits
 object_codec {A} read members Fits codec = record { takes = all_take; again = λ x h. codec.again x h }
   where
-    all_take : (d : Data) (x : A) → (form_of (as_object d) >>= read) ≡ Ok x → (d ≡ object (members x)) × Fits x
+    all_take : (d : Data) (x : A) → object_of read d ≡ Ok x → (d ≡ object (members x)) × Fits x
     all_take d x e =
         let ms = bind_ok (form_of (as_object d)) read x e in
         let t = codec.takes ms.0 x ms.2 in
         (object_is d ms.0 ms.1 ∙ ap object t.0, t.1)
+
+-- what is made of all members
+pub built : {P B : Type 0} (read : Data → Result P TreeError) (tree : P → Data) (PartsFit : P → Type 0) → IsCodec read tree PartsFit
+    → (make : P → B) (parts : B → P) (whole : B → Data) (Fits : B → Type 0)
+    → ((b : B) → make (parts b) ≡ b) → ((p : P) → tree p ≡ whole (make p)) → ((p : P) → PartsFit p → Fits (make p)) → ((b : B) → Fits b → PartsFit (parts b))
+    → IsCodec (λ d. read d >>= λ p. Ok (make p)) whole Fits
+built {P} {B} read tree PartsFit codec make parts whole Fits same trees fits fit = record { takes = wrapped_takes read tree PartsFit codec make whole Fits trees fits; again = made_again }
+  where
+    made_again : (b : B) → Fits b → (read (whole b) >>= λ p. Ok (make p)) ≡ Ok b
+    made_again b h =
+        let here : tree (parts b) ≡ whole b = trees (parts b) ∙ ap whole (same b) in
+        let found : read (whole b) ≡ Ok (parts b) = subst (λ (d : Data). read d ≡ Ok (parts b)) here (codec.again (parts b) (fit b h)) in
+        rw found (ap Ok (same b))

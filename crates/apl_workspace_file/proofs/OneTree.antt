@@ -1,9 +1,9 @@
 -- Files of one tree are one file.
-use Rattle.std.proofs.Common.{◌≡◌, ℕ, ℤ, pos, negsuc, false, List, [], ◌∷◌, map, codes, Some, None, refl, sym, ap, ◌∙◌, true≢false}
+use Rattle.std.proofs.Common.{◌≡◌, ℕ, ℤ, pos, negsuc, Bool, false, bytes_eq, Option, List, [], ◌∷◌, map, codes, Some, None, refl, sym, ap, ◌∙◌, true≢false}
 use Rattle.serde_json.specs.Data.{Data, null, boolean, number, string, array, object, Members, member, no_members}
 use Rattle.serde_json.specs.View.{items_of}
 use Rattle.apl_workspace_file.specs.Trees.{whole_tree, number_tree, list_tree, option_tree, elements_tree, array_tree, operand_tree, rest_tree, local_tree, statement_tree, execute_tree, call_tree, context_tree, function_tree, variable_tree, version_tree, tree_of}
-use Rattle.apl_workspace_file.specs.Reading.{begins_with, is_of_kind}
+use Rattle.apl_workspace_file.specs.Reading.{has, kind_of}
 use Rattle.apl_workspace_file.specs.declared.fields.Version.TheVariants.{One, Two}
 use Rattle.apl_workspace_file.specs.declared.fields.File.{File}
 use Rattle.apl_workspace_file.specs.declared.fields.ArrayField.{ArrayField}
@@ -113,8 +113,8 @@ characters_one s t x y e = rw (list_one whole_tree whole_one s t (ap at_0 e), st
 array_one_at : (s t : List ℕ) (x y : Elements) → elements_tree s x ≡ elements_tree t y → array_of_parts s x ≡ array_of_parts t y
 array_one_at s t (Numbers x) (Numbers y) e = numbers_one s t x y e
 array_one_at s t (Text x) (Text y) e = characters_one s t x y e
-array_one_at s t (Numbers x) (Text y) e = absurd (true≢false (ap (λ d. begins_with (codes "nums") (inside d)) e))
-array_one_at s t (Text x) (Numbers y) e = absurd (true≢false (ap (λ d. begins_with (codes "shape") (inside d)) e))
+array_one_at s t (Numbers x) (Text y) e = absurd (true≢false (ap (has (codes "nums")) e))
+array_one_at s t (Text x) (Numbers y) e = absurd (true≢false (ap (has (codes "text")) e))
 
 array_one : IsOne array_tree
 array_one a b e = array_one_at a.shape b.shape a.elements b.elements e
@@ -126,15 +126,15 @@ array_no_null_at s (Text x) e = absurd cc
 maybe_array_one : IsOne (option_tree array_tree)
 maybe_array_one = option_one array_tree array_one (λ a. array_no_null_at a.shape a.elements)
 
-no_slots : (s : List ℕ) (x : Elements) → begins_with (codes "slots") (inside (elements_tree s x)) ≡ false
+no_slots : (s : List ℕ) (x : Elements) → has (codes "slots") (elements_tree s x) ≡ false
 no_slots s (Numbers x) = refl
 no_slots s (Text x) = refl
 
 operand_one : IsOne operand_tree
 operand_one (Array a) (Array b) e = ap Array (array_one a b e)
 operand_one (Slots x) (Slots y) e = ap Slots (list_one (option_tree array_tree) maybe_array_one x y (ap at_0 e))
-operand_one (Slots x) (Array b) e = absurd (true≢false (ap (λ d. begins_with (codes "slots") (inside d)) e ∙ no_slots b.shape b.elements))
-operand_one (Array a) (Slots y) e = absurd (true≢false (ap (λ d. begins_with (codes "slots") (inside d)) (sym e) ∙ no_slots a.shape a.elements))
+operand_one (Slots x) (Array b) e = absurd (true≢false (ap (has (codes "slots")) e ∙ no_slots b.shape b.elements))
+operand_one (Array a) (Slots y) e = absurd (true≢false (ap (has (codes "slots")) (sym e) ∙ no_slots a.shape a.elements))
 
 -- ---- contexts
 
@@ -157,16 +157,23 @@ call_one : IsOne call_tree
 call_one c d e = five (λ a b x y z. record { at = a; header = b; lines = x; locals = y; rest = z }) (whole_one _ _ (ap at_0 e)) (string_one _ _ (ap at_1 e)) (list_one string string_one _ _ (ap at_3 e))
     (list_one local_tree local_one _ _ (ap at_4 e)) (maybe_rest_one _ _ (ap at_5 e))
 
+abbrev is_word : List ℕ → Option (List ℕ) → Bool
+is_word word None = false
+is_word word (Some s) = bytes_eq s word
+
+abbrev says : List ℕ → Data → Bool
+says word d = is_word word (kind_of d)
+
 context_one : IsOne context_tree
 context_one (Statement s) (Statement t) e = ap Statement (statement_one s t e)
 context_one (Call c) (Call d) e = ap Call (call_one c d e)
 context_one (Execute s) (Execute t) e = ap Execute (execute_one s t e)
-context_one (Statement s) (Call d) e = absurd (true≢false (ap (λ d. begins_with (codes "kind") (inside d)) e))
-context_one (Execute s) (Call d) e = absurd (true≢false (ap (λ d. begins_with (codes "kind") (inside d)) e))
-context_one (Call c) (Statement t) e = absurd (true≢false (ap (λ d. begins_with (codes "at") (inside d)) e))
-context_one (Call c) (Execute t) e = absurd (true≢false (ap (λ d. begins_with (codes "at") (inside d)) e))
-context_one (Statement s) (Execute t) e = absurd (true≢false (ap (λ d. is_of_kind (codes "statement") (inside d)) e))
-context_one (Execute s) (Statement t) e = absurd (true≢false (ap (λ d. is_of_kind (codes "execute") (inside d)) e))
+context_one (Statement s) (Call d) e = absurd (true≢false (ap (says (codes "statement")) e))
+context_one (Statement s) (Execute t) e = absurd (true≢false (ap (says (codes "statement")) e))
+context_one (Call c) (Statement t) e = absurd (true≢false (ap (says (codes "call")) e))
+context_one (Call c) (Execute t) e = absurd (true≢false (ap (says (codes "call")) e))
+context_one (Execute s) (Statement t) e = absurd (true≢false (ap (says (codes "execute")) e))
+context_one (Execute s) (Call d) e = absurd (true≢false (ap (says (codes "execute")) e))
 
 -- ---- files
 

@@ -1,7 +1,7 @@
 -- For private clauses: a tree read step by step. Which trees are files `Trees` says; the public clauses speak of that alone.
-use Rattle.std.specs.Prelude.{◌≡◌, ℕ, ℤ, pos, negsuc, ◌^◌, ◌==◌, ◌&&◌, List, [], ◌∷◌, codes, Bool, false, nat_lt, bytes_eq, if◌then◌else◌, Option, Some, None, Result, Ok, Err, ⊤}
+use Rattle.std.specs.Prelude.{◌≡◌, ℕ, ℤ, pos, negsuc, ◌^◌, ◌==◌, ◌&&◌, List, [], ◌∷◌, codes, Bool, true, false, nat_lt, bytes_eq, if◌then◌else◌, Option, Some, None, option_and_then, Result, Ok, Err, ⊤}
 use Rattle.serde_json.specs.Data.{Num, unsigned, negative, float, Data, null, boolean, number, string, array, object, Items, no_items, item, Members, member, no_members}
-use Rattle.serde_json.specs.Find.{as_number, as_str, as_array, as_object, as_u64}
+use Rattle.serde_json.specs.Find.{get, as_number, as_str, as_array, as_object, as_u64}
 use Rattle.apl_workspace_file.specs.Fitting.{fits_version}
 use Rattle.apl_workspace_file.specs.declared.error.TreeError.{TreeError}
 use Rattle.apl_workspace_file.specs.declared.error.TreeError.TheVariants.{Form, Memory}
@@ -37,6 +37,10 @@ form_of (Some x) = Ok x
 
 -- ---- the members of an object
 
+-- f reads the members of an object
+abbrev pub object_of : {A : Type 0} → (Members → Result A TreeError) → Data → Result A TreeError
+object_of f d = form_of (as_object d) >>= f
+
 -- the member that comes first, where it has this key, and those after it
 abbrev pub field : List ℕ → Members → Result (Data × Members) TreeError
 field k no_members = Err Form
@@ -47,27 +51,36 @@ abbrev pub ended : Members → Result ⊤ TreeError
 ended no_members = Ok tt
 ended (member l d ms) = Err Form
 
--- the member that comes first has this key, and f reads its value; rest reads those after it
-abbrev pub with_field : {A R : Type 0} → List ℕ → (Data → Result A TreeError) → (Members → Result R TreeError) → Members → Result (A × R) TreeError
-with_field k f rest ms = do
+-- the value that f reads in the member that comes first, where it has this key, and the members after it
+unfoldable pub next : {A : Type 0} → List ℕ → (Data → Result A TreeError) → Members → Result (A × Members) TreeError
+next k f ms = do
   x ← field k ms
   a ← f x.0
-  r ← rest x.1
-  Ok (a, r)
+  Ok (a, x.1)
 
--- whether the first key is this
-abbrev pub begins_with : List ℕ → Members → Bool
-begins_with k no_members = false
-begins_with k (member l d ms) = bytes_eq l k
+-- A call answered what is read next and left the members after it, unless memory ran out.
+abbrev pub GivesNext : {A : Type 0} → Result A TreeError → Members → Result (A × Members) TreeError → Type 0
+GivesNext (Ok x) left read = read ≡ Ok (x, left)
+GivesNext (Err e) left read = ¬ (e ≡ Memory) → read ≡ Err e
 
-abbrev pub is_some_text : List ℕ → Option (List ℕ) → Bool
-is_some_text word None = false
-is_some_text word (Some s) = bytes_eq s word
+-- f reads the member of this key, which comes first; rest reads those after it
+abbrev pub with_field : {A R : Type 0} → List ℕ → (Data → Result A TreeError) → (Members → Result R TreeError) → Members → Result (A × R) TreeError
+with_field k f rest ms = do
+  a ← next k f ms
+  r ← rest a.1
+  Ok (a.0, r)
 
--- whether the first member is a kind, and this one
-abbrev pub is_of_kind : List ℕ → Members → Bool
-is_of_kind word no_members = false
-is_of_kind word (member l d ms) = bytes_eq l (codes "kind") && is_some_text word (as_str d)
+abbrev pub is_there : {A : Type 0} → Option A → Bool
+is_there None = false
+is_there (Some x) = true
+
+-- an object has a member of this key
+abbrev pub has : List ℕ → Data → Bool
+has k d = is_there (get k d)
+
+-- the kind that a context says it is
+abbrev pub kind_of : Data → Option (List ℕ)
+kind_of d = option_and_then as_str (get (codes "kind") d)
 
 -- ---- numbers, texts, lists
 
@@ -114,99 +127,90 @@ option_of f d = option_by d (f d)
 
 -- ---- arrays and operands
 
-unfoldable pub numbers_of : Members → Result ArrayField TreeError
-numbers_of ms = do
-  p ← with_field (codes "nums") (list_of number_of) (with_field (codes "shape") (list_of whole_of) ended) ms
+unfoldable pub numbers_of : Data → Result ArrayField TreeError
+numbers_of d = do
+  p ← object_of (with_field (codes "nums") (list_of number_of) (with_field (codes "shape") (list_of whole_of) ended)) d
   Ok (record { shape = p.1.0; elements = Numbers p.0 })
 
-unfoldable pub characters_of : Members → Result ArrayField TreeError
-characters_of ms = do
-  p ← with_field (codes "shape") (list_of whole_of) (with_field (codes "text") text_of ended) ms
+unfoldable pub characters_of : Data → Result ArrayField TreeError
+characters_of d = do
+  p ← object_of (with_field (codes "shape") (list_of whole_of) (with_field (codes "text") text_of ended)) d
   Ok (record { shape = p.0; elements = Text p.1.0 })
 
-unfoldable pub elements_of : Members → Result ArrayField TreeError
-elements_of ms = if begins_with (codes "nums") ms then numbers_of ms else characters_of ms
-
 unfoldable pub array_of : Data → Result ArrayField TreeError
-array_of d = form_of (as_object d) >>= elements_of
+array_of d = if has (codes "nums") d then numbers_of d else characters_of d
 
-unfoldable pub slots_of : Members → Result (List (Option ArrayField)) TreeError
-slots_of ms = do
-  p ← with_field (codes "slots") (list_of (option_of array_of)) ended ms
+unfoldable pub slots_of : Data → Result (List (Option ArrayField)) TreeError
+slots_of d = do
+  p ← object_of (with_field (codes "slots") (list_of (option_of array_of)) ended) d
   Ok p.0
 
 unfoldable pub operand_of : Data → Result OperandField TreeError
-operand_of d = do
-  ms ← form_of (as_object d)
-  if begins_with (codes "slots") ms then (slots_of ms >>= λ s. Ok (Slots s)) else (elements_of ms >>= λ a. Ok (Array a))
+operand_of d = if has (codes "slots") d then (slots_of d >>= λ s. Ok (Slots s)) else (array_of d >>= λ a. Ok (Array a))
 
 -- ---- contexts
 
 unfoldable pub rest_of : Data → Result RestField TreeError
 rest_of d = do
-  ms ← form_of (as_object d)
-  p ← with_field (codes "classes") text_of (with_field (codes "code") text_of (with_field (codes "done") whole_of
-      (with_field (codes "operands") (list_of operand_of) ended))) ms
+  p ← object_of (with_field (codes "classes") text_of (with_field (codes "code") text_of (with_field (codes "done") whole_of
+      (with_field (codes "operands") (list_of operand_of) ended)))) d
   Ok (record { classes = p.0; code = p.1.0; done = p.1.1.0; operands = p.1.1.1.0 })
 
 unfoldable pub local_of : Data → Result LocalField TreeError
 local_of d = do
-  ms ← form_of (as_object d)
-  p ← with_field (codes "name") text_of (with_field (codes "value") (option_of array_of) ended) ms
+  p ← object_of (with_field (codes "name") text_of (with_field (codes "value") (option_of array_of) ended)) d
   Ok (record { name = p.0; value = p.1.0 })
 
-unfoldable pub statement_of : Members → Result StatementField TreeError
-statement_of ms = do
-  p ← with_field (codes "kind") (word_of (codes "statement")) (with_field (codes "line") text_of (with_field (codes "rest") rest_of ended)) ms
+unfoldable pub statement_of : Data → Result StatementField TreeError
+statement_of d = do
+  p ← object_of (with_field (codes "kind") (word_of (codes "statement")) (with_field (codes "line") text_of (with_field (codes "rest") rest_of ended))) d
   Ok (record { line = p.1.0; rest = p.1.1.0 })
 
-unfoldable pub execute_of : Members → Result StatementField TreeError
-execute_of ms = do
-  p ← with_field (codes "kind") (word_of (codes "execute")) (with_field (codes "rest") rest_of (with_field (codes "text") text_of ended)) ms
+unfoldable pub execute_of : Data → Result StatementField TreeError
+execute_of d = do
+  p ← object_of (with_field (codes "kind") (word_of (codes "execute")) (with_field (codes "rest") rest_of (with_field (codes "text") text_of ended))) d
   Ok (record { line = p.1.1.0; rest = p.1.0 })
 
-unfoldable pub call_of : Members → Result CallField TreeError
-call_of ms = do
-  p ← with_field (codes "at") whole_of (with_field (codes "header") text_of (with_field (codes "kind") (word_of (codes "call"))
-      (with_field (codes "lines") (list_of text_of) (with_field (codes "locals") (list_of local_of) (with_field (codes "rest") (option_of rest_of) ended))))) ms
+unfoldable pub call_of : Data → Result CallField TreeError
+call_of d = do
+  p ← object_of (with_field (codes "at") whole_of (with_field (codes "header") text_of (with_field (codes "kind") (word_of (codes "call"))
+      (with_field (codes "lines") (list_of text_of) (with_field (codes "locals") (list_of local_of) (with_field (codes "rest") (option_of rest_of) ended)))))) d
   Ok (record { at = p.0; header = p.1.0; lines = p.1.1.1.0; locals = p.1.1.1.1.0; rest = p.1.1.1.1.1.0 })
 
+abbrev pub context_named : Option (List ℕ) → Data → Result ContextField TreeError
+context_named None d = Err Form
+context_named (Some kind) d =
+    if bytes_eq kind (codes "call") then (call_of d >>= λ c. Ok (Call c))
+    else (if bytes_eq kind (codes "statement") then (statement_of d >>= λ s. Ok (Statement s))
+    else (if bytes_eq kind (codes "execute") then (execute_of d >>= λ s. Ok (Execute s)) else Err Form))
+
 unfoldable pub context_of : Data → Result ContextField TreeError
-context_of d = do
-  ms ← form_of (as_object d)
-  if begins_with (codes "at") ms then (call_of ms >>= λ c. Ok (Call c))
-      else (if is_of_kind (codes "statement") ms then (statement_of ms >>= λ s. Ok (Statement s))
-      else (execute_of ms >>= λ s. Ok (Execute s)))
+context_of d = context_named (kind_of d) d
 
 -- ---- a file
 
 unfoldable pub function_of : Data → Result FunctionField TreeError
 function_of d = do
-  ms ← form_of (as_object d)
-  p ← with_field (codes "header") text_of (with_field (codes "lines") (list_of text_of)
-      (with_field (codes "stop") (list_of whole_of) (with_field (codes "trace") (list_of whole_of) ended))) ms
+  p ← object_of (with_field (codes "header") text_of (with_field (codes "lines") (list_of text_of)
+      (with_field (codes "stop") (list_of whole_of) (with_field (codes "trace") (list_of whole_of) ended)))) d
   Ok (record { header = p.0; lines = p.1.0; stop = p.1.1.0; trace = p.1.1.1.0 })
 
 unfoldable pub variable_of : Data → Result VariableField TreeError
 variable_of d = do
-  ms ← form_of (as_object d)
-  p ← with_field (codes "name") text_of (with_field (codes "value") array_of ended) ms
+  p ← object_of (with_field (codes "name") text_of (with_field (codes "value") array_of ended)) d
   Ok (record { name = p.0; value = p.1.0 })
-
-unfoldable pub origin_of : Data → Result ℕ TreeError
-origin_of d = whole_of d >>= λ n. if nat_lt n 2 then Ok n else Err Form
 
 unfoldable pub version_of : Data → Result Version TreeError
 version_of d = whole_of d >>= λ n. if n == 1 then Ok One else (if n == 2 then Ok Two else Err Form)
 
-unfoldable pub members_of : Members → Result File TreeError
-members_of ms = do
-  p ← with_field (codes "contexts") (list_of context_of) (with_field (codes "functions") (list_of function_of) (with_field (codes "io") origin_of
-      (with_field (codes "variables") (list_of variable_of) (with_field (codes "version") version_of ended)))) ms
+unfoldable pub members_of : Data → Result File TreeError
+members_of d = do
+  p ← object_of (with_field (codes "contexts") (list_of context_of) (with_field (codes "functions") (list_of function_of) (with_field (codes "io") whole_of
+      (with_field (codes "variables") (list_of variable_of) (with_field (codes "version") version_of ended))))) d
   Ok (record { version = p.1.1.1.1.0; functions = p.1.0; variables = p.1.1.1.0; origin = p.1.1.0; contexts = p.0 })
 
-abbrev pub of_its_version : File → Result File TreeError
-of_its_version f = if fits_version f.version f.contexts then Ok f else Err Form
+abbrev pub kept : File → Result File TreeError
+kept f = if nat_lt f.origin 2 && fits_version f.version f.contexts then Ok f else Err Form
 
 unfoldable pub file_of : Data → Result File TreeError
-file_of d = form_of (as_object d) >>= members_of >>= of_its_version
+file_of d = members_of d >>= kept

@@ -1,24 +1,24 @@
 //! Arrays and operands.
 ghost use Rattle.std.specs.Prelude.{◌≡◌, IfOk};
-ghost use Rattle.serde_json.specs.View.{view, members_view};
-ghost use Rattle.apl_workspace_file.specs.Reading.{Gives, numbers_of, characters_of, elements_of, array_of, slots_of, operand_of};
+ghost use Rattle.serde_json.specs.View.{view};
+ghost use Rattle.apl_workspace_file.specs.Reading.{Gives, numbers_of, characters_of, array_of, slots_of, operand_of};
 ghost use Rattle.apl_workspace_file.specs.Trees.{array_tree, operand_tree};
 
 use crate::error::TreeError;
 use crate::field::Field;
 use crate::fields::{ArrayField, Elements, OperandField};
-use crate::list::{ListField, TextField};
-use crate::members::{begins_with_key, end, next_member, object, put_field};
+use crate::list::ListField;
+use crate::members::{end, has, next_field, object, put_field};
 use serde_json::{Map, Value};
 use std::alloc::{AllocError, Global};
 
 #[tactic(auto, unfolding(crate::specs::Reading::numbers_of))]
-fn read_numbers(alloc: Global, object: &Map<String, Value>) -> Result<ArrayField, TreeError>
-    ensures { Gives result (numbers_of (members_view object.now.entries)) }
+fn read_numbers(alloc: Global, value: &Value) -> Result<ArrayField, TreeError>
+    ensures { Gives result (numbers_of (view value.now)) }
 {
-    let mut members = object.iter();
-    let numbers = ListField::<i64>::read(alloc, next_member(&mut members, "nums")?)?;
-    let shape = ListField::<usize>::read(alloc, next_member(&mut members, "shape")?)?;
+    let mut members = object(value)?.iter();
+    let numbers = next_field(&mut members, alloc, "nums")?;
+    let shape = next_field(&mut members, alloc, "shape")?;
     end(members)?;
     Ok(ArrayField {
         shape,
@@ -27,28 +27,17 @@ fn read_numbers(alloc: Global, object: &Map<String, Value>) -> Result<ArrayField
 }
 
 #[tactic(auto, unfolding(crate::specs::Reading::characters_of))]
-fn read_characters(alloc: Global, object: &Map<String, Value>) -> Result<ArrayField, TreeError>
-    ensures { Gives result (characters_of (members_view object.now.entries)) }
+fn read_characters(alloc: Global, value: &Value) -> Result<ArrayField, TreeError>
+    ensures { Gives result (characters_of (view value.now)) }
 {
-    let mut members = object.iter();
-    let shape = ListField::<usize>::read(alloc, next_member(&mut members, "shape")?)?;
-    let text = TextField::read(alloc, next_member(&mut members, "text")?)?;
+    let mut members = object(value)?.iter();
+    let shape = next_field(&mut members, alloc, "shape")?;
+    let text = next_field(&mut members, alloc, "text")?;
     end(members)?;
     Ok(ArrayField {
         shape,
         elements: Elements::Text(text),
     })
-}
-
-#[tactic(auto, unfolding(crate::specs::Reading::elements_of))]
-fn read_elements(alloc: Global, object: &Map<String, Value>) -> Result<ArrayField, TreeError>
-    ensures { Gives result (elements_of (members_view object.now.entries)) }
-{
-    if begins_with_key(object, "nums") {
-        read_numbers(alloc, object)
-    } else {
-        read_characters(alloc, object)
-    }
 }
 
 impl Field for ArrayField {
@@ -58,7 +47,11 @@ impl Field for ArrayField {
 
     #[tactic(auto, unfolding(crate::specs::Reading::array_of))]
     fn read(alloc: Global, value: &Value) -> Result<ArrayField, TreeError> {
-        read_elements(alloc, object(value)?)
+        if has(value, "nums") {
+            read_numbers(alloc, value)
+        } else {
+            read_characters(alloc, value)
+        }
     }
 
     fn write(&self, alloc: Global) -> Result<Value, AllocError> {
@@ -79,14 +72,11 @@ impl Field for ArrayField {
 }
 
 #[tactic(auto, unfolding(crate::specs::Reading::slots_of))]
-fn read_slots(
-    alloc: Global,
-    object: &Map<String, Value>,
-) -> Result<ListField<Option<ArrayField>>, TreeError>
-    ensures { Gives result (slots_of (members_view object.now.entries)) }
+fn read_slots(alloc: Global, value: &Value) -> Result<ListField<Option<ArrayField>>, TreeError>
+    ensures { Gives result (slots_of (view value.now)) }
 {
-    let mut members = object.iter();
-    let slots = ListField::<Option<ArrayField>>::read(alloc, next_member(&mut members, "slots")?)?;
+    let mut members = object(value)?.iter();
+    let slots = next_field(&mut members, alloc, "slots")?;
     end(members)?;
     Ok(slots)
 }
@@ -98,11 +88,10 @@ impl Field for OperandField {
 
     #[tactic(auto, unfolding(crate::specs::Reading::operand_of))]
     fn read(alloc: Global, value: &Value) -> Result<OperandField, TreeError> {
-        let object = object(value)?;
-        if begins_with_key(object, "slots") {
-            Ok(OperandField::Slots(read_slots(alloc, object)?))
+        if has(value, "slots") {
+            Ok(OperandField::Slots(read_slots(alloc, value)?))
         } else {
-            Ok(OperandField::Array(read_elements(alloc, object)?))
+            Ok(OperandField::Array(ArrayField::read(alloc, value)?))
         }
     }
 

@@ -12,7 +12,6 @@ pub enum Version {
 }
 
 /// A workspace file.
-#[derive(Drop)]
 pub struct File {
     pub version: Version,
     pub functions: ListField<FunctionField>,
@@ -23,8 +22,23 @@ pub struct File {
     pub contexts: ListField<ContextField>,
 }
 
+// Written out, so that no crate above proves again what it does.
+impl Drop for File {
+    fn drop(self) {
+        let File {
+            version: _,
+            functions,
+            variables,
+            origin: _,
+            contexts,
+        } = self;
+        drop(functions);
+        drop(variables);
+        drop(contexts);
+    }
+}
+
 /// A global function.
-#[derive(Drop)]
 pub struct FunctionField {
     pub header: TextField,
     pub lines: ListField<TextField>,
@@ -34,18 +48,50 @@ pub struct FunctionField {
     pub trace: ListField<usize>,
 }
 
+// Written out, so that no crate above proves again what it does.
+impl Drop for FunctionField {
+    fn drop(self) {
+        let FunctionField {
+            header,
+            lines,
+            stop,
+            trace,
+        } = self;
+        drop(header);
+        drop(lines);
+        drop(stop);
+        drop(trace);
+    }
+}
+
 /// A global variable.
-#[derive(Drop)]
 pub struct VariableField {
     pub name: TextField,
     pub value: ArrayField,
 }
 
+// Written out, so that no crate above proves again what it does.
+impl Drop for VariableField {
+    fn drop(self) {
+        let VariableField { name, value } = self;
+        drop(name);
+        drop(value);
+    }
+}
+
 /// An array.
-#[derive(Drop)]
 pub struct ArrayField {
     pub shape: ListField<usize>,
     pub elements: Elements,
+}
+
+// Written out, so that no crate above proves again what it does.
+impl Drop for ArrayField {
+    fn drop(self) {
+        let ArrayField { shape, elements } = self;
+        drop(shape);
+        drop(elements);
+    }
 }
 
 /// The elements of an array in ravel order.
@@ -67,15 +113,22 @@ pub enum ContextField {
 }
 
 /// A typed statement, or a text that is executed, that awaits an answer.
-#[derive(Drop)]
 pub struct StatementField {
     /// The statement or the text.
     pub line: TextField,
     pub rest: RestField,
 }
 
+// Written out, so that no crate above proves again what it does.
+impl Drop for StatementField {
+    fn drop(self) {
+        let StatementField { line, rest } = self;
+        drop(line);
+        drop(rest);
+    }
+}
+
 /// A standing call.
-#[derive(Drop)]
 pub struct CallField {
     /// The number of its line.
     pub at: usize,
@@ -87,6 +140,23 @@ pub struct CallField {
     pub rest: Option<RestField>,
 }
 
+// Written out, so that no crate above proves again what it does.
+impl Drop for CallField {
+    fn drop(self) {
+        let CallField {
+            at: _,
+            header,
+            lines,
+            locals,
+            rest,
+        } = self;
+        drop(header);
+        drop(lines);
+        drop(locals);
+        drop(rest);
+    }
+}
+
 /// A local name of a standing call, with its value, if it has one.
 #[derive(Drop)]
 pub struct LocalField {
@@ -95,7 +165,6 @@ pub struct LocalField {
 }
 
 /// What is kept of a line that awaits an answer.
-#[derive(Drop)]
 pub struct RestField {
     /// A letter for each of its user names.
     pub classes: TextField,
@@ -105,6 +174,21 @@ pub struct RestField {
     pub done: usize,
     /// The operand stack, its top last.
     pub operands: ListField<OperandField>,
+}
+
+// Written out, so that no crate above proves again what it does.
+impl Drop for RestField {
+    fn drop(self) {
+        let RestField {
+            classes,
+            code,
+            done: _,
+            operands,
+        } = self;
+        drop(classes);
+        drop(code);
+        drop(operands);
+    }
 }
 
 /// An item of an operand stack.

@@ -1,9 +1,9 @@
 //! The members of an object, one after the other in the order of their keys.
-ghost use Rattle.std.specs.Prelude.{◌≡◌, Ok, Err, MatchResult, OnOk};
+ghost use Rattle.std.specs.Prelude.{◌≡◌, Ok, Err, MatchResult, OnOk, codes, option_map};
 ghost use Rattle.serde_json.specs.Data.{string, put as with_member};
 ghost use Rattle.serde_json.specs.View.{view, members_view};
-ghost use Rattle.apl_workspace_file.specs.Reading.{Gives, form_of, field, ended, begins_with, is_of_kind, is_some_text, word_of};
-ghost use Rattle.serde_json.specs.Find.{as_object, as_str};
+ghost use Rattle.apl_workspace_file.specs.Reading.{Gives, GivesNext, form_of, field, next, ended, word_of, has, kind_of};
+ghost use Rattle.serde_json.specs.Find.{as_object};
 
 use crate::error::TreeError;
 use crate::field::Field;
@@ -20,17 +20,37 @@ pub(crate) fn object(value: &Value) -> Result<&Map<String, Value>, TreeError>
     value.as_object().ok_or(TreeError::Form)
 }
 
-/// The value of the next member, where that has this key.
-pub(crate) fn next_member<'a>(
-    members: &mut Iter<'a, String, Value>,
-    key: &str,
-) -> Result<&'a Value, TreeError>
+// The value of the next member, where that has this key.
+fn next_member<'a>(members: &mut Iter<'a, String, Value>, key: &str) -> Result<&'a Value, TreeError>
     ensures { MatchResult result
         (λ v. field key.now (members_view members.old) ≡ Ok (view v.now, members_view members.new))
         (λ e. field key.now (members_view members.old) ≡ Err e) }
 {
     match members.next() {
         Some((name, value)) if name.as_str() == key => Ok(value),
+        _ => Err(TreeError::Form),
+    }
+}
+
+/// The next member as a field, where it has this key.
+#[tactic(auto, unfolding(crate::specs::Reading::next))]
+pub(crate) fn next_field<T: Field>(
+    members: &mut Iter<'_, String, Value>,
+    alloc: Global,
+    key: &str,
+) -> Result<T, TreeError>
+    ensures { GivesNext result (members_view members.new) (next key.now T.reading (members_view members.old)) }
+{
+    T::read(alloc, next_member(members, key)?)
+}
+
+/// Passes the next member where it is the kind, and this one.
+#[tactic(auto, unfolding(crate::specs::Reading::next, crate::specs::Reading::word_of))]
+pub(crate) fn next_kind(members: &mut Iter<'_, String, Value>, kind: &str) -> Result<(), TreeError>
+    ensures { GivesNext result (members_view members.new) (next (codes "kind") (word_of kind.now) (members_view members.old)) }
+{
+    match next_member(members, "kind")?.as_str() {
+        Some(found) if found == kind => Ok(()),
         _ => Err(TreeError::Form),
     }
 }
@@ -45,46 +65,20 @@ pub(crate) fn end(mut members: Iter<'_, String, Value>) -> Result<(), TreeError>
     }
 }
 
-/// Passes where the value is this very text.
-#[tactic(auto, unfolding(crate::specs::Reading::word_of))]
-pub(crate) fn expect_word(value: &Value, word: &str) -> Result<(), TreeError>
-    ensures { Gives result (word_of word.now (view value.now)) }
+/// Whether it is an object with a member of this key.
+pub(crate) fn has(value: &Value, key: &str) -> bool
+    ensures { result ≡ has key.now (view value.now) }
 {
-    let found = value.as_str().ok_or(TreeError::Form)?;
-    if found == word {
-        Ok(())
-    } else {
-        Err(TreeError::Form)
-    }
+    value.get(key).is_some()
 }
 
-/// Whether the first member has this key.
-pub(crate) fn begins_with_key(object: &Map<String, Value>, key: &str) -> bool
-    ensures { result ≡ begins_with key.now (members_view object.now.entries) }
+/// The kind that it says it is.
+pub(crate) fn kind(value: &Value) -> Option<&str>
+    ensures { option_map (λ k. k.now) result ≡ kind_of (view value.now) }
 {
-    match object.iter().next() {
-        Some((name, _)) => name.as_str() == key,
-        None => false,
-    }
-}
-
-/// Whether the first member is a kind, and this one.
-pub(crate) fn has_kind(object: &Map<String, Value>, kind: &str) -> bool
-    ensures { result ≡ is_of_kind kind.now (members_view object.now.entries) }
-{
-    match object.iter().next() {
-        Some((name, value)) => name.as_str() == "kind" && is_word(value, kind),
-        None => false,
-    }
-}
-
-// Whether it is this very text.
-fn is_word(value: &Value, word: &str) -> bool
-    ensures { result ≡ is_some_text word.now (as_str (view value.now)) }
-{
-    match value.as_str() {
-        Some(found) => found == word,
-        None => false,
+    match value.get("kind") {
+        Some(kind) => kind.as_str(),
+        None => None,
     }
 }
 

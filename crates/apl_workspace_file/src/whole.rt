@@ -2,16 +2,15 @@
 ghost use Rattle.std.specs.Prelude.{◌≡◌, IfOk, IfErr, true, false};
 ghost use Rattle.std.specs.List.{list_all};
 ghost use Rattle.serde_json.specs.Data.{Data};
-ghost use Rattle.serde_json.specs.View.{view, members_view};
+ghost use Rattle.serde_json.specs.View.{view};
 ghost use Rattle.apl_workspace_file.specs.Fitting.{is_of_version_one, fits_version};
-ghost use Rattle.apl_workspace_file.specs.Reading.{Gives, function_of, variable_of, origin_of, version_of, members_of, file_of};
+ghost use Rattle.apl_workspace_file.specs.Reading.{Gives, function_of, variable_of, version_of, members_of, file_of};
 ghost use Rattle.apl_workspace_file.specs.Trees.{function_tree, variable_tree, version_tree, tree_of};
 
 use crate::error::TreeError;
 use crate::field::Field;
-use crate::fields::{ArrayField, ContextField, File, FunctionField, VariableField, Version};
-use crate::list::{ListField, TextField};
-use crate::members::{end, next_member, object, put_field};
+use crate::fields::{ContextField, File, FunctionField, VariableField, Version};
+use crate::members::{end, next_field, object, put_field};
 use serde_json::{Map, Value};
 use std::alloc::{AllocError, Global};
 
@@ -23,10 +22,10 @@ impl Field for FunctionField {
     #[tactic(auto, unfolding(crate::specs::Reading::function_of))]
     fn read(alloc: Global, value: &Value) -> Result<FunctionField, TreeError> {
         let mut members = object(value)?.iter();
-        let header = TextField::read(alloc, next_member(&mut members, "header")?)?;
-        let lines = ListField::<TextField>::read(alloc, next_member(&mut members, "lines")?)?;
-        let stop = ListField::<usize>::read(alloc, next_member(&mut members, "stop")?)?;
-        let trace = ListField::<usize>::read(alloc, next_member(&mut members, "trace")?)?;
+        let header = next_field(&mut members, alloc, "header")?;
+        let lines = next_field(&mut members, alloc, "lines")?;
+        let stop = next_field(&mut members, alloc, "stop")?;
+        let trace = next_field(&mut members, alloc, "trace")?;
         end(members)?;
         Ok(FunctionField {
             header,
@@ -54,8 +53,8 @@ impl Field for VariableField {
     #[tactic(auto, unfolding(crate::specs::Reading::variable_of))]
     fn read(alloc: Global, value: &Value) -> Result<VariableField, TreeError> {
         let mut members = object(value)?.iter();
-        let name = TextField::read(alloc, next_member(&mut members, "name")?)?;
-        let value = ArrayField::read(alloc, next_member(&mut members, "value")?)?;
+        let name = next_field(&mut members, alloc, "name")?;
+        let value = next_field(&mut members, alloc, "value")?;
         end(members)?;
         Ok(VariableField { name, value })
     }
@@ -90,34 +89,16 @@ impl Field for Version {
     }
 }
 
-#[tactic(auto, unfolding(crate::specs::Reading::origin_of))]
-fn read_origin(alloc: Global, value: &Value) -> Result<usize, TreeError>
-    ensures { Gives result (origin_of (view value.now)) }
-{
-    let origin = usize::read(alloc, value)?;
-    if origin < 2 {
-        Ok(origin)
-    } else {
-        Err(TreeError::Form)
-    }
-}
-
 #[tactic(auto, unfolding(crate::specs::Reading::members_of))]
-fn read_members(alloc: Global, object: &Map<String, Value>) -> Result<File, TreeError>
-    ensures { Gives result (members_of (members_view object.now.entries)) }
+fn read_members(alloc: Global, value: &Value) -> Result<File, TreeError>
+    ensures { Gives result (members_of (view value.now)) }
 {
-    let mut members = object.iter();
-    let contexts = ListField::<ContextField>::read(alloc, next_member(&mut members, "contexts")?)?;
-    let functions = ListField::<FunctionField>::read(
-        alloc,
-        next_member(&mut members, "functions")?,
-    )?;
-    let origin = read_origin(alloc, next_member(&mut members, "io")?)?;
-    let variables = ListField::<VariableField>::read(
-        alloc,
-        next_member(&mut members, "variables")?,
-    )?;
-    let version = Version::read(alloc, next_member(&mut members, "version")?)?;
+    let mut members = object(value)?.iter();
+    let contexts = next_field(&mut members, alloc, "contexts")?;
+    let functions = next_field(&mut members, alloc, "functions")?;
+    let origin = next_field(&mut members, alloc, "io")?;
+    let variables = next_field(&mut members, alloc, "variables")?;
+    let version = next_field(&mut members, alloc, "version")?;
     end(members)?;
     Ok(File {
         version,
@@ -164,8 +145,8 @@ impl Field for File {
 
     #[tactic(auto, unfolding(crate::specs::Reading::file_of))]
     fn read(alloc: Global, value: &Value) -> Result<File, TreeError> {
-        let file = read_members(alloc, object(value)?)?;
-        if keeps_to_its_version(&file) {
+        let file = read_members(alloc, value)?;
+        if file.origin < 2 && keeps_to_its_version(&file) {
             Ok(file)
         } else {
             Err(TreeError::Form)

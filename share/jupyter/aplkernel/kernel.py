@@ -12,7 +12,7 @@ from ipykernel.kernelbase import Kernel
 from aplkernel import reference
 from aplkernel.cells import is_open, lines_of, only_name
 from aplkernel.memory import Note
-from aplkernel.output import Output, report_at_end
+from aplkernel.output import Output
 from aplkernel.tables import MOST_CELLS, has_table, table
 from aplkernel.words import TOP, Words, signs
 
@@ -154,8 +154,9 @@ class AplKernel(Kernel):
             output.flush()
             data = {"text/plain": result.text, "text/html": shown}
             self.publish("display_data", {"data": data, "metadata": {}, "transient": {}})
-        elif not session.next_line:
-            check(line, result, output, session.indicator())
+        else:
+            output.flush()
+            check(line, result, output, session)
 
     def of_files(self, library: Library, line: str, output: Output) -> bool:
         """Does a command for files, and returns whether the line is one. Raises Ended where it can't be done."""
@@ -236,14 +237,13 @@ class AplKernel(Kernel):
         return {"status": "ok", "restart": restart}
 
 
-def check(line: str, result: Result, output: Output, indicator: List[Level]) -> None:
-    """Raises Ended where a line ended with a report, at a stop, or by an interrupt. Sends what it has written."""
-    report = report_at_end(line, output.last, indicator) if result.told != "stopped" else ()
-    output.end(report)
-    if report:
-        raise Ended(report[0], (report[1] if report[1:] else line).strip(" "), *(f"{RED}{it}{PLAIN}" for it in report), *below(indicator))
-    if result.told in ("stopped", "interrupted"):
-        raise Ended("STOP" if result.told == "stopped" else "INTERRUPT", output.last[-1] if output.last else line, *below(indicator))
+def check(line: str, result: Result, output: Output, session: Session) -> None:
+    """Raises Ended where a line ended with a fault, which an interrupt is, or at a stop."""
+    if result.fault:
+        text = output.report[1] if result.fault.column else line
+        raise Ended(result.fault.name, text.strip(" "), *(f"{RED}{it}{PLAIN}" for it in output.report), *below(session.indicator()))
+    if result.told == "stopped":
+        raise Ended("STOP", output.last, *below(session.indicator()))
 
 
 def below(indicator: List[Level]) -> List[str]:

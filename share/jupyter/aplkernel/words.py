@@ -4,11 +4,10 @@ from dataclasses import dataclass
 from pathlib import Path
 from typing import Dict, List, Sequence, Tuple
 
-from apl.commands import WORDS
+from apl.commands import MACHINE, SYSTEM, WORDS
 
 TOP = Path(__file__).resolve().parents[3]
-COMMANDS = tuple(sorted((")CLEAR", ")ERASE", ")FNS", ")SI", ")VARS", *WORDS)))
-SYSTEM = ("⎕IO", "⎕LC", "⎕NC", "⎕STOP", "⎕TRACE")
+COMMANDS = tuple(sorted((*MACHINE, *WORDS)))
 LETTERS = "A-Za-z∆⍙_"
 FILE = re.compile(r"(?:^|\n) *\)(?:LOAD|SAVE|WSID) +(\S*)$", re.IGNORECASE)
 WORD = re.compile(rf"(?:(?:(?<=\n)|^) *\)|⎕|[{LETTERS}])?[{LETTERS}0-9]*$")

@@ -16,6 +16,7 @@ from typing import Iterator, List
 from tests.kernels import Kernel, Ran, notebook
 
 MEAN = "∇Z←MEAN V\nZ←(+/V)÷⍴V\n∇"
+LIKE_A_REPORT = "DOMAIN ERROR      1+2÷0            ^"
 SPIN = "∇SPIN\nX←'it spins'\nX\nL:→L\n∇\nSPIN\n'not reached'"
 INTERRUPTED_IN, CELLS, CELL_IN = 0.5, 200, 0.05
 WHEN = r"\d{4}-\d\d-\d\d \d\d:\d\d"
@@ -49,7 +50,9 @@ def lines() -> str:
     with kernel() as it:
         ran = it.run(f"⍝ a cell\n2+3×4\n\n{MEAN}\n  MEAN 4 6 8\n'DOMAIN ERROR'\n∇MEAN[⎕]∇")
         same((ran.status, ran.text), ("ok", "14\n6\nDOMAIN ERROR\n    ∇ Z←MEAN V\n[1] Z←(+/V)÷⍴V\n    ∇\n"))
-    return "7 lines and a definition"
+        ran = it.run(f"3 12⍴'{LIKE_A_REPORT}'\n'as ever'")
+        same((ran.status, ran.text), ("ok", "DOMAIN ERROR\n      1+2÷0 \n           ^\nas ever\n"))
+    return "9 lines and a definition, and what looks like a report"
 
 
 def faults() -> str:
@@ -62,12 +65,13 @@ def faults() -> str:
         same(it.end(second).text, "")
         same(it.run("V←1 3\n→⎕LC").text, "20\n")
         for line, report in [("A[7]", ["VALUE ERROR", "      A[7]", "      ^"]), ("1 ◊", ["CHARACTER ERROR"]),
-                             (")NONE", ["INCORRECT COMMAND"]), ("∇F F F F", ["DEFN ERROR"]), ("∇F\n'A\n∇", ["DEFN ERROR"])]:
+                             (")NONE", ["INCORRECT COMMAND"]), ("∇F F F F", ["DEFN ERROR"]), ("∇F\n'A\n∇", ["DEFN ERROR"]),
+                             ("∇F\n1 ◊\n∇", ["CHARACTER ERROR"])]:
             ran = it.run(f"{line}\n'not reached'")
             same((ran.status, ran.text, plain(ran), ran.name), ("error", "", report, report[0]))
         ran = it.run("∇NOTE\n1")
         same((ran.name, it.run("NOTE").name, it.run("2").text), ("OPEN DEFINITION", "VALUE ERROR", "2\n"))
-    return "9 faults, the next cell is not run"
+    return "10 faults, the next cell is not run"
 
 
 def stops() -> str:

@@ -1,12 +1,12 @@
 """The lines of a cell, and what they write."""
 import unittest
-from typing import List, Sequence, Tuple
+from typing import List, Tuple
 from unittest.mock import patch
 
-from apl import Array, Level, Line
+from apl import Array, Line
 from aplkernel import output
 from aplkernel.cells import is_open, lines_of, only_name
-from aplkernel.output import CUT, Output, may_begin, report_at_end
+from aplkernel.output import CUT, Output
 from aplkernel.tables import has_table, table
 
 
@@ -23,33 +23,6 @@ class Cells(unittest.TestCase):
     def test_only_names(self) -> None:
         for line, name in [("M", "M"), ("  ∆x_1 ⍝ all", "∆x_1"), ("M+1", ""), ("⎕IO", ""), ("", ""), ("3", ""), ("A B", ""), (")SI", "")]:
             self.assertEqual(only_name(line), name, line)
-
-
-class Reports(unittest.TestCase):
-    def test_reports(self) -> None:
-        in_call = ("DOMAIN ERROR", "F[1] 1÷0", "      ^")
-        typed = ("INDEX ERROR", "      A[7]", "       ^")
-        here = [Level("F", 1, True), Level("G", 2, False)]
-        self.assertEqual(report_at_end("F 1", in_call, here), in_call)
-        self.assertEqual(report_at_end("A[7]", typed, here), typed)
-        others: List[Tuple[Sequence[str], List[Level]]] = [
-            (in_call, []), (in_call, [Level("F", 2, True)]), (in_call, [Level("F", 1, False)]), (typed[1:], []), (("DOMAIN ERROR",), []),
-            (("DOMAIN ERROR", "      A[7]", "       ^ "), []), (("DOMAIN", "      A[7]", "       ^"), []),
-            (("DOMAIN ERROR", "A[7]", "^"), []), ((), []),
-        ]
-        for written, indicator in others:
-            self.assertEqual(report_at_end("F", written, indicator), ())
-
-    def test_reports_of_one_line(self) -> None:
-        for line, name in [("1 ◊", "CHARACTER ERROR"), ("∇F[", "DEFN ERROR"), ("  )FOO", "INCORRECT COMMAND")]:
-            self.assertEqual(report_at_end(line, [name], []), (name,))
-            self.assertEqual(report_at_end(f"'{name}'", [name], []), ())
-
-    def test_what_may_begin_one(self) -> None:
-        cases: List[Tuple[List[str], int]] = [
-            ([], 0), (["1"], 0), (["RANK ERROR"], 1), (["RANK ERROR", "A"], 2), (["RANK ERROR", "A", "^"], 3), (["DEFN ERROR"], 1)]
-        for lines, count in cases:
-            self.assertEqual(may_begin(lines), count, lines)
 
 
 class Outputs(unittest.TestCase):
@@ -73,23 +46,23 @@ class Outputs(unittest.TestCase):
         self.written()
         self.assertEqual(self.sent, ["1\n", "2\n3\n"])
         self.written("4")
-        self.output.end(())
+        self.output.flush()
         self.assertEqual(self.sent[2:], ["4\n"])
 
     def test_the_report_is_left_out(self) -> None:
-        self.written("1", "RANK ERROR")
+        report = ["RANK ERROR", "      A", "      ^"]
+        self.written("1")
+        self.output.add([Line(it, "report") for it in report])
         self.now += 1
-        self.written("      A", "      ^")
-        self.assertEqual((self.sent, self.output.last), (["1\n"], ["RANK ERROR", "      A", "      ^"]))
-        self.output.end(self.output.last)
+        self.output.flush()
+        self.assertEqual((self.sent, self.output.report, self.output.last), (["1\n"], report, report[-1]))
         self.output.begin()
         self.output.flush()
-        self.assertEqual((self.sent, self.output.last), (["1\n"], []))
+        self.assertEqual((self.sent, self.output.report, self.output.last), (["1\n"], [], ""))
 
     def test_what_looks_like_one_is_shown(self) -> None:
-        self.written("RANK ERROR")
-        self.output.end(())
-        self.assertEqual(self.sent, ["RANK ERROR\n"])
+        self.written("RANK ERROR", "      A", "      ^")
+        self.assertEqual((self.sent, self.output.report), (["RANK ERROR\n      A\n      ^\n"], []))
 
     def test_too_much(self) -> None:
         for _ in range(3):

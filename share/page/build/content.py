@@ -9,7 +9,7 @@ from modules import TOP, script
 
 SHARE = Path(TOP) / "share"
 PLAIN = ("```sh", "```")
-# What the documents say of a terminal, and what the page says in its place.
+# What the documents say of a terminal, and what the page says instead.
 OF_A_TERMINAL = re.compile(r" `bin/apl-terminal [^`]*` opens it[^.]*\.|, at a terminal or \[in a browser\].*? too(?=\.)|^`\)EDIT WAIT` .*? written\. ")
 TYPING = """\
 A character of the language is typed by a backquote and a key: `` `- `` is `×`, `` `i `` is `⍳`, `` `r `` is `⍴`, `` `[ `` is `←`, `` `2 `` is `¯`, \

@@ -22,6 +22,7 @@ EXPORTS = {
     "page_interrupt": ("i32", "ptr"),
     "page_is_idle": ("i1", "ptr"),
     "page_next_line": ("i64", "ptr"),
+    "page_fault": ("i32", "ptr"),
     "page_gather": ("i32", "ptr ptr"),
     "page_take": ("i64", "ptr ptr i64"),
     "page_save": ("i32", "ptr ptr i64 ptr"),

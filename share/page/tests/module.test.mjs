@@ -1,4 +1,4 @@
-/** Tries the module: what it gives to a host, its limits, want of memory, the guides' lines, the allocator. MODULE names its file, and CONTENT that
+/** Tries the module: what it gives to a host, its limits, running out of memory, the guides' lines, the allocator. MODULE names its file, and CONTENT that
  * of what the page shows. */
 import assert from 'node:assert';
 import fs from 'node:fs';
@@ -24,7 +24,7 @@ function typed(machine, ...lines) {
 
 test('the module imports nothing and exports its calls and no others', () => {
     assert.deepStrictEqual(WebAssembly.Module.imports(module), []);
-    const calls = 'open type advance interrupt is_idle next_line gather take save names levels listing'.split(' ').map(it => `page_${it}`);
+    const calls = 'open type advance interrupt is_idle next_line fault gather take save names levels listing'.split(' ').map(it => `page_${it}`);
     const found = WebAssembly.Module.exports(module).map(it => it.name).filter(it => it.startsWith('page_') || it.startsWith('apl_'));
     assert.deepStrictEqual(found.sort(), [...calls, 'apl_free', 'apl_most', 'apl_place', 'apl_room'].sort());
 });
@@ -71,6 +71,19 @@ test('what runs refuses a line and the file, and is interrupted', () => {
     assert.strictEqual(machine.interrupt(), 0);
     machine.gather();
     assert.strictEqual(Buffer.concat([...machine.pieces()]).toString(), 'INTERRUPT\nLOOP[1] →1\n        ^\n');
+});
+
+test('a fault is told by its number until its report is gathered, and a text is none', () => {
+    const machine = opened(), told = [];
+    for (const line of [')FOO', '1÷0', "'DEFN ERROR'", '∇F[', '2']) {
+        machine.type(line);
+        machine.advance(100);
+        told.push(machine.fault());
+        machine.gather();
+        told.push(machine.fault());
+    }
+    assert.deepStrictEqual(told, [12, 0, 3, 0, 0, 0, 9, 0, 0, 0]);
+    assert.strictEqual(new Machine(module).fault(), 0);
 });
 
 test('output of many pieces is taken whole', () => {

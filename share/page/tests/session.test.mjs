@@ -65,6 +65,7 @@ test('an interrupt ends what runs, and gives back the lines that were to follow'
     told.send({ what: 'interrupt' });
     await told.until('ended', 4);
     assert.match(told.written(), /INTERRUPT\nLOOP\[1\]/);
+    assert.deepStrictEqual(told.messages.filter(it => it.what === 'ended').map(it => it.fault), [0, 0, 0, 10]);
     assert.deepStrictEqual((await told.until('left')).lines, ['A←1', 'B←2']);
 });
 

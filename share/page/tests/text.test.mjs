@@ -8,11 +8,11 @@ import { Written } from '../worker.mjs';
 
 test('a report is told from what is written before it', () => {
     const report = 'DOMAIN ERROR\nHALF[1] Z←N÷2\n           ^\n';
-    assert.deepStrictEqual(parts(`1 2\n\n${report}3\n`), [{ text: '1 2\n\n', isFault: false }, { text: report, isFault: true }, { text: '3\n', isFault: false }]);
-    assert.deepStrictEqual(parts('DOMAIN ERROR\n'), [{ text: 'DOMAIN ERROR\n', isFault: false }]);
-    assert.deepStrictEqual(parts('DEFN ERROR\n'), [{ text: 'DEFN ERROR\n', isFault: true }]);
-    assert.deepStrictEqual(parts(''), []);
-    assert.deepStrictEqual(parts('no line feed'), [{ text: 'no line feed', isFault: false }]);
+    assert.deepStrictEqual(parts(`1 2\n\n${report}`, 3), [{ text: '1 2\n\n', isFault: false }, { text: report, isFault: true }]);
+    assert.deepStrictEqual(parts(report, 3), [{ text: report, isFault: true }]);
+    assert.deepStrictEqual(parts('1\nDEFN ERROR\n', 9), [{ text: '1\n', isFault: false }, { text: 'DEFN ERROR\n', isFault: true }]);
+    for (const text of [report, 'DEFN ERROR\n', 'no line feed']) assert.deepStrictEqual(parts(text, 0), [{ text, isFault: false }]);
+    assert.deepStrictEqual(parts('', 0), []);
 });
 
 test('headers, names, standing calls', () => {
@@ -70,11 +70,11 @@ test('the symbol at the cursor', () => {
 
 test('what is read aloud tells the character at the caret by its meaning', () => {
     const report = 'DOMAIN ERROR\nHALF[1] Z←N÷2\n           ^\n';
-    assert.strictEqual(spoken(`1 2\n${report}`, { '÷': 'divide' }), '1 2\nDOMAIN ERROR: HALF[1] Z←N÷2, at ÷ divide');
-    assert.strictEqual(spoken('VALUE ERROR\n      Q\n      ^\n', {}), 'VALUE ERROR: Q, at Q');
-    assert.strictEqual(spoken('DEFN ERROR\n', {}), 'DEFN ERROR');
-    assert.strictEqual(spoken('\n\n', {}), '');
-    assert.ok(spoken('1 '.repeat(1000), {}).endsWith(' … 1,399 characters more'));
+    assert.strictEqual(spoken(parts(`1 2\n${report}`, 3), { '÷': 'divide' }), '1 2\nDOMAIN ERROR: HALF[1] Z←N÷2, at ÷ divide');
+    assert.strictEqual(spoken(parts('VALUE ERROR\n      Q\n      ^\n', 2), {}), 'VALUE ERROR: Q, at Q');
+    assert.strictEqual(spoken(parts('DEFN ERROR\n', 9), {}), 'DEFN ERROR');
+    assert.strictEqual(spoken(parts('\n\n', 0), {}), '');
+    assert.ok(spoken(parts('1 '.repeat(1000), 0), {}).endsWith(' … 1,399 characters more'));
 });
 
 test('what is pasted is typed line by line, but for the last', () => {

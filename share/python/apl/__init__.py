@@ -7,10 +7,10 @@
 
 README.md of this package says more, and docs/SERVE.md what goes through the pipes.
 """
-from apl.answers import Function, Level, Line, Name, Result, Unset, Variable
+from apl.answers import Fault, Function, Level, Line, Name, Result, Unset, Variable
 from apl.arrays import Array, Value
 from apl.errors import AplError, Died, Faulted, Interrupted, NotSaved, Refused
 from apl.session import Session
 
-__all__ = ["AplError", "Array", "Died", "Faulted", "Function", "Interrupted", "Level", "Line", "Name", "NotSaved", "Refused", "Result",
-           "Session", "Unset", "Value", "Variable"]
+__all__ = ["AplError", "Array", "Died", "Fault", "Faulted", "Function", "Interrupted", "Level", "Line", "Name", "NotSaved", "Refused",
+           "Result", "Session", "Unset", "Value", "Variable"]

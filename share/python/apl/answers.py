@@ -1,29 +1,65 @@
 """What a session answers."""
+from __future__ import annotations
+
+import re
 from dataclasses import dataclass
-from typing import Tuple, Union
+from typing import Optional, Sequence, Tuple, Union
+
+# The numbers of the faults whose report is their name alone.
+DEFN, CHARACTER, COMMAND = 9, 11, 12
+ALONE = (DEFN, CHARACTER, COMMAND)
+# What stands before the line in a report: six blanks, or the call.
+BEFORE = re.compile(r" {6}|(\S+)\[(\d+)\] ")
 
 
 @dataclass(frozen=True)
 class Line:
-    """A line that the session wrote. Its kind is "stop" for the report of a stop, else "line"."""
+    """A line that the session wrote. Its kind is "report" for a line of a fault's report, "stop" for the report of a stop, "trace" for
+    that of a trace, "answer" for what a command or `∇F[⎕]∇` shows, and "shown" for what a statement does."""
 
     text: str
-    kind: str = "line"
+    kind: str = "shown"
+
+
+@dataclass(frozen=True)
+class Fault:
+    """What a line ended with: the number of the fault (docs/SERVE.md), and its name, which is the first line of the report.
+
+    function and line are of the call that is suspended, "" and 0 where the fault is in the typed statement itself. column is the place of
+    the character over the caret in the text of the line, from 1; it is 0 where the report is the name alone.
+    """
+
+    number: int
+    name: str
+    function: str = ""
+    line: int = 0
+    column: int = 0
+
+    @classmethod
+    def of(cls, number: int, written: Sequence[Line]) -> Fault:
+        """Returns the fault of a number whose report is the last that was written."""
+        if number in ALONE:
+            return cls(number, written[-1].text)
+        name, line, caret = (it.text for it in written[-3:])
+        before = BEFORE.match(line)
+        assert before
+        return cls(number, name, before[1] or "", int(before[2] or 0), len(caret) - len(before[0]))
 
 
 @dataclass(frozen=True)
 class Result:
     """What a typed line came to.
 
-    told is "idle" where it ended, "stopped" where it ended at a line that ⎕STOP names, "interrupted" where it was abandoned, and
-    "definition" where a definition is open, whose next line has the number next_line. A line that faults ends: its report stands among
-    the lines. steps is how many steps an interrupted line had made: `run(line, steps)` interrupts it there again.
+    told is "idle" where it ended, "fault" where it ended with one, "stopped" where it ended at a line that ⎕STOP names, "interrupted"
+    where it was abandoned, and "definition" where a definition is open, whose next line has the number next_line. fault is that of a line
+    that faulted or was interrupted. steps is how many steps an interrupted line had made: `run(line, steps)` interrupts it there again.
     """
 
     lines: Tuple[Line, ...]
     told: str
     next_line: int = 0
     steps: int = 0
+    fault: Optional[Fault] = None
 
     @property
     def text(self) -> str:

@@ -1,14 +1,11 @@
-"""The commands for files, which a front end does in the machine's place: )SAVE, )LOAD, )LIB and )WSID.
-
-A workspace has the name of its file, which stands in one folder.
-"""
+"""The commands that a front end does in the machine's place: how a line is one (`Commands`), and )SAVE, )LOAD, )LIB and )WSID for the
+workspaces of one folder (`Library`), each of which has the name of its file."""
 import os
 import re
 import time
 from contextlib import suppress
-from dataclasses import dataclass
 from hashlib import sha256
-from typing import List, Optional, Tuple
+from typing import Callable, Dict, List, Optional, Pattern, Tuple
 
 from apl.errors import AplError, NotSaved, Refused
 from apl.files import digest, save_file
@@ -21,40 +18,53 @@ WORDS = {
     ")SAVE": "saves the workspace in its file; with a NAME, in a new file, whose name it then has",
     ")WSID": "tells the workspace's name; with a NAME, gives it another, whose file )SAVE then writes over",
 }
-LINE = re.compile(r" *\)(?:(LIB)|(LOAD) +(\S+)|(SAVE|WSID)(?: +(\S+))?) *", re.IGNORECASE)
-CLEARS = re.compile(r" *\)CLEAR *", re.IGNORECASE)
+# The machine's own, and its system names: what a front end completes.
+MACHINE = (")CLEAR", ")ERASE", ")FNS", ")SI", ")VARS")
+SYSTEM = ("⎕IO", "⎕LC", "⎕NC", "⎕STOP", "⎕TRACE")
+# A name of a workspace that stands in a folder, and of any file there that isn't hidden.
 NAME = re.compile(r"[^/.\s\0][^/\s\0]*")
+SEEN = re.compile(r"[^.].*", re.DOTALL)
 # How the file of a workspace begins: each of its keys may be the first.
 BEGINS = re.compile(rb'\s*\{\s*"(?:(?:contexts|functions|variables)"\s*:\s*\[|(?:io|version)"\s*:\s*\d)')
-CLEAR = "CLEAR WS"
+# What is told.
+CLEAR, NONE = "CLEAR WS", "no workspaces here"
+NO_NAME = "this workspace has no name yet: )SAVE NAME gives it one"
+IS_THERE = "not saved: {0} is there already. )WSID {0} and then )SAVE write over it"
+NOT_THERE = "there is no {}: )LIB lists the workspaces of this folder"
 # The digest of no file.
 NO_FILE = b""
+# Does a command by what stands behind its word, and returns the lines to show, or None where the line is for the machine.
+Doing = Callable[[str], Optional[List[str]]]
 
 
 class NotDone(AplError):
-    """A command for files can't be done, and has changed nothing. The message is what is shown."""
+    """A command can't be done, and has changed nothing. The message is what is shown."""
 
 
-@dataclass(frozen=True)
-class Command:
-    """A command for files: its word in capitals, without the parenthesis, and the workspace's name, "" for none."""
+class Commands:
+    """Does commands, each by the word that it begins with."""
 
-    word: str
-    name: str = ""
+    def __init__(self, by_word: Dict[str, Doing]) -> None:
+        self.by_word = by_word
 
-
-def command(line: str) -> Optional[Command]:
-    """Returns the command that a line is. It is None where the line is for the machine, which reports a command that isn't well formed."""
-    found = LINE.fullmatch(line)
-    name = (found[3] or found[5] or "") if found else ""
-    if not found or name and not NAME.fullmatch(name):
-        return None
-    return Command((found[1] or found[2] or found[4]).upper(), name)
+    def do(self, line: str) -> Optional[List[str]]:
+        """Does a command, and returns the lines to show. Returns None where the line is for the machine, which reports one that isn't well
+        formed. Raises NotDone where a command can't be done, and Died or Refused where the session can't answer."""
+        word, _, rest = line.strip(" ").partition(" ")
+        does = self.by_word.get(word.upper())
+        return does(rest.strip(" ")) if does else None
 
 
-def workspaces(folder: PathLike) -> List[str]:
-    """Returns the names of the workspaces in a folder, in ascending order. Raises OSError."""
-    return sorted(it for it in os.listdir(folder) if NAME.fullmatch(it) and is_workspace(os.path.join(folder, it)))
+def workspaces(folder: PathLike, names: Pattern[str] = NAME) -> List[str]:
+    """Returns the names of the workspaces in a folder, of those with such a name, in ascending order. Raises OSError."""
+    return sorted(it for it in os.listdir(folder) if names.fullmatch(it) and is_workspace(os.path.join(folder, it)))
+
+
+def listed(folder: PathLike, names: Pattern[str] = NAME) -> List[str]:
+    """Returns the lines that tell the workspaces of a folder, each with its size and when it was saved. Raises OSError."""
+    rows = [(it, *told_of(os.path.join(folder, it), "%Y-%m-%d %H:%M")) for it in workspaces(folder, names)]
+    widths = [max((len(it[column]) for it in rows), default=0) for column in (0, 1)]
+    return [f"{name:<{widths[0]}}  {size:>{widths[1]}}  {when}" for name, size, when in rows] or [NONE]
 
 
 def is_workspace(path: str) -> bool:
@@ -72,10 +82,13 @@ def told_of(path: str, form: str = "%Y-%m-%d %H:%M:%S") -> Tuple[str, str]:
     return f"{told.st_size:,} bytes", time.strftime(form, time.localtime(told.st_mtime))
 
 
-class Library:
-    """The workspaces of a folder. name is that of the session's own one, "" for one without a name."""
+class Library(Commands):
+    """The workspaces of a folder. name is that of the session's own one, "" for one without a name. Its commands are for lines outside a
+    definition alone. )CLEAR is for the machine, but takes the workspace's name away too."""
 
     def __init__(self, session: Session, folder: PathLike = ".") -> None:
+        super().__init__({")CLEAR": self.cleared, ")LIB": self.lib, ")LOAD": self.named(self.load, False), ")SAVE": self.named(self.save),
+                          ")WSID": self.named(self.identify)})
         self.session, self.folder, self.name = session, os.path.abspath(folder), ""
         # what the file of this name is to hold until the workspace is saved there
         self.known = NO_FILE
@@ -84,29 +97,21 @@ class Library:
         """Returns the path of the file of a workspace, through links."""
         return os.path.realpath(os.path.join(self.folder, name))
 
-    def do(self, line: str) -> Optional[List[str]]:
-        """Does a command for files, and returns the lines to show. Returns None where the line is for the machine.
+    @staticmethod
+    def named(does: Callable[[str], List[str]], may_lack: bool = True) -> Doing:
+        """Returns what does a command that takes the name of a workspace, or may lack it."""
+        return lambda name: does(name) if (NAME.fullmatch(name) if name else may_lack) else None
 
-        It is for lines outside a definition alone. )CLEAR is for the machine, but takes the workspace's name away too. Raises NotDone where
-        a command can't be done, and Died or Refused where the session can't answer.
-        """
-        if CLEARS.fullmatch(line):
-            self.name = ""
-        found = command(line)
-        if found is None:
-            return None
-        if found.word == "LIB":
-            return self.listed()
-        if found.word == "LOAD":
-            return self.load(found.name)
-        return self.save(found.name) if found.word == "SAVE" else self.identify(found.name)
+    def cleared(self, rest: str) -> None:
+        """Takes the workspace's name away where the machine clears it."""
+        self.name = self.name if rest else ""
 
-    def listed(self) -> List[str]:
+    def lib(self, rest: str) -> Optional[List[str]]:
         """Returns the lines that tell the workspaces of the folder. Raises NotDone."""
+        if rest:
+            return None
         try:
-            rows = [(it, *told_of(self.path(it), "%Y-%m-%d %H:%M")) for it in workspaces(self.folder)]
-            widths = [max((len(it[column]) for it in rows), default=0) for column in (0, 1)]
-            return [f"{name:<{widths[0]}}  {size:>{widths[1]}}  {when}" for name, size, when in rows] or ["no workspaces here"]
+            return listed(self.folder)
         except OSError as error:
             raise NotDone(f"{self.folder}: {reason(error)}") from None
 
@@ -114,9 +119,9 @@ class Library:
         """Saves the workspace in its file, or in a new one of this name, and returns the lines to show. Raises NotDone."""
         to, path = name or self.name, self.path(name or self.name)
         if not to:
-            raise NotDone("this workspace has no name yet: )SAVE NAME gives it one")
+            raise NotDone(NO_NAME)
         if to != self.name and os.path.lexists(path):
-            raise NotDone(f"not saved: {to} is there already. )WSID {to} and then )SAVE write over it")
+            raise NotDone(IS_THERE.format(to))
         try:
             saved = self.session.workspace()
             save_file(path, saved, self.known if to == self.name else NO_FILE)
@@ -136,7 +141,7 @@ class Library:
             self.name, self.known = name, sha256(data).digest()
             return [f"{name}: {self.described()}"]
         except FileNotFoundError:
-            raise NotDone(f"there is no {name}: )LIB lists the workspaces of this folder") from None
+            raise NotDone(NOT_THERE.format(name)) from None
         except OSError as error:
             raise NotDone(f"{name}: {reason(error)}") from None
         except Refused as refused:

@@ -1,7 +1,7 @@
 """What a session raises."""
 from typing import Optional, Tuple
 
-from apl.answers import Line, Result
+from apl.answers import Fault, Line, Result
 
 REASONS = {
     "json": "the request is no JSON",
@@ -36,11 +36,11 @@ class Refused(AplError):
 
 
 class Faulted(AplError):
-    """A value can't be set. lines are the report."""
+    """A value can't be set. lines are the report, and fault is what it tells."""
 
-    def __init__(self, lines: Tuple[Line, ...]) -> None:
+    def __init__(self, lines: Tuple[Line, ...], fault: Fault) -> None:
         super().__init__("\n".join(line.text for line in lines))
-        self.lines = lines
+        self.lines, self.fault = lines, fault
 
 
 class NotSaved(AplError):

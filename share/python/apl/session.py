@@ -10,7 +10,7 @@ from contextlib import contextmanager, suppress
 from hashlib import sha256
 from typing import Any, Callable, Dict, Iterator, List, Optional, Sequence, Union
 
-from apl.answers import Function, Level, Line, Name, Result, Unset, Variable
+from apl.answers import Fault, Function, Level, Line, Name, Result, Unset, Variable
 from apl.arrays import Array, Value
 from apl.errors import Faulted, Interrupted, Refused
 from apl.files import save_file
@@ -38,6 +38,7 @@ class Session:
         """
         self._seconds = seconds
         self._state, self._next = "idle", 0
+        self._fault: Optional[Fault] = None
         self._wants_interrupt = False
         self._line = threading.Lock()
         self._digests: Dict[str, bytes] = {}
@@ -196,7 +197,8 @@ class Session:
         typed, advanced = self._pipe.send(request("type", line), request("advance", asked))
         try:
             write(self._note(self._pipe.told(typed)))
-            if self._state == "running" or advanced.startswith(b'{"lines":'):
+            # where there was no memory for the first answer, the second one tells what both are
+            if self._state == "running" or typed.startswith(b'{"refused":'):
                 write(self._note(self._pipe.told(advanced)))
             while self._state == "running":
                 made += asked
@@ -213,15 +215,16 @@ class Session:
             with suppress(Refused):
                 write(self._note(self._pipe.ask("interrupt", True)))
             raise Refused(refused.reason, lines=tuple(lines)) from None
-        return Result(tuple(lines), told or ("definition" if self._next else self._state), self._next, made if told else 0)
+        told = told or ("definition" if self._next and self._state == "idle" else self._state)
+        return Result(tuple(lines), told, self._next, made if told == "interrupted" else 0, self._fault)
 
     def _assign(self, line: str, keyboard: Keyboard) -> None:
         """Types an assignment."""
         result = self._run(line, None, keyboard)
         if keyboard.struck:
             raise KeyboardInterrupt
-        if result.lines:
-            raise Faulted(result.lines)
+        if result.fault:
+            raise Faulted(result.lines, result.fault)
 
     def _set_in_pieces(self, name: str, array: Array, keyboard: Keyboard) -> None:
         """Has a fresh name get the elements piece by piece, and then the name its value."""
@@ -240,8 +243,10 @@ class Session:
 
     def _note(self, answer: Dict[str, Any]) -> List[Line]:
         """Keeps what an answer tells of the session, and returns its lines."""
+        lines = [Line(it["text"], it["kind"]) for it in answer["lines"]]
         self._state, self._next = answer["state"], answer["next"]
-        return [Line(it["text"], it["kind"]) for it in answer["lines"]]
+        self._fault = Fault.of(answer["fault"], lines) if "fault" in answer else None
+        return lines
 
 
 def name_of(told: Dict[str, Any]) -> Name:

@@ -4,15 +4,16 @@ from __future__ import annotations
 import os
 import subprocess
 from pathlib import Path
-from typing import Callable, Dict, List
+from typing import List, Optional
 
 from apl import Refused
+from apl.commands import NOT_THERE, SEEN, NotDone, listed, reason
+from apl.commands import Commands as Shared
 from apl_terminal import library, places, reference
 from apl_terminal.edit import edited, editor, fault_of
-from apl_terminal.journal import reason
 from apl_terminal.keys import Key, table
-from apl_terminal.telling import Gone, Undone
-from apl_terminal.work import Work
+from apl_terminal.telling import Gone
+from apl_terminal.work import IS_OPEN, Work
 
 HELP = """\
 )SAVE [NAME]     saves the workspace in its file, or in a new file NAME
@@ -27,97 +28,95 @@ HELP = """\
 Ctrl-C interrupts the line that runs, and clears the one that is typed. Backquote and a key type a character."""
 
 
-class Commands:
-    """Does the terminal's own commands."""
+class Commands(Shared):
+    """Does the terminal's own commands, also within a definition."""
 
     def __init__(self, work: Work, manual: Path, keys: List[Key]) -> None:
+        super().__init__({
+            ")SAVE": self.save, ")LOAD": self.load, ")COPY": self.copy, ")LIB": self.lib, ")WSID": self.wsid, ")EDIT": self.edit,
+            ")HELP": self.help, ")OFF": self.off, ")CLEAR": self.clear})
         self.work, self.front, self.manual, self.keys = work, work.front, manual, keys
         self.is_over = False
-        self.by_word: Dict[str, Callable[[str], None]] = {
-            ")SAVE": self.save, ")LOAD": self.load, ")COPY": self.copy, ")LIB": self.lib, ")WSID": self.wsid, ")EDIT": self.edit,
-            ")HELP": self.help, ")OFF": self.off}
 
-    def do(self, line: str) -> bool:
-        """Does a line, if it is such a command, and tells whether it is."""
-        word, _, rest = line.strip().partition(" ")
-        if word.upper() == ")CLEAR" and not rest.strip() and self.work.file and not self.work.next_line:
-            # a workspace of a name isn't to be written over by a clear one
-            self.work.open(None, is_fresh=True)
-            return True
-        command = self.by_word.get(word.upper())
-        if command:
-            try:
-                command(rest.strip())
-            except Undone as undone:
-                self.front.tell(str(undone))
-        return command is not None
+    def is_done(self, line: str) -> bool:
+        """Does a line, if it is such a command, and tells what comes of it. Returns whether it is one."""
+        try:
+            told = self.do(line)
+        except NotDone as error:
+            told = [str(error)]
+        if told:
+            self.front.tell("\n".join(told))
+        return told is not None
 
-    def save(self, name: str) -> None:
-        self.front.tell(self.work.save(name or None))
+    def clear(self, rest: str) -> Optional[List[str]]:
+        """Takes the workspace's name away, since a workspace of a name isn't to be written over by a clear one."""
+        if rest or not self.work.file or self.work.next_line:
+            return None
+        self.work.open(None, is_fresh=True)
+        return []
 
-    def load(self, name: str) -> None:
+    def save(self, name: str) -> List[str]:
+        return [self.work.save(name or None)]
+
+    def load(self, name: str) -> List[str]:
         if not name:
-            raise Undone(")LOAD NAME: of which file? )LIB lists those of this folder")
+            raise NotDone(")LOAD NAME: of which file? )LIB lists those of this folder")
         if not os.path.lexists(places.real(name)):
-            raise Undone(f"there is no {name}: )LIB lists the workspaces of this folder")
+            raise NotDone(NOT_THERE.format(name))
         self.work.open(name)
-        self.front.tell(self.work.told())
+        return [self.work.told()]
 
-    def copy(self, rest: str) -> None:
+    def copy(self, rest: str) -> List[str]:
         name, *names = rest.split() or [""]
         if not name:
-            raise Undone(")COPY NAME F..: of which file?")
-        self.front.tell(self.work.copy(name, names))
+            raise NotDone(")COPY NAME F..: of which file?")
+        return [self.work.copy(name, names)]
 
-    def lib(self, folder: str) -> None:
+    def lib(self, folder: str) -> List[str]:
         try:
-            found = library.workspaces(places.real(folder or "."))
+            return listed(places.real(folder or "."), SEEN)
         except OSError as error:
-            raise Undone(f"{folder or 'this folder'}: {reason(error)}") from None
-        self.front.tell("\n".join(found) or "no workspaces here")
+            raise NotDone(f"{folder or 'this folder'}: {reason(error)}") from None
 
-    def wsid(self, name: str) -> None:
+    def wsid(self, name: str) -> List[str]:
         if name:
-            self.front.tell(self.work.rename(name))
-        else:
-            self.front.tell(f"{self.work.name}{'  ' + self.work.file if self.work.file else ''}")
+            return [self.work.rename(name)]
+        return [f"{self.work.name}{'  ' + self.work.file if self.work.file else ''}"]
 
-    def off(self, _: str) -> None:
+    def off(self, _: str) -> List[str]:
         self.is_over = True
+        return []
 
-    def help(self, word: str) -> None:
-        width = min(100, self.front.width())
+    def help(self, word: str) -> List[str]:
         if not word:
-            self.front.tell(HELP)
-        elif word.upper() == "KEYS":
-            self.front.tell("\n".join(table(self.keys)))
-        else:
-            self.front.tell("\n".join(reference.help_text(self.manual, word, width)))
+            return [HELP]
+        if word.upper() == "KEYS":
+            return table(self.keys)
+        return reference.help_text(self.manual, word, min(100, self.front.width()))
 
-    def edit(self, name: str) -> None:
+    def edit(self, name: str) -> List[str]:
         """Opens a function's text in the editor until it is taken or given up."""
         if self.work.next_line:
-            raise Undone("a definition is open: ∇ closes it")
+            raise NotDone(IS_OPEN)
         command, draft = editor(), Path(places.draft())
         if not command:
-            raise Undone("no editor is installed: put its name into EDITOR")
+            raise NotDone("no editor is installed: put its name into EDITOR")
         lines = self.text_of(name, draft)
         text = lines
         while True:
             try:
                 text = edited(command, name, text)
             except (OSError, subprocess.CalledProcessError) as error:
-                raise Undone(f"{command[0]} failed: {error}") from None
+                raise NotDone(f"{command[0]} failed: {error}") from None
             if text == lines and name and self.is_function(name):
-                raise Undone(f"{name} stays as it is")
+                raise NotDone(f"{name} stays as it is")
             if not text:
-                raise Undone("the text is empty, so nothing is defined")
+                raise NotDone("the text is empty, so nothing is defined")
             if self.is_defined(text):
-                self.front.tell(f"{library.name_of(bare(text)[0])} is defined")
-                return
+                return [f"{library.name_of(bare(text)[0])} is defined"]
             draft.write_text("".join(f"{it}\n" for it in text), encoding="utf-8")
             if not self.wants_more():
-                raise Undone("it isn't defined; )EDIT alone opens the text again")
+                raise NotDone("it isn't defined; )EDIT alone opens the text again")
 
     def wants_more(self) -> bool:
         """Asks whether the text is to be edited again."""
@@ -130,7 +129,7 @@ class Commands:
         """Returns the text that the editor begins with."""
         if not name:
             if not draft.exists():
-                raise Undone(")EDIT F: of which function?")
+                raise NotDone(")EDIT F: of which function?")
             return draft.read_text(encoding="utf-8").splitlines()
         try:
             return self.work.session.listing(name)
@@ -152,7 +151,7 @@ class Commands:
         if not told:
             for it in [f"∇{lines[0]}", *lines[1:], "∇"]:
                 self.work.type(it, is_shown=False)
-            if not self.work.last:
+            if not self.work.fault:
                 return True
             told = fault_of(self.work.program, lines, is_known=True)
         self.front.tell("\n".join(["DEFN ERROR", *told]))

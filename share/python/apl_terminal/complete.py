@@ -5,10 +5,10 @@ import os
 import re
 from typing import Callable, Iterator, List, Tuple
 
+from apl.commands import MACHINE, SYSTEM
+
 LETTER = "A-Za-z_∆⍙"
 BEGUN = re.compile(f"(?:^\\s*\\)|⎕)?(?:[{LETTER}][0-9{LETTER}]*)?$")
-SYSTEM_NAMES = ["⎕IO", "⎕LC", "⎕NC", "⎕STOP", "⎕TRACE"]
-MACHINE = [")CLEAR", ")ERASE", ")FNS", ")SI", ")VARS"]
 OWN = [")COPY", ")EDIT", ")HELP", ")LIB", ")LOAD", ")OFF", ")SAVE", ")WSID"]
 OF_FILES = re.compile(r"\s*\)(COPY|LIB|LOAD|SAVE|WSID)\s+(\S*)$", re.I)
 OF_FUNCTIONS = re.compile(r"\s*\)EDIT\s", re.I)
@@ -27,7 +27,7 @@ def completions(before: str, names: Names) -> Tuple[str, List[str]]:
     if begun.startswith(")"):
         words, begun_as = [*MACHINE, *OWN], begun.upper()
     elif begun.startswith("⎕"):
-        words, begun_as = SYSTEM_NAMES, begun.upper()
+        words, begun_as = [*SYSTEM], begun.upper()
     else:
         functions, others = names()
         words, begun_as = functions if OF_FUNCTIONS.match(before) else [*functions, *others], begun

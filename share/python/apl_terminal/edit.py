@@ -60,10 +60,10 @@ def fault_of(program: str, lines: List[str], is_known: bool = True) -> List[str]
             well, ill = (middle, ill) if is_taken(session, lines[:middle]) else (well, middle)
         # a line's own faults are told before it makes a step
         result = session.run(LABEL.sub(lambda it: " " * len(it[0]), lines[ill - 1], count=1), 0)
-        told = [it.text for it in result.lines] if result.told == "idle" else []
         prompt = f"[{ill - 1}]".ljust(6)
-        if told and told[0].endswith("ERROR") and len(told) in (1, 3):
-            return [told[0], prompt + lines[ill - 1], *told[2:]]
+        if result.told == "fault":
+            name, *more = [it.text for it in result.lines]
+            return [name, prompt + lines[ill - 1], *more[1:]]
         return ["behind those before it this line is refused (does its label stand twice, or in the header?):", prompt + lines[ill - 1]]
     return []
 
@@ -71,4 +71,4 @@ def fault_of(program: str, lines: List[str], is_known: bool = True) -> List[str]
 def is_taken(session: Session, lines: List[str]) -> bool:
     """Tells whether a definition of these lines is taken."""
     results = [session.run(it) for it in [f"∇{lines[0]}", *lines[1:], "∇"]]
-    return not any(it.text for it in results)
+    return not any(it.fault for it in results)

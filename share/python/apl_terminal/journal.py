@@ -21,6 +21,7 @@ from contextlib import suppress
 from dataclasses import dataclass, field
 from typing import Dict, List, Optional, Sequence, Union
 
+from apl.commands import reason
 from apl.files import digest, stands, sync
 
 HEAD, VERSION = "apl-journal", 1
@@ -222,11 +223,6 @@ class Journal:
         with suppress(OSError):
             os.unlink(self.path)
         os.close(self.descriptor)
-
-
-def reason(error: OSError) -> str:
-    """Returns what an error of the system says."""
-    return error.strerror or str(error)
 
 
 def set_aside(path: str) -> str:

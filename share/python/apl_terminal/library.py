@@ -1,38 +1,10 @@
-"""Workspaces in a folder, and what goes from one into another."""
+"""What goes from one workspace into another."""
 from __future__ import annotations
 
 import json
-import os
-import re
-import time
 from typing import Any, Dict, List, Sequence, Tuple
 
 from apl_terminal.journal import compact
-
-FIRST = re.compile(rb'\s*\{\s*"(contexts|functions|io|variables|version)"\s*:')
-
-
-def workspaces(folder: str) -> List[str]:
-    """Returns the workspaces of a folder, each with its size and the time at which it was saved. Raises OSError."""
-    rows = []
-    for name in sorted(os.listdir(folder)):
-        path = os.path.join(folder, name)
-        if not name.startswith(".") and is_workspace(path):
-            told = os.stat(path)
-            rows.append((name, f"{told.st_size:,}", time.strftime("%Y-%m-%d %H:%M", time.localtime(told.st_mtime))))
-    widths = [max((len(it[column]) for it in rows), default=0) for column in (0, 1)]
-    return [f"{name:<{widths[0]}}  {size:>{widths[1]}} bytes  {saved}" for name, size, saved in rows]
-
-
-def is_workspace(path: str) -> bool:
-    """Tells whether a file begins as a workspace does."""
-    try:
-        if not os.path.isfile(path):
-            return False
-        with open(path, "rb") as file:
-            return bool(FIRST.match(file.read(256)))
-    except OSError:
-        return False
 
 
 def name_of(header: str) -> str:

@@ -9,10 +9,11 @@ from types import FrameType
 from typing import List, Optional, Tuple
 
 from apl import AplError, Died, Function, Line
+from apl.commands import NotDone
 from apl_terminal import keys, places
 from apl_terminal.commands import Commands
 from apl_terminal.prompt import Typing
-from apl_terminal.telling import Gone, Undone, prompted
+from apl_terminal.telling import Gone, prompted
 from apl_terminal.tty import plain, quiet
 from apl_terminal.work import Work
 
@@ -91,8 +92,8 @@ class Terminal:
             self.screen.tell(self.work.told())
             while not self.commands.is_over and not self.work.is_closing:
                 self.step()
-        except Undone as undone:
-            self.screen.tell(f"apl-terminal: {undone}")
+        except NotDone as error:
+            self.screen.tell(f"apl-terminal: {error}")
             return 1
         except Gone:
             self.work.is_closing = True
@@ -121,7 +122,7 @@ class Terminal:
             self.commands.is_over = True
             return
         self.work.struck = 0.0
-        if not self.commands.do(line):
+        if not self.commands.is_done(line):
             self.work.type(line)
         if self.work.struck:
             self.drop()

@@ -4,6 +4,7 @@ from __future__ import annotations
 from typing import List, Protocol
 
 from apl import Line
+from apl.commands import CLEAR
 from apl_terminal.journal import Past
 
 # So many lines are shown before they are played again, and three times as many of what they write then.
@@ -26,10 +27,6 @@ class Front(Protocol):
         """Tells how many characters a line has room for."""
 
 
-class Undone(Exception):
-    """A command isn't done, and all is as before. The message tells why."""
-
-
 class Gone(Exception):
     """The user went without an answer, or closed the window while lines were played again: all stays as it is."""
 
@@ -41,7 +38,7 @@ def prompted(next_line: int) -> str:
 
 def question(past: Past, name: str, path: str, is_changed: bool) -> str:
     """Returns what is asked before lines are played again."""
-    count, since = len(past.lines), "in a workspace without a name" if name == "CLEAR WS" else f"since {name} was saved"
+    count, since = len(past.lines), "in a workspace without a name" if name == CLEAR else f"since {name} was saved"
     found = [f"{count} line{'s' * (count != 1)} {'were' if count != 1 else 'was'} typed {since}, and not saved:"]
     if past.workspace is not None:
         found = [f"What was done {since} is not saved{', and ended with' if count else '.'}"]

@@ -11,12 +11,16 @@ from contextlib import suppress
 from hashlib import sha256
 from typing import List, Optional, Sequence
 
-from apl import Died, Line, NotSaved, Refused, Result, Session
+from apl import Died, Fault, Line, NotSaved, Refused, Result, Session
+from apl import commands as said
+from apl.answers import DEFN
+from apl.commands import NotDone, reason
 from apl.files import save_file
 from apl_terminal import library, places
-from apl_terminal.journal import Busy, Foreign, Journal, Past, Typed, reason, set_aside
-from apl_terminal.telling import SHOWN, Front, Gone, Undone, prompted, question
+from apl_terminal.journal import Busy, Foreign, Journal, Past, Typed, set_aside
+from apl_terminal.telling import SHOWN, Front, Gone, prompted, question
 
+IS_OPEN = "a definition is open: ∇ closes it"
 CLEAR = b'{"contexts":[],"functions":[],"io":1,"variables":[],"version":2}'
 # After a line that took so many seconds the journal gets what stands, so that it needn't be made again.
 LONG = 2.0
@@ -37,8 +41,9 @@ class Work:
         self.base, self.base_state = CLEAR, b""
         self.next_line = 0
         self.open_lines: List[str] = []
-        # the last lines that the line before wrote
+        # the last lines that the line before wrote, and the fault that it ended with
         self.last: List[str] = []
+        self.fault: Optional[Fault] = None
         # when Ctrl-C was struck, 0 for not yet, and why the journal can't be written, as far as that is told
         self.struck, self.fault_told = 0.0, ""
         self.is_closing = self.is_running = False
@@ -54,7 +59,7 @@ class Work:
     @property
     def name(self) -> str:
         """The workspace's name as it is told."""
-        return places.shown(self.file) if self.file else "CLEAR WS"
+        return places.shown(self.file) if self.file else said.CLEAR
 
     # Lines
 
@@ -88,7 +93,7 @@ class Work:
             if is_shown:
                 self.front.show(lines)
 
-        self.last = last
+        self.last, self.fault = last, None
         self.is_running = True
         try:
             result = self.session.run(line, steps, show)
@@ -97,10 +102,10 @@ class Work:
         if result.next_line:
             self.open_lines = [*self.open_lines, line] if self.next_line else [line]
         else:
-            if self.next_line and last == ["DEFN ERROR"] and is_shown:
+            if self.next_line and result.fault and result.fault.number == DEFN and is_shown:
                 self.keep_refused()
             self.open_lines = []
-        self.next_line = result.next_line
+        self.next_line, self.fault = result.next_line, result.fault
         return result
 
     def keep_refused(self) -> None:
@@ -146,7 +151,7 @@ class Work:
 
     def open(self, name: Optional[str], is_fresh: bool = False) -> None:
         """Goes on with the workspace of a file, or with a clear one that has no name. is_fresh is whether one without a name has a journal
-        with nothing in it. Raises Undone where that can't be, and all is as before."""
+        with nothing in it. Raises NotDone where that can't be, and all is as before."""
         file = places.real(name) if name is not None else None
         data = self.read(file) if file else None
         journal = self.journal if file and file == self.file else self.take(file, is_fresh)
@@ -156,7 +161,7 @@ class Work:
         except Refused as refused:
             if journal is not getattr(self, "journal", None):
                 self.give(journal)
-            raise Undone(f"{places.shown(file or '')} is no workspace: {refused}") from None
+            raise NotDone(f"{places.shown(file or '')} is no workspace: {refused}") from None
         if hasattr(self, "journal") and journal is not self.journal:
             self.leave(is_kept)
         self.file, self.journal = file, journal
@@ -170,15 +175,15 @@ class Work:
         """Returns the bytes of a workspace's file, None where there is none yet."""
         try:
             if os.path.exists(file) and not os.path.isfile(file):
-                raise Undone(f"{places.shown(file)} is no file")
+                raise NotDone(f"{places.shown(file)} is no file")
             with open(file, "rb") as opened:
                 return opened.read()
         except FileNotFoundError:
             if os.path.isdir(os.path.dirname(file)):
                 return None
-            raise Undone(f"there is no folder {places.shown(os.path.dirname(file))}") from None
+            raise NotDone(f"there is no folder {places.shown(os.path.dirname(file))}") from None
         except OSError as error:
-            raise Undone(f"{places.shown(file)} can't be read: {reason(error)}") from None
+            raise NotDone(f"{places.shown(file)} can't be read: {reason(error)}") from None
 
     def state(self) -> bytes:
         """Returns the digest of what stands."""
@@ -192,7 +197,7 @@ class Work:
             try:
                 return self.journal_at(places.journal(file))
             except Busy:
-                raise Undone(f"{places.shown(file)} is open in another terminal") from None
+                raise NotDone(f"{places.shown(file)} is open in another terminal") from None
         for path in places.unnamed():
             with suppress(Busy):
                 journal = self.journal_at(path)
@@ -289,10 +294,10 @@ class Work:
     # Commands
 
     def save(self, name: Optional[str] = None) -> str:
-        """Saves the workspace in its file, or in a new one of this name, and returns what is told. Raises Undone where it can't be."""
+        """Saves the workspace in its file, or in a new one of this name, and returns what is told. Raises NotDone where it can't be."""
         file = self.file if name is None else places.real(name)
         if file is None:
-            raise Undone("this workspace has no name yet: )SAVE NAME gives it one")
+            raise NotDone(said.NO_NAME)
         journal = self.journal if file == self.file else self.take_new(file)
         try:
             data = self.session.workspace()
@@ -301,8 +306,7 @@ class Work:
         except (NotSaved, OSError, Refused) as error:
             if journal is not self.journal:
                 self.give(journal)
-            why = reason(error) if isinstance(error, OSError) else str(error)
-            raise Undone(f"not saved: {why}; what is typed stays in this session") from None
+            raise NotDone(f"not saved: {reason(error)}; what is typed stays in this session") from None
         if journal is not self.journal:
             self.journal.remove()
         self.file, self.journal, self.digest = file, journal, sha256(data).digest()
@@ -314,27 +318,27 @@ class Work:
     def take_new(self, file: str) -> Journal:
         """Takes the journal of a file that isn't there yet."""
         if os.path.lexists(file):
-            raise Undone(f"not saved: {places.shown(file)} is there already. )WSID {places.shown(file)} and then )SAVE write over it")
+            raise NotDone(said.IS_THERE.format(places.shown(file)))
         if not os.path.isdir(os.path.dirname(file)):
-            raise Undone(f"not saved: there is no folder {places.shown(os.path.dirname(file))}")
+            raise NotDone(f"not saved: there is no folder {places.shown(os.path.dirname(file))}")
         journal = self.take(file)
         if not journal.past.is_empty:
             self.give(journal)
-            raise Undone(f"not saved: lines of a workspace of this name wait to be played again by )LOAD {places.shown(file)}")
+            raise NotDone(f"not saved: lines of a workspace of this name wait to be played again by )LOAD {places.shown(file)}")
         return journal
 
     def rename(self, name: str) -> str:
-        """Gives the workspace the name of another file, which )SAVE then writes. Raises Undone where another terminal has it."""
+        """Gives the workspace the name of another file, which )SAVE then writes. Raises NotDone where another terminal has it."""
         file = places.real(name)
         if self.next_line:
-            raise Undone("a definition is open: ∇ closes it")
+            raise NotDone(IS_OPEN)
         if file == self.file:
             return self.name
         data = self.read(file)
         journal = self.take(file)
         if not journal.past.is_empty:
             self.give(journal)
-            raise Undone(f"lines of a workspace of this name wait to be played again by )LOAD {name}")
+            raise NotDone(f"lines of a workspace of this name wait to be played again by )LOAD {name}")
         digest = sha256(data).digest() if data is not None else None
         journal.begin(digest.hex() if digest else None, workspace=self.session.workspace())
         self.journal.remove()
@@ -342,17 +346,17 @@ class Work:
         return f"{self.name}, not saved yet" if data is None else f"{self.name}, which is there: )SAVE writes over it"
 
     def copy(self, name: str, names: Sequence[str]) -> str:
-        """Brings functions and variables of another workspace's file here, and returns what is told. Raises Undone where that can't be."""
+        """Brings functions and variables of another workspace's file here, and returns what is told. Raises NotDone where that can't be."""
         if self.next_line:
-            raise Undone("a definition is open: ∇ closes it")
+            raise NotDone(IS_OPEN)
         theirs = self.read(places.real(name))
         if theirs is None:
-            raise Undone(f"there is no {name}: )LIB lists the workspaces of this folder")
+            raise NotDone(said.NOT_THERE.format(name))
         try:
             made, taken, lacking = library.merged(self.session.workspace(), theirs, names)
             self.session.open(made)
         except (ValueError, LookupError, TypeError, Refused) as error:
-            raise Undone(f"not copied: {error if isinstance(error, Refused) else name + ' is no workspace'}") from None
+            raise NotDone(f"not copied: {error if isinstance(error, Refused) else name + ' is no workspace'}") from None
         self.keep_state()
         return "\n".join([f"copied: {' '.join(taken) or 'nothing'}", *([f"not there: {' '.join(lacking)}"] if lacking else [])])
 

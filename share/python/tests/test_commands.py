@@ -4,7 +4,7 @@ import unittest
 from typing import List
 
 from apl import Value
-from apl.commands import Command, Library, NotDone, command, workspaces
+from apl.commands import SEEN, Commands, Library, NotDone, workspaces
 from tests.support import OfSession
 
 WHEN = r"\d{4}-\d\d-\d\d \d\d:\d\d"
@@ -13,16 +13,12 @@ SAVED = r"\d+ bytes, saved \d{4}-\d\d-\d\d \d\d:\d\d:\d\d"
 
 class Lines(unittest.TestCase):
     def test_commands(self) -> None:
-        for line, found in [
-            (")SAVE", Command("SAVE")), ("  )save  Ledger ", Command("SAVE", "Ledger")), (")SAVE ledger.json", Command("SAVE", "ledger.json")),
-            (")LOAD a-b_2", Command("LOAD", "a-b_2")), (")LIB", Command("LIB")), (")wsid", Command("WSID")), (")WSID X", Command("WSID", "X")),
+        commands = Commands({")SAVE": lambda rest: [rest], ")OFF": lambda rest: None if rest else []})
+        for line, told in [
+            (")SAVE", [""]), ("  )save  Ledger ", ["Ledger"]), (")Save A  B", ["A  B"]), (")OFF", []), (")OFF 1", None), ("", None), ("2+2", None),
+            (")SI", None), (")SAVED", None), (") SAVE", None), ("⍝ )SAVE", None), (")SAVE\0", None), ("\t)SAVE", None),
         ]:
-            self.assertEqual(command(line), found, line)
-
-    def test_what_is_for_the_machine(self) -> None:
-        for line in ["", "2+2", ")SI", ")CLEAR", ")LOAD", ")LIB A", ")SAVE A B", ")SAVED", ")SAVE ../A", ")SAVE a/b", ")LOAD .hidden", ") SAVE",
-                     ")SAVE ..", "⍝ )SAVE", ")SAVE\0", ")SAVE A\0"]:
-            self.assertIsNone(command(line), line)
+            self.assertEqual(commands.do(line), told, line)
 
 
 class Files(OfSession):
@@ -47,6 +43,11 @@ class Files(OfSession):
     def value(self, name: str) -> Value:
         """Returns the value of A in the workspace of a file."""
         return self.begun(self.folder / name).value("A")
+
+    def test_what_is_for_the_machine(self) -> None:
+        for line in [")CLEAR", ")LOAD", ")LIB A", ")SAVE A B", ")SAVE ../A", ")SAVE a/b", ")LOAD .hidden", ")SAVE ..", ")SAVE A\0"]:
+            self.assertIsNone(self.library.do(line), line)
+        self.assertEqual(os.listdir(self.folder), [])
 
     def test_saved_and_loaded(self) -> None:
         self.typed("A←2 3⍴⍳6", "∇Z←F X", "Z←1÷X", "∇", "10+F 0")

@@ -5,17 +5,31 @@ import subprocess
 import sys
 import threading
 import time
+import unittest
 from pathlib import Path
 from typing import List
 
-from apl import Died, Function, Level, Line, Refused, Result, Session, Unset, Variable
+from apl import Died, Fault, Function, Level, Line, Refused, Result, Session, Unset, Variable
 from tests.support import LOOP, PROGRAM, OfSession
+
+
+class Reports(unittest.TestCase):
+    def test_what_a_report_tells(self) -> None:
+        for number, texts, fault in [
+            (3, ["DOMAIN ERROR", "      1÷0", "       ^"], Fault(3, "DOMAIN ERROR", "", 0, 2)),
+            (1, ["SYNTAX ERROR", "            A[2] B", "            ^"], Fault(1, "SYNTAX ERROR", "", 0, 7)),
+            (6, ["INDEX ERROR", "∆F_1[10] A[1]+B[2] ", "              ^"], Fault(6, "INDEX ERROR", "∆F_1", 10, 6)),
+            (10, ["INTERRUPT", "F[2] ", "     ^"], Fault(10, "INTERRUPT", "F", 2, 1)),
+            (9, ["DEFN ERROR"], Fault(9, "DEFN ERROR")),
+        ]:
+            written = [Line("1"), *(Line(it, "report") for it in texts)]
+            self.assertEqual(Fault.of(number, written), fault)
 
 
 class Lines(OfSession):
     def test_a_statement(self) -> None:
         result = self.session.run("2+3×4")
-        self.assertEqual(result, Result((Line("14", "line"),), "idle"))
+        self.assertEqual(result, Result((Line("14", "shown"),), "idle"))
         self.assertEqual(str(result), "14")
 
     def test_many_lines(self) -> None:
@@ -23,7 +37,37 @@ class Lines(OfSession):
 
     def test_a_fault(self) -> None:
         result = self.session.run("1 2+1 2 3")
-        self.assertEqual((result.text, result.told), ("LENGTH ERROR\n      1 2+1 2 3\n         ^", "idle"))
+        self.assertEqual((result.text, result.told), ("LENGTH ERROR\n      1 2+1 2 3\n         ^", "fault"))
+        self.assertEqual(({it.kind for it in result.lines}, result.fault), ({"report"}, Fault(5, "LENGTH ERROR", "", 0, 4)))
+        self.assertEqual((self.session.run("2").told, self.session.run("2").fault), ("idle", None))
+
+    def test_faults(self) -> None:
+        self.typed("∇Z←∆F_1 X", "Z←1", "L:Z←Z+1", "Z←Z÷X", "∇", "∇G", "'TEXT'", "2×⍎'∆F_1 0'", "∇")
+        for line, fault in [
+            ("A[2", Fault(1, "SYNTAX ERROR", column=2)), ("NONE+1", Fault(2, "VALUE ERROR", column=1)), ("  1÷0", Fault(3, "DOMAIN ERROR", column=4)),
+            ("∆F_1 0", Fault(3, "DOMAIN ERROR", "∆F_1", 3, 4)), ("G", Fault(3, "DOMAIN ERROR", "∆F_1", 3, 4)),
+            ("⍎'1÷0'", Fault(3, "DOMAIN ERROR", column=1)), (")FOO", Fault(12, "INCORRECT COMMAND")), ("∇F[", Fault(9, "DEFN ERROR")),
+            ("é", Fault(11, "CHARACTER ERROR")),
+        ]:
+            result = self.session.run(line)
+            self.assertEqual((result.told, result.fault), ("fault", fault), (line, result.text))
+        self.assertEqual(self.session.run("G").lines[0], Line("TEXT", "shown"))
+
+    def test_a_fault_in_a_definition(self) -> None:
+        results = [self.session.run(it) for it in ["∇F", "é", "1", "'", "∇"]]
+        self.assertEqual([it.told for it in results], ["definition", "fault", "definition", "definition", "fault"])
+        self.assertEqual([(it.next_line, it.fault) for it in (results[1], results[4])], [(1, Fault(11, "CHARACTER ERROR")), (0, Fault(9, "DEFN ERROR"))])
+
+    def test_a_text_is_no_fault(self) -> None:
+        for line in ["'DEFN ERROR'", "'INTERRUPT'", "3 12⍴'DOMAIN ERROR      1+2÷0            ^'"]:
+            result = self.session.run(line)
+            self.assertEqual((result.told, result.fault, {it.kind for it in result.lines}), ("idle", None, {"shown"}))
+
+    def test_kinds(self) -> None:
+        self.typed("∇F", "A←1", "A", "∇", "1 ⎕TRACE 'F'", "2 ⎕STOP 'F'")
+        kinds = [[(it.text, it.kind) for it in self.session.run(line).lines] for line in ["F", ")SI", "→⎕LC", ")FNS"]]
+        self.assertEqual(kinds, [[("F[1] 1", "trace"), ("F[2]", "stop")], [("F[2] *", "answer")], [("1", "shown")], [("F", "answer")]])
+        self.assertEqual({it.kind for it in self.session.run("∇F[⎕]∇").lines}, {"answer"})
 
     def test_a_definition(self) -> None:
         told = [(it.told, it.next_line) for it in map(self.session.run, ["∇Z←SQ N", "Z←N×N", "", "∇", "SQ 5"])]

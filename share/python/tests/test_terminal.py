@@ -6,11 +6,11 @@ import stat
 from pathlib import Path
 from typing import List, Tuple
 
+from apl.commands import SEEN, NotDone, workspaces
 from apl_terminal import keys, library, places, reference
 from apl_terminal.commands import Commands
 from apl_terminal.complete import completions
 from apl_terminal.edit import fault_of
-from apl_terminal.telling import Undone
 from apl_terminal.work import Work
 from tests.front import OfTerminal
 from tests.support import PROGRAM, TOP
@@ -28,7 +28,7 @@ class OfCommands(OfTerminal):
         """Types lines and commands, and returns what the terminal tells of the last one."""
         for line in lines:
             self.said(self.at).told.clear()
-            if not self.commands.do(line):
+            if not self.commands.is_done(line):
                 self.at.type(line)
         return "\n".join(self.said(self.at).told)
 
@@ -36,9 +36,9 @@ class OfCommands(OfTerminal):
 class OwnCommands(OfCommands):
     def test_which_are(self) -> None:
         for line in (")OFF", " )off ", ")HELP ⍴", ")WSID", ")LIB /none"):
-            self.assertTrue(self.commands.do(line), line)
+            self.assertTrue(self.commands.is_done(line), line)
         for line in (")FNS", ")SI", ")CLEAR", "2+3", ")SAVES", "A)SAVE", ") SAVE", ")SAVE'X'", "'", ""):
-            self.assertFalse(self.commands.do(line), line)
+            self.assertFalse(self.commands.is_done(line), line)
         self.assertTrue(self.commands.is_over)
 
     def test_names(self) -> None:
@@ -110,7 +110,7 @@ class OwnCommands(OfCommands):
         self.assertIn("No such file", self.told(")LIB none"))
 
     def test_samples_are_workspaces(self) -> None:
-        self.assertEqual(len(library.workspaces(str(TOP / "share/workspaces"))), 6)
+        self.assertEqual(len(workspaces(TOP / "share/workspaces", SEEN)), 6)
 
     def test_names_of_headers(self) -> None:
         for header in ("F", "F X", "A F X", "Z←F", "Z←F X;A;B", "Z←A F X"):
@@ -259,4 +259,4 @@ class Reading(OfTerminal):
         self.assertEqual(places.shown(os.path.expanduser("~/far/ledger")), "~/far/ledger")
         self.assertEqual(places.shown("/none"), "/none")
         self.assertEqual(places.journal(str(self.folder / "ledger")), str(self.folder / ".ledger.apl-journal"))
-        self.assertRaises(Undone, self.work, "none/ledger")
+        self.assertRaises(NotDone, self.work, "none/ledger")

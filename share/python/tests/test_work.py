@@ -7,8 +7,9 @@ from typing import Any
 from unittest import mock
 
 from apl import Died, Refused
+from apl.commands import NotDone
 from apl_terminal import places
-from apl_terminal.telling import Gone, Undone
+from apl_terminal.telling import Gone
 from apl_terminal.work import Work
 from tests.front import OfTerminal, Said
 from tests.support import LOOP, striking
@@ -132,13 +133,13 @@ class Saving(OfTerminal):
         self.assertEqual((again.session.value("A"), self.said(again).asked), (2, []))
 
     def test_without_a_name(self) -> None:
-        self.assertRaisesRegex(Undone, "no name yet", self.work().save)
+        self.assertRaisesRegex(NotDone, "no name yet", self.work().save)
 
     def test_another_workspace_is_kept(self) -> None:
         work = self.work()
         (self.folder / "ledger").write_text("mine")
-        self.assertRaisesRegex(Undone, "is there already", work.save, "ledger")
-        self.assertRaisesRegex(Undone, "no folder", work.save, "none/ledger")
+        self.assertRaisesRegex(NotDone, "is there already", work.save, "ledger")
+        self.assertRaisesRegex(NotDone, "no folder", work.save, "none/ledger")
         work.rename("ledger")
         work.save()
         self.assertNotEqual((self.folder / "ledger").read_text(), "mine")
@@ -147,7 +148,7 @@ class Saving(OfTerminal):
         work = self.work()
         work.save("ledger")
         (self.folder / "ledger").write_text("mine")
-        self.assertRaisesRegex(Undone, "another has changed it", work.save)
+        self.assertRaisesRegex(NotDone, "another has changed it", work.save)
         self.typed(work, "A←1")
         self.assertEqual((self.folder / "ledger").read_text(), "mine")
         work.save("other")
@@ -173,7 +174,7 @@ class Saving(OfTerminal):
         before = (self.folder / "ledger").read_bytes()
         self.typed(work, "A←1")
         with mock.patch("os.fsync", side_effect=OSError(errno.ENOSPC, "No space left on device")):
-            self.assertRaisesRegex(Undone, "No space left on device", work.save)
+            self.assertRaisesRegex(NotDone, "No space left on device", work.save)
         self.assertEqual((self.folder / "ledger").read_bytes(), before)
         self.typed(work, "B←A")
         work.save()
@@ -290,7 +291,7 @@ class PlayedAgain(OfTerminal):
 
     def test_two_terminals(self) -> None:
         self.work("ledger")
-        with self.assertRaisesRegex(Undone, "ledger is open in another terminal"):
+        with self.assertRaisesRegex(NotDone, "ledger is open in another terminal"):
             self.work("ledger")
         first, second = self.work(), self.work()
         self.assertNotEqual(first.journal.path, second.journal.path)

@@ -1,17 +1,14 @@
 -- For private clauses: what is made of a context, beside its part.
 -- What is made so is the context that `Spelled` of the saved parts has for the field.
-use Rattle.std.specs.Prelude.{◌≡◌, ◌↔◌, Contains, ℕ, ◌-◌, ◌<◌, ◌≤◌, Bool, true, List, [], ◌∷◌, length, map, reverse, take, Option, Some, None, Ok, slice_get}
+use Rattle.std.specs.Prelude.{◌≡◌, ℕ, ◌-◌, ◌<◌, ◌≤◌, Bool, true, List, [], ◌∷◌, length, map, reverse, take, Option, Some, None, Ok, slice_get}
 use Rattle.std.specs.List.{AllByRecursion}
-use Rattle.std.specs.declared.cmp.Ordering.TheVariants.{Less}
 use Rattle.apl_arrays.specs.Cells.{Arr}
 use Rattle.apl_charset.specs.Text.{IsLine}
 use Rattle.apl_tokens.specs.declared.token.Token.{Token}
 use Rattle.apl_tokens.specs.Kinds.{is_name}
-use Rattle.apl_tokens.specs.Spelling.{IsName}
 use Rattle.apl_tokens.specs.Tokens.{tokens_of}
 use Rattle.apl_defn.specs.Definitions.{Text, Definition, Header, is_line, line_of}
 use Rattle.apl_defn.specs.Defining.{label_in}
-use Rattle.apl_names.specs.Maps.{name_cmp}
 use Rattle.apl_code.specs.declared.instr.Instr.{Instr}
 use Rattle.apl_code.specs.declared.instr.Action.{Action}
 use Rattle.apl_listing.specs.Kinds.{kinds}
@@ -30,11 +27,9 @@ use Rattle.apl_workspace_file.specs.declared.fields.StatementField.{StatementFie
 use Rattle.apl_workspace_file.specs.declared.fields.CallField.{CallField}
 use Rattle.apl_workspace_file.specs.declared.fields.LocalField.{LocalField}
 use Rattle.apl_workspace_file.specs.declared.fields.RestField.{RestField}
-use Rattle.apl_workspace_file.specs.declared.fields.VariableField.{VariableField}
-use Rattle.apl_saved.specs.Spelled.{IsContextOf, IsVariableOf, Pairwise, letters_of}
-use Rattle.apl_saved.specs.Rules.{Ascend, Calls, IsContext, IsLocal, IsPendentLine, IsStatement, kind_of, text_of}
-use Rattle.apl_loading.specs.Refusals.{Below, HasDefinition, IsBehind, Nothing, Unless, relisted}
-use Rattle.apl_loading.specs.Small.{IsSmall}
+use Rattle.apl_saved.specs.Spelled.{IsContextOf, Pairwise, letters_of}
+use Rattle.apl_saved.specs.Rules.{Calls, IsContext, IsLocal, IsPendentLine, IsStatement, kind_of, text_of}
+use Rattle.apl_loading.specs.Refusals.{Below, HasDefinition, Nothing, Unless, relisted}
 use Rattle.apl_loading.specs.declared.error.LoadFault.{LoadFault}
 use Rattle.apl_loading.specs.declared.error.LoadFault.TheVariants as fault
 
@@ -112,25 +107,6 @@ IsAwaited awaits (Some c) = (listing : List ℕ) × IsMadeIn (text_of c) (waitin
 pub record IsBelow (awaits : Option Action) (standing : ℕ) (s : Below) : Type 0 where
   pub awaited : IsAwaited awaits s.below
   pub count : s.standing ≡ standing
-
--- ---- global objects
-
--- none of these names comes before that one
-abbrev pub AreNotBefore : Text → List Text → Type 0
-AreNotBefore name ns = (n : Text) → Contains ns n → ¬ (name_cmp n name ≡ Less)
-
--- These are the names of a list that don't come before that one, in their order.
-pub record AreFrom (name : Text) (all ns : List Text) : Type 0 where
-  pub ascend : Ascend ns
-  pub not_before : AreNotBefore name ns
-  pub same : (n : Text) → ¬ (name_cmp n name ≡ Less) → (Contains ns n ↔ Contains all n)
-
--- The field is a variable within the limits, whose name comes behind the one before it.
-pub record IsVariableBehind (before : Option Text) (f : VariableField) (v : Text × Arr) : Type 0 where
-  pub small : IsSmall f.value
-  pub field : IsVariableOf f v
-  pub named : IsName v.0
-  pub behind : IsBehind before v.0
 
 -- ---- locals of a call
 

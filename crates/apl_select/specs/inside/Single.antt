@@ -1,6 +1,6 @@
 -- The one place that numbers name, one for each axis.
 -- It is the only place of those that `Indexing` picks.
-use Rattle.std.specs.Prelude.{◌≡◌, ℕ, ◌+◌, ◌*◌, ◌==◌, cond, Bool, true, false, List, [], ◌∷◌, length, map, Option, None, Some, Ok, Err}
+use Rattle.std.specs.Prelude.{◌≡◌, ℕ, ◌+◌, ◌*◌, ◌==◌, cond, Bool, true, false, List, [], ◌∷◌, length, map, Option, None, Some, Result, Ok, Err, MatchBool}
 use Rattle.std.specs.Option.{is_some, option_and_then}
 use Rattle.std.specs.Result.{result_ok}
 use Rattle.apl_arrays.specs.Cells.{Arr}
@@ -44,3 +44,8 @@ fault_of_numbers a slots = cond (length slots == length a.shape) Index Rank
 -- slots that pick no one place are at fault if each holds one number
 abbrev pub PicksNone : Arr → ℕ → List (Option Arr) → Type 0
 PicksNone a origin slots = AreNumbers slots → slots_of a origin slots ≡ Err (fault_of_numbers a slots)
+
+-- what trying to write one number comes to: it is written or nothing is, or it is at fault
+abbrev pub IsTried : Result Bool Fault → Result Arr Fault → Arr → Arr → Type 0
+IsTried (Ok done) model old new = MatchBool done (model ≡ Ok new) (new ≡ old)
+IsTried (Err fault) model old new = (model ≡ Err fault) × (new ≡ old)

@@ -10,7 +10,7 @@ take_all n xs ys e = ap (λ (m : ℕ). take m (xs ++ ys)) (sym e) ∙ take-appen
 pub returns-in-Ok : goal.returns-in-Ok
 returns-in-Ok g c =
     let count : length c.grow.new.out.items ≡ length c.args.numbers.now =
-    ap length c.in_ok-_none.ensures.grown ∙ ap (λ (l : List ℤ). length (l ++ replicate (length c.args.numbers.now) (pos 0))) c.new-out.ensures.items ∙ length-replicate (length c.args.numbers.now) (pos 0) in
+    ap length c.in_ok-grow.ensures.grown ∙ ap (λ (l : List ℤ). length (l ++ replicate (length c.args.numbers.now) (pos 0))) c.new-out.ensures.items ∙ length-replicate (length c.args.numbers.now) (pos 0) in
     let len : length c.grow.new.out.items ≡ c.grow.new.out.len = search rules in
     let first : length c.tell.new.out ≡ c.grow.new.out.len = c.tell.ensures.size ∙ ap length c.as_mut_slice.ensures.value ∙ len in
     let inner : take c.grow.new.out.len (c.tell.new.out ++ drop (length c.tell.new.out) c.grow.new.out.items) ≡ c.tell.new.out = take_all c.grow.new.out.len c.tell.new.out _ first in

@@ -21,7 +21,7 @@ use Rattle.apl_folds.proofs.reduction.fold_lines.Goals as goal
 pub size-room-requires : goal.size-room-requires
 size-room-requires c =
     let es : c.as_slice.result.now ≡ without c.args.axis c.args.view.now.shape =
-    parted c.args.view.now.shape c.shape-shape.result.items c.remove-length.new.self.items c.as_slice.result.now c.args.axis c.requires.axis c.shape-shape.ensures.value c.remove-length.ensures.items c.as_slice.ensures.value in
+    parted c.args.view.now.shape c.shape-shape.result.items c.remove.new.self.items c.as_slice.result.now c.args.axis c.requires.axis c.shape-shape.ensures.value c.remove.ensures.items c.as_slice.ensures.value in
     omega (arith, bound-without c.args.view.now.shape c.args.axis, ap bound_of es, c.shape-shape.ensures.array.small)
 
 pub folds-requires-clause-axis : goal.folds-requires-clause-axis
@@ -38,8 +38,8 @@ returns-in_err-numbers c =
 
 pub formed-requires-clause-full : goal.formed-requires-clause-full
 formed-requires-clause-full c =
-    let es : c.remove-length.new.self.items ≡ without c.args.axis c.args.view.now.shape =
-    parted c.args.view.now.shape c.shape-shape.result.items c.remove-length.new.self.items c.remove-length.new.self.items c.args.axis c.requires.axis c.shape-shape.ensures.value c.remove-length.ensures.items refl in
+    let es : c.remove.new.self.items ≡ without c.args.axis c.args.view.now.shape =
+    parted c.args.view.now.shape c.shape-shape.result.items c.remove.new.self.items c.remove.new.self.items c.args.axis c.requires.axis c.shape-shape.ensures.value c.remove.ensures.items refl in
     length-map c.in_ok-numbers.numbers.items Num
     ∙ length-all_ok _ _ c.in_ok-numbers.numbers.items c.in_ok-numbers.ensures
     ∙ length-indices (without c.args.axis (lengths c.strided.result.axes.now))
@@ -48,17 +48,17 @@ formed-requires-clause-full c =
 
 pub formed-requires-clause-small : goal.formed-requires-clause-small
 formed-requires-clause-small c =
-    let es : c.remove-length.new.self.items ≡ without c.args.axis c.args.view.now.shape =
-    parted c.args.view.now.shape c.shape-shape.result.items c.remove-length.new.self.items c.remove-length.new.self.items c.args.axis c.requires.axis c.shape-shape.ensures.value c.remove-length.ensures.items refl in
+    let es : c.remove.new.self.items ≡ without c.args.axis c.args.view.now.shape =
+    parted c.args.view.now.shape c.shape-shape.result.items c.remove.new.self.items c.remove.new.self.items c.args.axis c.requires.axis c.shape-shape.ensures.value c.remove.ensures.items refl in
     omega (arith, bound-without c.args.view.now.shape c.args.axis, ap bound_of es, c.shape-shape.ensures.array.small)
 
 pub returns : goal.returns
 returns c =
-    let es : c.remove-length.new.self.items ≡ without c.args.axis c.args.view.now.shape =
-    parted c.args.view.now.shape c.shape-shape.result.items c.remove-length.new.self.items c.remove-length.new.self.items c.args.axis c.requires.axis c.shape-shape.ensures.value c.remove-length.ensures.items refl in
+    let es : c.remove.new.self.items ≡ without c.args.axis c.args.view.now.shape =
+    parted c.args.view.now.shape c.shape-shape.result.items c.remove.new.self.items c.remove.new.self.items c.args.axis c.requires.axis c.shape-shape.ensures.value c.remove.ensures.items refl in
     answers_along (λ (r : Arr). r) _ _ c.formed.result
     (ap (λ (a : Arr). folds_shaped c.args.function c.args.axis a) (sym (shows_one c.args.view.now c.strided.result c.strided.ensures))
     ∙ ap (ok_map (numbers_in (without c.args.axis (lengths c.strided.result.axes.now)))) c.in_ok-numbers.ensures
-    ∙ same_array (without c.args.axis (lengths c.strided.result.axes.now)) c.remove-length.new.self.items (Numbers c.in_ok-numbers.numbers.items) (Numbers c.in_ok-numbers.numbers.items)
+    ∙ same_array (without c.args.axis (lengths c.strided.result.axes.now)) c.remove.new.self.items (Numbers c.in_ok-numbers.numbers.items) (Numbers c.in_ok-numbers.numbers.items)
     (ap (without c.args.axis) (sym c.strided.ensures.shape) ∙ sym es) refl)
     c.formed.ensures

@@ -8,4 +8,4 @@ returns-in_err-execute-clause-refused c =
     rw (p.1, p.2) (λ m. execute_refused c.args.field.now c.args.operands.items c.in_err-execute.field-0.0 c.requires (c.in_err-execute.ensures.refused m))
 
 pub returns-clause-found : goal.returns-clause-found
-returns-clause-found c = execute_built c.args.field.now c.args.operands.items c.in_ok-execute.execute.part c.in_ok-execute.execute.action c.in_ok-execute.execute.listing.items c.requires c.in_ok-execute.ensures.found c.in_ok-execute.ensures.made
+returns-clause-found c = execute_built c.args.field.now c.args.operands.items c.in_ok-execute.execute.part c.in_ok-execute.execute.awaits c.in_ok-execute.execute.listing.items c.requires c.in_ok-execute.ensures.found c.in_ok-execute.ensures.made

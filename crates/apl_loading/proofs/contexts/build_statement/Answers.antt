@@ -8,4 +8,4 @@ returns-in_err-statement-clause-refused c =
     rw (p.1, p.2) (λ m. statement_refused c.args.field.now c.args.operands.items c.in_err-statement.field-0.0 c.requires (c.in_err-statement.ensures.refused m))
 
 pub returns-clause-found : goal.returns-clause-found
-returns-clause-found c = statement_built c.args.field.now c.args.operands.items c.in_ok-statement.statement.part c.in_ok-statement.statement.action c.in_ok-statement.statement.listing.items c.requires c.in_ok-statement.ensures.found c.in_ok-statement.ensures.made
+returns-clause-found c = statement_built c.args.field.now c.args.operands.items c.in_ok-statement.statement.part c.in_ok-statement.statement.awaits c.in_ok-statement.statement.listing.items c.requires c.in_ok-statement.ensures.found c.in_ok-statement.ensures.made

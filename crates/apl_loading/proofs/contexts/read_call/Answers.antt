@@ -21,5 +21,5 @@ returns-clause-found c =
       at_line = at_line c.args.definition c.args.field.now.at (line_of c.args.definition c.args.field.now.at) c.in-Some.ensures.line;
       locals = subst (λ h. AreLocals h c.args.field.now.locals c.args.values.locals.items c.in_ok-locals.locals.items) c.header.ensures.value
           (subst (λ fs. AreLocals c.header.result.now fs c.args.values.locals.items c.in_ok-locals.locals.items) c.as_slice-fields.ensures c.in_ok-locals.ensures.found);
-      rest = rest_of_line (line_of c.args.definition c.args.field.now.at) c.in-Some.tokens.now c.args.field.now.rest c.args.values.operands.items c.in_ok-line.line.rest c.in-Some.ensures.value c.in_ok-line.ensures.rest;
+      rest = rest_of_line (line_of c.args.definition c.args.field.now.at) c.in-Some.tokens.now c.args.field.now.rest c.args.values.operands.items c.in_ok-line.line.part c.in-Some.ensures.value c.in_ok-line.ensures.rest;
     })

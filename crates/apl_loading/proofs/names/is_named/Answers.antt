@@ -1,6 +1,6 @@
 use Rattle.std.proofs.Common.{◌∙◌, subst}
 use Rattle.apl_charset.specs.Text.{IsLine}
-use Rattle.apl_loading.proofs.Letters.{line_same}
+use Rattle.apl_loading.proofs.OneName.{line_same}
 use Rattle.apl_loading.proofs.names.is_named.Goals as goal
 
 pub returns-in-Ok-clause-same : goal.returns-in-Ok-clause-same

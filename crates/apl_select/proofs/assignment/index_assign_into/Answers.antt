@@ -1,29 +1,5 @@
-use Rattle.std.proofs.Common.{◌≡◌, ℕ, ◌<◌, Bool, true, cond, List, length, ap, sym, ◌∙◌, Option, Ok}
-use Rattle.std.specs.List.{All}
-use Rattle.apl_arrays.specs.Cells.{Arr, Items}
-use Rattle.apl_arrays.specs.Checks.{count_of}
-use Rattle.apl_arrays.specs.Written.{elements_written, with_elements, AreEnough}
-use Rattle.apl_select.specs.Assignment.{assigned}
-use Rattle.apl_select.specs.inside.Written.{overwritten}
-use Rattle.apl_select.proofs.Writing.{with_is_put}
+use Rattle.std.proofs.Common.{◌≡◌, sym, ◌∙◌, true, false}
 use Rattle.apl_select.proofs.assignment.index_assign_into.Goals as goal
 
--- what writing in place has made
-assigned_in_place : (old mid v b new : Arr) (slots : List (Option Arr)) (origin first : ℕ) (places sent-to : List ℕ) (sent : Items) (done : Bool) → mid ≡ old → v ≡ mid → first ≡ origin →
-    assigned v slots b first ≡ Ok (overwritten v b places) → All (λ q. q < count_of v) places → AreEnough (count_of b) (length places) → sent-to ≡ places → sent ≡ b.items → done ≡ true →
-    new ≡ cond done (elements_written mid sent-to sent) mid → assigned old slots b origin ≡ Ok new
-assigned_in_place old mid v b new slots origin first places sent-to sent done m l f a w e p s d n =
-    ap (λ (x : Arr). assigned x slots b origin) (sym m ∙ sym l) ∙ ap (λ (k : ℕ). assigned v slots b k) (sym f) ∙ a ∙ ap (λ (x : Arr). Ok x) (sym made)
-  where
-    made : new ≡ overwritten v b places
-    made =
-        n
-        ∙ ap (λ (t : Bool). cond t (elements_written mid sent-to sent) mid) d
-        ∙ ap (λ (x : Arr). elements_written x sent-to sent) (sym l)
-        ∙ ap (λ (q : List ℕ). elements_written v q sent) p
-        ∙ ap (λ (t : Items). record { shape = v.shape; items = t }) (ap (λ (t : Items). with_elements v.items places t) s ∙ with_is_put v.items b.items places w e)
-
-pub returns-then-write-clause-value : goal.returns-then-write-clause-value
-returns-then-write-clause-value c =
-    assigned_in_place c.args.array.now _ c.lend.result c.args.value.now c.write.new.self c.args.slots.now _ _ c.in_ok-places.places.items c.as_slice.result.now _ c.write.result
-    c.if-number_assigned.ensures c.lend.ensures c.number-first.ensures.value c.in_ok-places.ensures.value c.in_ok-places.ensures.within c.in_ok-places.ensures.enough c.as_slice.ensures.value c.items.ensures.value c.if-write.true c.write.ensures
+pub returns-clause-numbers : goal.returns-clause-numbers
+returns-clause-numbers c = λ z e n s. let done : false ≡ true = sym c.if-branch.false ∙ c.in_ok-number_assigned.ensures.single z e n s in absurd (cc)

@@ -3,7 +3,7 @@ use Rattle.std.specs.Prelude.{is_some, slice_get, IfSome}
 use Rattle.apl_arrays.specs.Origins.{origin_number}
 use Rattle.apl_faults.specs.declared.fault.Fault.TheVariants.{Value}
 use Rattle.apl_machine_state.specs.Items.{answered}
-use Rattle.apl_machine_state.specs.Reports.{fault_lines, plain_lines}
+use Rattle.apl_machine_state.specs.Reports.{fault_lines}
 use Rattle.apl_frames.specs.Ends.{IsColumn}
 use Rattle.apl_frames.specs.Flat.{flat_rest}
 use Rattle.apl_contexts.specs.declared.context.Context.{Context}
@@ -66,7 +66,7 @@ returns-clause-ok c =
     let place = a_place c.missing.result some in
     let wants = subst (λ m. IfSome m (λ at. (answered None (flat_rest f).items ≡ Err at) × IsColumn at)) place.1 c.missing.ensures.some in
     let stack = c.stack-stack.ensures ∙ ap (λ (x : Space). x.contexts) c.self.view_is in
-    let report = c.in_ok-report.ensures s.maps ∙ ap (λ (l : List Context). plain_lines (fault_lines Value 1 (dressed s.maps l))) stack in
+    let report = c.in_ok-report.ensures s.maps ∙ ap (λ (l : List Context). fault_lines Value 1 (dressed s.maps l)) stack in
     ap state_of c.in_ok-fail.ensures.ok
     ∙ missing_is s.maps s.kept s.output k f does s.contexts c.in_ok-report.report.items place.0 c.requires.executes get wants.0 report
     ∙ ap (answered_in s) (sym c.in_default-value.is)
