@@ -188,30 +188,33 @@ def check(rt: ModuleType, crate: Any, folder: str, words: list[str]) -> tuple[in
 
 
 class Trial:
-    """The mutants of one crate, tried over what is proved of it."""
+    """The mutants of one crate, tried one check after another over what the earlier ones proved of it, and over what was kept of its proof."""
 
     def __init__(self, rt: ModuleType, crate: Any, room: str) -> None:
         self.rt, self.crate, self.room = rt, crate, room
-        self.seed: str | None = None
+        self.over = f"{room}/over"
 
-    def begin(self) -> None:
-        """Finds the kept work that each check begins with: that of the crate's folder, or else of a check that is made now. A program
-        of few mutants has none."""
+    def begin(self, functions: Iterable[str]) -> list[str]:
+        """Copies what checks in the crate's folder kept, if they kept anything, and returns the checker's names of the crate's functions: those
+        given, or where none is given those of the kept work. With neither the crate is proved for it."""
+        names = [*functions]
         kept = f"{self.crate.folder}/out/incremental"
         if os.path.isdir(kept):
-            self.seed = kept
-        elif made := self.rt.seeded(self.crate, ["--jobs", "1"]):
-            shutil.move(f"{made}/seed", self.room)
+            self.rt.linked(kept, self.over)
+        elif not names and (made := self.rt.seeded(self.crate, ["--jobs", "1"])):
+            shutil.move(f"{made}/seed", self.over)
             shutil.rmtree(made, ignore_errors=True)
-            self.seed = f"{self.room}/seed"
+        else:
+            os.mkdir(self.over)
+        return names or self.known()
 
     def known(self) -> list[str]:
-        """Returns the checker's names of the crate's functions, by what is kept."""
+        """Returns the checker's names of the functions that were proved in the kept work."""
         start, end = f"Rattle-{self.crate.name}-proofs.", ".Code.oantt"
-        files = glob.glob(f"{glob.escape(self.seed)}/*/{start}*{end}") if self.seed else []
+        files = glob.glob(f"{glob.escape(self.over)}/*/{start}*{end}")
         return [os.path.basename(it)[len(start) : -len(end)].replace(".", "::") for it in files]
 
-    def check(self, texts: dict[str, str], words: list[str], kept: str | None) -> tuple[int, str]:
+    def check(self, texts: dict[str, str], words: list[str]) -> tuple[int, str]:
         """Checks a copy of the crate with these texts, and returns the status and what was said."""
         with tempfile.TemporaryDirectory(dir=self.room) as room:
             for part in self.rt.rtlib.PARTS:
@@ -220,24 +223,11 @@ class Trial:
             for file, text in texts.items():
                 with open(f"{room}/{file}", "w", encoding="utf-8") as to:
                     to.write(text)
-            return check(self.rt, self.crate, room, [*(["--incremental", kept] if kept else []), *words])
-
-    def over_seed(self, name: str) -> str | None:
-        """Returns a copy of the seed for one check, if there is a seed."""
-        if self.seed is None:
-            return None
-        over = f"{self.room}/{name}"
-        self.rt.linked(self.seed, over)
-        return over
+            return check(self.rt, self.crate, room, ["--incremental", self.over, *words])
 
     def alone(self, mutant: Mutant) -> Told:
         """Tries one mutant by a check of the whole crate."""
-        over = self.over_seed("alone")
-        try:
-            kind, text = self.rt.must_fail(self.crate, mutant.path, ["--jobs", "1"], over)
-        finally:
-            if over:
-                shutil.rmtree(over, ignore_errors=True)
+        kind, text = self.rt.must_fail(self.crate, mutant.path, ["--jobs", "1"], self.over)
         words = text.partition(": ")[2]
         if kind == self.rt.REFUSED and "only because a proof file names" in words:
             return Told(Outcome.BY_NAMES, words)
@@ -249,13 +239,7 @@ class Trial:
         says nothing."""
         chosen, texts = batch_of(mutants, self.crate.folder)
         functions = sorted({it for mutant in chosen for it in mutant.functions})
-        over = self.over_seed("together")
-        try:
-            only = [word for it in functions for word in ("--only", f"{self.crate.name}::{it}")]
-            status, said = self.check(texts, only, over)
-        finally:
-            if over:
-                shutil.rmtree(over, ignore_errors=True)
+        status, said = self.check(texts, [word for it in functions for word in ("--only", f"{self.crate.name}::{it}")])
         told = verdicts(said, self.crate.name) if status in (0, 1, 3) else {}
         found = {mutant: judged(mutant, told, said) for mutant in chosen}
         return {it: what for it, what in found.items() if what}, [it for it in chosen if not found[it]]
@@ -303,22 +287,37 @@ class Kept:
         self.rt, self.folder = rt, f"{rt.STORE}/mutants"
         self.below = functools.cache(lambda folder, rlib: sum_of([f"{folder}/specs", f"{folder}/proofs", f"{rlib}/lang/src"]))
 
-    def place(self, crate: Any, path: str) -> str:
+    def place(self, *stands_on: object) -> str:
+        return f"{self.folder}/{hashlib.sha256(repr((FORM, *stands_on)).encode()).hexdigest()}"
+
+    def place_of(self, crate: Any, path: str) -> str:
         libraries = [(it.name, self.below(it.folder, it.rlib)) for it in crate.below()]
         with open(path, "rb") as it:
-            stands_on = (FORM, self.rt.own_sum(crate), libraries, os.path.basename(path), it.read())
-        return f"{self.folder}/{hashlib.sha256(repr(stands_on).encode()).hexdigest()}"
+            return self.place(self.rt.own_sum(crate), libraries, os.path.basename(path), it.read())
 
-    def has(self, crate: Any, path: str) -> bool:
-        return os.path.isfile(self.place(crate, path))
+    def told(self, crate: Any, path: str) -> Told | None:
+        """Returns what came of a mutant, if it passed."""
+        outcome, _, words = text_of(self.place_of(crate, path)).partition("\n")
+        return Told(Outcome(outcome), words) if outcome else None
 
     def keep(self, crate: Any, path: str, told: Told) -> None:
-        """Keeps that a mutant passed. Where that can't be written, it is tried again."""
+        """Keeps that a mutant passed."""
+        self.write(self.place_of(crate, path), f"{told.outcome.value}\n{told.words}")
+
+    def functions(self, crate: Any) -> list[str]:
+        """Returns the checker's names of a crate's functions, if they are known."""
+        return text_of(self.place("functions", self.rt.own_sum(crate))).split()
+
+    def keep_functions(self, crate: Any, names: Iterable[str]) -> None:
+        self.write(self.place("functions", self.rt.own_sum(crate)), "\n".join(names))
+
+    def write(self, place: str, text: str) -> None:
+        """Writes a file of what is kept. Where that can't be done, the same is tried again by a later run."""
         try:
             os.makedirs(self.folder, exist_ok=True)
             with tempfile.NamedTemporaryFile("w", prefix="rt-new-", dir=self.folder, delete=False, encoding="utf-8") as to:
-                to.write(told.words)
-            os.replace(to.name, self.place(crate, path))
+                to.write(text)
+            os.replace(to.name, place)
         except OSError:
             pass
 
@@ -328,12 +327,12 @@ def paths_of(crate: Any, folders: Iterable[str]) -> list[str]:
     return [path for folder in folders for path in crates.edits(crate, folder)]
 
 
-def tried(rt: ModuleType, crate: Any, paths: list[str]) -> Iterator[tuple[str, Told]]:
-    """Tries a crate's mutants, of which each one's path is given with what came of it. The crate, and what it stands on, must be built."""
+def tried(rt: ModuleType, crate: Any, paths: list[str], functions: Iterable[str] = ()) -> Iterator[tuple[str, Told]]:
+    """Tries a crate's mutants, of which each one's path is given with what came of it. What the crate stands on must be built.
+    functions: the checker's names of the crate's functions, as far as they are known."""
     with tempfile.TemporaryDirectory(prefix=f"rt-edits-{os.getpid()}-") as room:
         trial = Trial(rt, crate, room)
-        trial.begin()
-        known = trial.known()
+        known = trial.begin(functions)
         good = []
         for path in paths:
             why = rt.read_edit(path, crate.folder)[1]
@@ -369,26 +368,50 @@ class Counts:
         print(f"mutants: all: {shown(sum(self.of.values(), collections.Counter())) or 'none'}", flush=True)
 
 
-def try_all(rt: ModuleType, listed: list[Any], folders: list[str], is_gate: bool, timed: Any = None) -> bool:
-    """Tries the mutants of crates that are built, as many crates side by side as there are processors, and returns whether all passed.
-    timed: gives the call that counts a call's processor time as a crate's."""
-    kept, counts, failed = Kept(rt), Counts(), []
+class Trials:
+    """The mutants of all crates: what came of each, and which failed."""
+
+    def __init__(self, rt: ModuleType, is_gate: bool) -> None:
+        self.rt, self.is_gate = rt, is_gate
+        self.kept, self.counts = Kept(rt), Counts()
+        self.failed: list[str] = []
+
+    def known(self, crate: Any, paths: list[str]) -> dict[str, Told]:
+        """Returns what came of those of a crate's mutants that passed before, where the gate asks."""
+        found = {path: self.kept.told(crate, path) for path in paths} if self.is_gate else {}
+        return {path: told for path, told in found.items() if told}
+
+    def of(self, crate: Any, paths: list[str]) -> dict[str, Told]:
+        """Tries those of a crate's mutants that didn't pass before, and returns what came of each. What the crate stands on must be built."""
+        found = self.known(crate, paths)
+        self.counts.add_kept(crate.name, len(found))
+        new = [it for it in paths if it not in found]
+        for path, told in tried(self.rt, crate, new, self.kept.functions(crate)) if new else ():
+            found[path] = told
+            name = path.rpartition("/")[2].removesuffix(".edit")
+            self.counts.add(crate.name, name, told)
+            if told.outcome.passes:
+                self.kept.keep(crate, path, told)
+            else:
+                self.failed.append(f"{crate.name}/{name}: {told.outcome.value}")
+        return found
+
+    def tell(self) -> bool:
+        """Prints the counts and what failed, and returns whether nothing did."""
+        self.counts.tell()
+        for line in sorted(self.failed):
+            print(f"FAILED: {line}")
+        return not self.failed
+
+
+def try_all(rt: ModuleType, listed: list[Any], folders: list[str], is_gate: bool) -> bool:
+    """Tries the mutants of crates that are built, as many crates side by side as there are processors, and returns whether all passed."""
+    trials = Trials(rt, is_gate)
 
     def of(crate: Any) -> bool:
-        paths = paths_of(crate, folders)
-        new = [it for it in paths if not (is_gate and kept.has(crate, it))]
-        counts.add_kept(crate.name, len(paths) - len(new))
-        for path, told in tried(rt, crate, new) if new else ():
-            counts.add(crate.name, path.rpartition("/")[2].removesuffix(".edit"), told)
-            if told.outcome.passes:
-                kept.keep(crate, path, told)
-            else:
-                failed.append(f"{crate.name}/{path.rpartition('/')[2]}: {told.outcome.value}")
+        trials.of(crate, paths_of(crate, folders))
         return True
 
     some = [it for it in listed if paths_of(it, folders)]
-    well = crates.in_lanes(some, (lambda crate: timed((crate.name, "mutants"), of)(crate)) if timed else of, in_order=False)
-    counts.tell()
-    for line in sorted(failed):
-        print(f"FAILED: {line}")
-    return not failed and len(well) == len(some)
+    well = crates.in_lanes(some, of, in_order=False)
+    return trials.tell() and len(well) == len(some)
