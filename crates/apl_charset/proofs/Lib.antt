@@ -3,3 +3,4 @@ pub mod Members
 pub mod Unique
 pub mod Decodings
 pub mod Digits
+pub mod Places

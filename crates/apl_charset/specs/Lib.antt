@@ -1,3 +1,4 @@
 pub mod Set
 pub mod Text
 pub mod Decoding
+pub mod inside

@@ -1,0 +1,2 @@
+-- What the proofs need, and no public contract says.
+pub mod Places
