@@ -25,6 +25,8 @@ from typing import Any
 import crates
 from bodies import bodies, names_of
 
+# What gives a check a lower priority than proofs have, which others wait for.
+LATER = ("nice", "-n", "10")
 # Counted up when something else counts as refused, so that what was kept before is tried anew.
 FORM = 1
 
@@ -180,7 +182,7 @@ def is_within(name: str, function: str) -> bool:
 
 def check(rt: ModuleType, crate: Any, folder: str, words: list[str]) -> tuple[int, str]:
     """Checks the crate's files in a folder by the checker with these words, and returns the status and what was said."""
-    command = [*rt.rtlib.guarded(), rt.rtlib.RATTLE, "check", *crate.words(["--jobs", "1"], keeps=False), *words]
+    command = [*rt.rtlib.guarded(), *LATER, rt.rtlib.RATTLE, "check", *crate.words(["--jobs", "1"], keeps=False), *words]
     with tempfile.TemporaryFile("w+", encoding="utf-8", errors="replace") as said:
         status = subprocess.call(command, cwd=folder, stdin=subprocess.DEVNULL, stdout=said, stderr=subprocess.STDOUT)
         said.seek(0)

@@ -14,6 +14,9 @@ from typing import Callable, List, Sequence
 
 sys.path[:0] = [str(Path(__file__).resolve().parents[2] / "python")]
 
+# What a trial by messages needs beside the kernel: a module, and the package of Debian that has it.
+NEEDS = {"run_all": ("nbconvert", "python3-nbconvert")}
+
 
 def tried(name: str, trial: Callable[[], str]) -> bool:
     """Does a trial, tells what it has seen, and returns whether all is right."""
@@ -43,8 +46,12 @@ def main(only: Sequence[str]) -> int:
         return not only or name in only
 
     for trial in protocol.ALL:
-        if chosen(trial.__name__):
-            found.append(tried(trial.__name__, trial))
+        name = trial.__name__
+        module, package = NEEDS.get(name, ("sys", ""))
+        if chosen(name) and find_spec(module):
+            found.append(tried(name, trial))
+        elif chosen(name):
+            print(f"kernel: {module} isn't installed, so {name} isn't tried: apt-get install {package}")
     if chosen("suite") and find_spec("jupyter_kernel_test"):
         from tests import suite  # pylint: disable=import-outside-toplevel
         found.append(tried("suite", suite.run))
