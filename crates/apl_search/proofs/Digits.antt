@@ -59,7 +59,8 @@ size_of_both : (s : List ℕ) → size_of s ≡ first_length s * size_of (shape_
 size_of_both [] = refl
 size_of_both (n ∷ ns) = refl
 
-row_below : (n w s p : ℕ) → s < n → p < w → s * w + p < n * w
+-- a place in rows is among all of theirs
+pub row_below : (n w s p : ℕ) → s < n → p < w → s * w + p < n * w
 row_below n w s p h k =
     let most : suc s * w ≤ n * w = mul-le-mul_right w h in
     let next : suc s * w ≡ s * w + w = omega arith in

@@ -8,7 +8,7 @@ use Rattle.apl_arrays.specs.Results.{and_then, ok_map}
 use Rattle.apl_arrays.proofs.Places.{size_le_bound}
 use Rattle.apl_search.specs.Encoded.{bases_and_numbers, digits_by, digits_in, encode}
 use Rattle.apl_search.proofs.Digits.{numbers_length}
-use Rattle.apl_search.proofs.LastFirst.{length-digits}
+use Rattle.apl_search.proofs.Rows.{length-digits}
 use Rattle.apl_search.proofs.Shapes.{limits}
 
 parts : {A : Type 0} (r : Result A Fault) (t u : Result (List ℤ) Fault) (p : List ℤ × List ℤ) → and_then r (λ x. and_then t (λ ws. ok_map (λ rs. (ws, rs)) u)) ≡ Ok p → (t ≡ Ok p.0) × (u ≡ Ok p.1)

@@ -11,8 +11,7 @@ pub mod Lookups
 pub mod Markings
 pub mod Searches
 pub mod Rounded
-pub mod LastFirst
-pub mod Lessened
+pub mod Rows
 pub mod Encodings
 pub mod Buckets
 pub mod Deals

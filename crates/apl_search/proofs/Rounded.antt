@@ -1,8 +1,8 @@
 -- What a base leaves of a number, and how large that is.
-use Rattle.std.proofs.Common.{◌≡◌, ℕ, zero, suc, ℤ, pos, negsuc, neg_ℤ, ◌-ℤ◌, ◌*ℤ◌, ◌<ℤ◌, ◌+◌, ◌*◌, ◌/◌, ◌%◌, ◌≤◌, FitsSigned, refl, sym, subst, arith}
+use Rattle.std.proofs.Common.{◌≡◌, ℕ, zero, suc, ℤ, pos, negsuc, neg_ℤ, ◌-ℤ◌, ◌*ℤ◌, ◌<ℤ◌, ◌+◌, ◌*◌, ◌/◌, ◌%◌, ◌≤◌, refl, sym, subst, arith}
 use mir.Syntax.{w128}
 use mir.Val.{SFits}
-use Rattle.std.specs.Int.{w64, int_div_euclid}
+use Rattle.std.specs.Int.{int_div_euclid}
 use Rattle.std.proofs.Math.Nat.{div-add-mod, mul-le-mul_right}
 use Rattle.std.proofs.lemmas.Int.{ints}
 use Rattle.apl_scalar.specs.Functions.{residue}
@@ -39,9 +39,6 @@ near_left (negsuc n) r h = near_by (neg_ℤ r) n (near_back r h)
 -- what a base leaves of a number that is near is near too
 pub near_rest : (base r rest : ℤ) → IsNear r → rest ≡ left_of base r → IsNear rest
 near_rest base r rest h e = let P : ℤ → Type 0 = λ z. IsNear z in subst P (sym e) (near_left base r h)
-
-pub near_fits : (r : ℤ) → FitsSigned w64 r → IsNear r
-near_fits r f = record { low = omega (arith, ints); high = omega (arith, ints) }
 
 pub fits_near : (r : ℤ) → IsNear r → SFits w128 r
 fits_near r h =

@@ -1,5 +1,5 @@
 -- Digits of numbers by bases.
-use Rattle.std.specs.Prelude.{ℕ, zero, ℤ, pos, neg_ℤ, ◌≤ℤ◌, ◌^◌, List, [], ◌∷◌, ◌++◌, map, reverse, slice_index_or, Result}
+use Rattle.std.specs.Prelude.{ℕ, zero, ℤ, pos, neg_ℤ, ◌≤ℤ◌, ◌^◌, List, [], ◌∷◌, ◌++◌, map, Result}
 use Rattle.apl_faults.specs.declared.fault.Fault.{Fault}
 use Rattle.apl_arrays.specs.Cells.{Arr, Numbers}
 use Rattle.apl_arrays.specs.Checks.{limited, vector_rank, numbers_of}
@@ -41,7 +41,3 @@ encode a b = and_then (bases_and_numbers a b) (λ p. and_then (encoded_shape a b
 pub record IsNear (r : ℤ) : Type 0 where
   pub low : neg_ℤ (pos (2 ^ 63)) ≤ℤ r
   pub high : r ≤ℤ pos (2 ^ 63)
-
--- the number at a place that is counted from the last number back
-abbrev pub nth_from_last : List ℤ → ℕ → ℤ
-nth_from_last rs place = slice_index_or (reverse rs) place (pos 0)

@@ -1,6 +1,6 @@
 // Digits of single numbers, and what a base leaves of a number.
-ghost use Rattle.std.specs.Prelude.{◌≡◌, ◌<◌, neg_ℤ, pos, length, slice_index_or};
-ghost use Rattle.std.specs.List.{All};
+ghost use Rattle.std.specs.Prelude.{◌≡◌, ◌<ℤ◌, neg_ℤ, pos};
+ghost use Rattle.std.specs.Int.{int_div_euclid};
 ghost use Rattle.apl_scalar.specs.Functions.{residue};
 ghost use Rattle.apl_search.specs.Encoded.{left_of, IsNear};
 
@@ -12,6 +12,22 @@ fn opposite(number: i128) -> i128
     ensures near { IsNear result }
 {
     -number
+}
+
+/// How often a positive base goes into a number, rounded down.
+///
+/// Nearly all numbers fit 64 bits, and to divide in these takes far less time than in 128.
+#[inline(always)]
+fn quotient(number: i128, base: i128) -> i128
+    requires { pos 0 <ℤ base }
+    ensures { result ≡ int_div_euclid number base }
+{
+    if let Ok(number) = i64::try_from(number) {
+        if let Ok(base) = i64::try_from(base) {
+            return number.div_euclid(base) as i128;
+        }
+    }
+    number.div_euclid(base)
 }
 
 /// What a base leaves of a number less its digit.
@@ -26,11 +42,11 @@ fn left(base: i128, number: i128) -> i128
         return 0;
     }
     if base > 0 {
-        number.div_euclid(base)
+        quotient(number, base)
     } else {
         let turned = opposite(number);
         let up = opposite(base);
-        turned.div_euclid(up)
+        quotient(turned, up)
     }
 }
 
@@ -47,17 +63,15 @@ fn digit(base: i128, number: i128, rest: i128) -> i128
     number - product
 }
 
-/// The digit of one of these numbers by a base, and what the base leaves of it.
+/// The digit of a number by a base, and what the base leaves of it.
 #[inline(always)]
-pub(crate) fn divided(base: i128, numbers: &[i128], place: usize) -> (i128, i128)
+pub(crate) fn divided(base: i128, number: i128) -> (i128, i128)
     requires base { IsNear base }
-    requires numbers { All IsNear numbers.now }
-    requires place { place < length numbers.now }
-    ensures digit { result.0 ≡ residue base (slice_index_or numbers.now place (pos 0)) }
-    ensures rest { result.1 ≡ left_of base (slice_index_or numbers.now place (pos 0)) }
+    requires number { IsNear number }
+    ensures digit { result.0 ≡ residue base number }
+    ensures rest { result.1 ≡ left_of base number }
     ensures near { IsNear result.1 }
 {
-    let number = numbers[place];
     let rest = left(base, number);
     (digit(base, number, rest), rest)
 }

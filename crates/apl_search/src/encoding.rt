@@ -1,91 +1,46 @@
-// Digits of numbers by bases, from the last base on and the last digit first.
-ghost use Rattle.std.specs.Prelude.{◌≡◌, ◌-◌, ◌*◌, ◌^◌, ◌<◌, ◌++◌, IfOk, length, map, pos, reverse, slice_index_or};
-ghost use Rattle.std.specs.List.{All, range_with_len};
+// Digits of numbers by bases, a row of them for each base.
+ghost use Rattle.std.specs.Prelude.{◌≡◌, ◌*◌, ◌^◌, ◌<◌, OnOk, IfErr, length, pos, slice_index_or};
 ghost use Rattle.apl_arrays.specs.Answers.{Answers, FaultsFirst};
 ghost use Rattle.apl_arrays.specs.Results.{all_ok, and_then, ok_map};
-ghost use Rattle.apl_scalar.specs.Functions.{in_range, residue};
-ghost use Rattle.apl_search.specs.Encoded.{bases_and_numbers, digits_by, encode, encoded_shape, left_of, nth_from_last, IsNear};
+ghost use Rattle.apl_scalar.specs.Functions.{in_range};
+ghost use Rattle.apl_search.specs.Encoded.{bases_and_numbers, digits_by, encode, encoded_shape, IsNear};
+ghost use Rattle.apl_search.specs.inside.Rows.{HasDigits, KeepsBefore, LacksDigit};
 
 use crate::decoding::narrowed;
 use crate::dividing::divided;
 use apl_arrays::{Array, Ravel, Stop, joined_shape, numbers_in, within_limits};
 use apl_faults::Fault;
-use std::alloc::{AllocError, Global};
+use std::alloc::Global;
 
-/// One of these numbers, counted from the last.
+/// One of these numbers in 128 bits.
 #[inline(always)]
-fn from_last(numbers: &[i64], place: usize) -> i128
+fn wide_at(numbers: &[i64], place: usize) -> i128
     requires { place < length numbers.now }
-    ensures value { result ≡ slice_index_or numbers.now (length numbers.now - 1 - place) (pos 0) }
+    ensures value { result ≡ slice_index_or numbers.now place (pos 0) }
     ensures near { IsNear result }
 {
-    numbers[numbers.len() - 1 - place] as i128
+    numbers[place] as i128
 }
 
-/// These numbers in 128 bits, from the last on.
-fn widened_back(alloc: Global, numbers: &[i64]) -> Result<Vec<i128>, AllocError>
-    ensures value { IfOk result (λ v. v.items ≡ reverse numbers.now) }
-    ensures near { IfOk result (λ v. All IsNear v.items) }
+/// Writes the digits of one of these numbers, each into the row of its base, or finds a limit fault where one overflows 64 bits.
+///
+/// What is left has 128 bits: the base -1 leaves one more of the lowest number than 64 can hold, and a later base may bring it back.
+fn write_digits(bases: &[i64], numbers: &[i64], place: usize, rows: &mut [i64]) -> Result<(), Fault>
+    requires place { place < length numbers.now }
+    requires rows { length rows.old ≡ length bases.now * length numbers.now }
+    ensures size { OnOk result (length rows.new ≡ length rows.old) }
+    ensures digits { OnOk result (HasDigits bases.now numbers.now place 0 rows.new) }
+    ensures kept { OnOk result (KeepsBefore (length numbers.now) place rows.old rows.new) }
+    ensures fault { IfErr result (LacksDigit bases.now numbers.now place) }
 {
-    let mut wide = Vec::with_capacity(alloc, numbers.len())?;
-    for place in 0..numbers.len() {
-        let number = from_last(numbers, place);
-        wide.push(number)?;
-    }
-    Ok(wide)
-}
-
-/// Appends the digits of these numbers by a base, and writes over them what the base leaves of them.
-fn push_digits(digits: &mut Vec<i128>, base: i128, numbers: &mut [i128]) -> Result<(), AllocError>
-    requires base { IsNear base }
-    requires numbers { All IsNear numbers.old }
-    ensures digits { IfOk result (λ u. digits.new.items ≡ digits.old.items ++ map (residue base) numbers.old) }
-    ensures rests { IfOk result (λ u. numbers.new ≡ map (left_of base) numbers.old) }
-    ensures near { IfOk result (λ u. All IsNear numbers.new) }
-{
-    for place in 0..numbers.len() {
-        let (digit, rest) = divided(base, numbers, place);
-        digits.push(digit)?;
-        numbers[place] = rest;
+    let mut rest = wide_at(numbers, place);
+    for row in (0..bases.len()).rev() {
+        let (digit, left) = divided(wide_at(bases, row), rest);
+        let digit = narrowed(digit)?;
+        rows[row * numbers.len() + place] = digit;
+        rest = left;
     }
     Ok(())
-}
-
-/// The digits by all bases of numbers that are listed from the last on, also from the last on.
-fn digits_back(alloc: Global, bases: &[i64], numbers: &mut [i128]) -> Result<Vec<i128>, AllocError>
-    requires small { length bases.now * length numbers.old < 2 ^ 63 }
-    requires numbers { All IsNear numbers.old }
-    ensures { IfOk result (λ v. v.items ≡ reverse (digits_by bases.now (reverse numbers.old))) }
-{
-    let mut digits = Vec::with_capacity(alloc, bases.len() * numbers.len())?;
-    for done in 0..bases.len() {
-        let base = from_last(bases, done);
-        push_digits(&mut digits, base, numbers)?;
-    }
-    Ok(digits)
-}
-
-/// One of these numbers, counted from the last, if it fits 64 bits.
-#[inline(always)]
-fn narrowed_from_last(numbers: &[i128], place: usize) -> Result<i64, Fault>
-    requires { place < length numbers.now }
-    ensures { result ≡ in_range (nth_from_last numbers.now place) }
-{
-    narrowed(numbers[numbers.len() - 1 - place])
-}
-
-/// These numbers from the last on in 64 bits, or a limit fault where one doesn't fit.
-fn narrowed_back(alloc: Global, numbers: &[i128]) -> Result<Vec<i64>, Stop>
-    ensures { Answers (λ v. v.items) (all_ok (λ k. in_range (nth_from_last numbers.now k)) (range_with_len 0 (length numbers.now))) result }
-{
-    let mut out = Vec::with_capacity(alloc, numbers.len())?;
-    for place in 0..numbers.len() {
-        match narrowed_from_last(numbers, place) {
-            Ok(number) => out.push(number)?,
-            Err(fault) => return Err(Stop::Fault(fault)),
-        }
-    }
-    Ok(out)
 }
 
 /// The digits of these numbers by all bases, or a limit fault where one overflows 64 bits.
@@ -93,9 +48,13 @@ fn digits_of(alloc: Global, bases: &[i64], numbers: &[i64]) -> Result<Vec<i64>, 
     requires { length bases.now * length numbers.now < 2 ^ 63 }
     ensures { Answers (λ v. v.items) (all_ok in_range (digits_by bases.now numbers.now)) result }
 {
-    let mut wide = widened_back(alloc, numbers)?;
-    let digits = digits_back(alloc, bases, wide.as_mut_slice())?;
-    narrowed_back(alloc, digits.as_slice())
+    let mut rows = vec![in alloc; 0i64; bases.len() * numbers.len()]?;
+    for place in 0..numbers.len() {
+        if let Err(fault) = write_digits(bases, numbers, place, rows.as_mut_slice()) {
+            return Err(Stop::Fault(fault));
+        }
+    }
+    Ok(rows)
 }
 
 /// The bases and the numbers to write by them.

@@ -11,8 +11,8 @@ returns-then-base-gt0-clause-value c =
     let fits_number : SFits w128 c.args.number = c.ranges.number in
     let fits_base : SFits w128 c.args.base = c.ranges.base in
     let positive : pos 0 <ℤ c.args.base = grind (arith, ints) in
-    let quotient : c.div_euclid.result ≡ int_div_euclid c.args.number c.args.base = simp to_z-of_z at c.div_euclid.ensures in
-    let fits : SFits w128 c.div_euclid.result = search rules in
+    let quotient : c.quotient.result ≡ int_div_euclid c.args.number c.args.base = simp to_z-of_z at c.quotient.ensures in
+    let fits : SFits w128 c.quotient.result = search rules in
     simp to_z-of_z (quotient ∙ sym (left_up c.args.base c.args.number positive))
 
 pub returns-then-base-gt0-clause-near : goal.returns-then-base-gt0-clause-near
@@ -20,9 +20,9 @@ returns-then-base-gt0-clause-near c =
     let fits_number : SFits w128 c.args.number = c.ranges.number in
     let fits_base : SFits w128 c.args.base = c.ranges.base in
     let positive : pos 0 <ℤ c.args.base = grind (arith, ints) in
-    let quotient : c.div_euclid.result ≡ int_div_euclid c.args.number c.args.base = simp to_z-of_z at c.div_euclid.ensures in
-    let fits : SFits w128 c.div_euclid.result = search rules in
-    simp to_z-of_z (near_rest c.args.base c.args.number c.div_euclid.result c.requires.number (quotient ∙ sym (left_up c.args.base c.args.number positive)))
+    let quotient : c.quotient.result ≡ int_div_euclid c.args.number c.args.base = simp to_z-of_z at c.quotient.ensures in
+    let fits : SFits w128 c.quotient.result = search rules in
+    simp to_z-of_z (near_rest c.args.base c.args.number c.quotient.result c.requires.number (quotient ∙ sym (left_up c.args.base c.args.number positive)))
 
 pub returns-else-base-gt0-clause-value : goal.returns-else-base-gt0-clause-value
 returns-else-base-gt0-clause-value c =
@@ -33,8 +33,8 @@ returns-else-base-gt0-clause-value c =
     let turned : c.opposite-turned.result ≡ neg_ℤ c.args.number = simp to_z-of_z at c.opposite-turned.ensures.value in
     let up : c.opposite-up.result ≡ neg_ℤ c.args.base = simp to_z-of_z at c.opposite-up.ensures.value in
     let negative : c.args.base <ℤ pos 0 = grind (arith, ints) in
-    let quotient : c.div_euclid-else-base-gt0.result ≡ int_div_euclid c.opposite-turned.result c.opposite-up.result = simp to_z-of_z at c.div_euclid-else-base-gt0.ensures in
-    let fits : SFits w128 c.div_euclid-else-base-gt0.result = search rules in
+    let quotient : c.quotient-else-base-gt0.result ≡ int_div_euclid c.opposite-turned.result c.opposite-up.result = simp to_z-of_z at c.quotient-else-base-gt0.ensures in
+    let fits : SFits w128 c.quotient-else-base-gt0.result = search rules in
     simp to_z-of_z
     (quotient
     ∙ ap (λ (z : ℤ). int_div_euclid z c.opposite-up.result) turned
@@ -50,10 +50,10 @@ returns-else-base-gt0-clause-near c =
     let turned : c.opposite-turned.result ≡ neg_ℤ c.args.number = simp to_z-of_z at c.opposite-turned.ensures.value in
     let up : c.opposite-up.result ≡ neg_ℤ c.args.base = simp to_z-of_z at c.opposite-up.ensures.value in
     let negative : c.args.base <ℤ pos 0 = grind (arith, ints) in
-    let quotient : c.div_euclid-else-base-gt0.result ≡ int_div_euclid c.opposite-turned.result c.opposite-up.result = simp to_z-of_z at c.div_euclid-else-base-gt0.ensures in
-    let fits : SFits w128 c.div_euclid-else-base-gt0.result = search rules in
+    let quotient : c.quotient-else-base-gt0.result ≡ int_div_euclid c.opposite-turned.result c.opposite-up.result = simp to_z-of_z at c.quotient-else-base-gt0.ensures in
+    let fits : SFits w128 c.quotient-else-base-gt0.result = search rules in
     simp to_z-of_z
-    (near_rest c.args.base c.args.number c.div_euclid-else-base-gt0.result c.requires.number
+    (near_rest c.args.base c.args.number c.quotient-else-base-gt0.result c.requires.number
     (quotient
     ∙ ap (λ (z : ℤ). int_div_euclid z c.opposite-up.result) turned
     ∙ ap (λ (z : ℤ). int_div_euclid (neg_ℤ c.args.number) z) up

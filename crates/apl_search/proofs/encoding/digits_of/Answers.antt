@@ -1,23 +1,28 @@
-use Rattle.std.proofs.Common.{◌≡◌, ℤ, List, Vec, Global, length, reverse, ap, ◌∙◌}
-use Rattle.std.proofs.lemmas.List.{length-reverse}
-use Rattle.std.proofs.lemmas.List.Elements.{All-same}
-use Rattle.apl_arrays.proofs.Exits.{answers_along}
-use Rattle.apl_search.specs.Encoded.{IsNear}
-use Rattle.apl_search.proofs.LastFirst.{digits_in_turn}
+use Rattle.std.proofs.Common.{◌≡◌, ◌++◌, ◌+◌, ℤ, List, length, take, drop, sym, subst, ap, ◌∙◌, rules}
+use Rattle.apl_search.proofs.Rows.{HasBefore, before_step, written_back, digits_in_rows, fault_in_rows}
 use Rattle.apl_search.proofs.encoding.digits_of.Goals as goal
 
-pub digits_back-requires-clause-small : goal.digits_back-requires-clause-small
-digits_back-requires-clause-small c =
-    let back : c.as_mut_slice.result.now ≡ reverse c.args.numbers.now = c.as_mut_slice.ensures.value ∙ c.in_ok-wide.ensures.value in
-    let size : length c.as_mut_slice.result.now ≡ length c.args.numbers.now = ap (λ (l : List ℤ). length l) back ∙ length-reverse c.args.numbers.now in
-    rw size c.requires
+pub returns-in-Err : goal.returns-in-Err
+returns-in-Err c = fault_in_rows c.args.bases.now c.args.numbers.now c.loop-place.place c.in-Err.fault c.loop-place-test.true c.in-Err.ensures.fault
 
-pub digits_back-requires-clause-numbers : goal.digits_back-requires-clause-numbers
-digits_back-requires-clause-numbers c = All-same IsNear c.as_mut_slice.result.now c.in_ok-wide.wide.items c.as_mut_slice.ensures.value c.in_ok-wide.ensures.near
+pub loop-place-preserved : goal.loop-place-preserved
+loop-place-preserved c =
+    let seen : c.as_mut_slice.result.now ≡ c.loop-place.rows.items = c.as_mut_slice.ensures.value in
+    let as_long : length c.write_digits.new.rows ≡ length c.as_mut_slice.result.now = c.in_default.ensures.size in
+    let size : length c.write_digits.new.rows ≡ length c.loop-place.rows.items = as_long ∙ ap (λ (l : List ℤ). length l) seen in
+    let back : take c.loop-place.rows.len (c.write_digits.new.rows ++ drop (length c.write_digits.new.rows) c.loop-place.rows.items) ≡ c.write_digits.new.rows =
+    written_back c.loop-place.rows.items c.write_digits.new.rows c.loop-place.rows.len (search rules) size
+    in
+    let P : List ℤ → Type 0 = λ l. HasBefore c.args.bases.now c.args.numbers.now c.loop-place.place l in
+    let Q : List ℤ → Type 0 = λ l. HasBefore c.args.bases.now c.args.numbers.now (c.loop-place.place + 1) l in
+    let before : HasBefore c.args.bases.now c.args.numbers.now c.loop-place.place c.as_mut_slice.result.now = subst P (sym seen) c.loop-place.invariant.digits in
+    let next : HasBefore c.args.bases.now c.args.numbers.now (c.loop-place.place + 1) c.write_digits.new.rows =
+    before_step c.args.bases.now c.args.numbers.now c.loop-place.place c.as_mut_slice.result.now c.write_digits.new.rows before c.in_default.ensures.kept c.in_default.ensures.digits
+    in
+    record {
+      size = ap (λ (l : List ℤ). length l) back ∙ size ∙ c.loop-place.invariant.size;
+      digits = subst Q (sym back) next;
+    }
 
 pub returns : goal.returns
-returns c =
-    let back : c.as_mut_slice.result.now ≡ reverse c.args.numbers.now = c.as_mut_slice.ensures.value ∙ c.in_ok-wide.ensures.value in
-    answers_along (λ (v : Vec ℤ Global). v.items) _ _ c.narrowed_back.result
-    (digits_in_turn c.args.bases.now c.args.numbers.now c.as_mut_slice.result.now c.as_slice.result.now back (c.as_slice.ensures.value ∙ c.in_ok-digits.ensures))
-    c.narrowed_back.ensures
+returns c = digits_in_rows c.args.bases.now c.args.numbers.now c.loop-place.rows.items c.loop-place.place c.loop-place.invariant.size c.loop-place-test.false c.loop-place.invariant.digits
