@@ -32,7 +32,7 @@ fn text_in(array: &Array) -> Option<&[Ch]>
     }
 }
 
-/// The fault of a text that is no line; for want of memory there is none.
+/// The fault of a text that is no line; out of memory there is none.
 fn fault_of(error: TokenError) -> Result<Fault, AllocError>
     ensures fault { IfOk result (λ fault. fault ≡ fault_of error) }
     ensures line { IfOk result (λ fault. error ≢ TokenError.Memory) }
