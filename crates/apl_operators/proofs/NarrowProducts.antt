@@ -1,15 +1,17 @@
 -- Sums of products of numbers of 32 bits, by columns that are gathered.
-use Rattle.std.proofs.Common.{zero, suc, ◌≡◌, ◌⊎◌, inl, inr, ⊎_elim, ℕ, ℤ, pos, ◌+ℤ◌, ◌*ℤ◌, ◌+◌, ◌-◌, ◌*◌, ◌<◌, ◌≤◌, ◌^◌, List, [], ◌∷◌, ◌++◌, map, length, get_or, FitsSigned, refl, ap, sym, ◌∙◌, subst, arith, w64}
+use Rattle.std.proofs.Common.{zero, suc, ◌≡◌, ◌⊎◌, inl, inr, ⊎_elim, ℕ, ℤ, pos, ◌+ℤ◌, ◌*ℤ◌, ◌+◌, ◌-◌, ◌*◌, ◌/◌, ◌%◌, ◌<◌, ◌≤◌, ◌^◌, List, [], ◌∷◌, ◌++◌, map, length, get_or, FitsSigned, refl, ap, sym, ◌∙◌, subst, arith, w64, of_z, to_z}
 use Rattle.std.specs.Prelude.{unsigned_abs}
+use Rattle.std.specs.Int.{w32}
 use Rattle.std.specs.List.{range_with_len}
 use Rattle.std.proofs.lemmas.Bool.{cases_lt}
-use Rattle.std.proofs.lemmas.Int.{ints, unsigned_abs-mul}
+use Rattle.std.proofs.lemmas.Int.{ints, fits_signed_mul, to_z-of_z, unsigned_abs-mul}
 use Rattle.std.proofs.lemmas.List.FromFn.{map-range_with_len_more}
-use Rattle.std.proofs.Math.Nat.{mul-le-mul_right}
+use Rattle.std.proofs.Math.Nat.{div-add-mod, mul-le-mul_right}
+use Rattle.apl_arrays.proofs.Nth.{row_below, rest_below}
 use Rattle.apl_folds.specs.inside.Sums.{total}
 use Rattle.apl_folds.proofs.Totals.{fits_below}
 use Rattle.apl_operators.specs.declared.joint.Joint.{Joint}
-use Rattle.apl_operators.specs.inside.SumsOfProducts.{product_of, AreWithin}
+use Rattle.apl_operators.specs.inside.SumsOfProducts.{product_of, AreWithin, FitTogether, AreSums}
 use Rattle.apl_operators.specs.inside.NarrowProducts.{AreNarrow, IsColumn, Meets, dot, sum_in, SumsBefore}
 use Rattle.apl_operators.proofs.SmallNumbers.{all_small}
 
@@ -146,3 +148,67 @@ column_along ys zs ws width column m n e f known = record { size = ap length f �
 
 pub narrow_within : (zs : List ℤ) (bound : ℕ) → AreWithin bound zs → bound < 2 ^ 31 → AreNarrow zs
 narrow_within zs bound each small = λ k. omega (arith, all_small zs bound each k)
+
+-- a number of 32 bits is itself when it is read as one of 64
+pub narrow_read : (z : ℤ) → unsigned_abs z < 2 ^ 31 → unsigned_abs (to_z w64 (of_z w64 z)) < 2 ^ 31
+narrow_read z small =
+    let P : ℤ → Type 0 = λ w. unsigned_abs w < 2 ^ 31 in
+    subst P (sym (to_z-of_z w64 z (fits_below z (omega arith)))) small
+
+-- and when it is made one of 32 and back
+narrow_fits : (z : ℤ) → unsigned_abs z < 2 ^ 31 → FitsSigned w32 z
+narrow_fits z small = omega (arith, ints)
+
+narrow_cast : (z w : ℤ) → unsigned_abs z < 2 ^ 31 → w ≡ to_z w32 (of_z w32 (to_z w64 (of_z w64 z))) → to_z w64 (of_z w64 w) ≡ z
+narrow_cast z w small made =
+    let fits : FitsSigned w64 z = fits_below z (omega arith) in
+    ap (λ (v : ℤ). to_z w64 (of_z w64 v)) (made ∙ ap (λ (v : ℤ). to_z w32 (of_z w32 v)) (to_z-of_z w64 z fits) ∙ to_z-of_z w32 z (narrow_fits z small)) ∙ to_z-of_z w64 z fits
+
+pub narrow_read_fits : (z : ℤ) → unsigned_abs z < 2 ^ 31 → FitsSigned w32 (to_z w64 (of_z w64 z))
+narrow_read_fits z small =
+    let P : ℤ → Type 0 = λ w. FitsSigned w32 w in
+    subst P (sym (to_z-of_z w64 z (fits_below z (omega arith)))) (narrow_fits z small)
+
+narrow_product_fits : (x y : ℤ) → unsigned_abs x < 2 ^ 31 → unsigned_abs y < 2 ^ 31 → FitsSigned w64 (x *ℤ y)
+narrow_product_fits x y small_x small_y = fits_signed_mul w64 x y (2 ^ 31) (2 ^ 31) (omega arith) (omega arith) (omega arith)
+
+-- the product of two such numbers, as the code makes it
+pub narrow_product : (x y p q : ℤ) → unsigned_abs x < 2 ^ 31 → unsigned_abs y < 2 ^ 31 → p ≡ to_z w32 (of_z w32 (to_z w64 (of_z w64 x))) → q ≡ to_z w32 (of_z w32 (to_z w64 (of_z w64 y))) →
+    FitsSigned w64 (to_z w64 (of_z w64 p) *ℤ to_z w64 (of_z w64 q)) × (to_z w64 (of_z w64 (to_z w64 (of_z w64 p) *ℤ to_z w64 (of_z w64 q))) ≡ x *ℤ y)
+narrow_product x y p q small_x small_y made_p made_q =
+    let P : ℤ → Type 0 = λ w. FitsSigned w64 w in
+    let fits : FitsSigned w64 (x *ℤ y) = narrow_product_fits x y small_x small_y in
+    let same : to_z w64 (of_z w64 p) *ℤ to_z w64 (of_z w64 q) ≡ x *ℤ y =
+    ap (λ (z : ℤ). z *ℤ to_z w64 (of_z w64 q)) (narrow_cast x p small_x made_p) ∙ ap (λ (z : ℤ). x *ℤ z) (narrow_cast y q small_y made_q)
+    in
+    (subst P (sym same) fits, ap (λ (z : ℤ). to_z w64 (of_z w64 z)) same ∙ to_z-of_z w64 (x *ℤ y) fits)
+
+-- a row of one table and a column of another have numbers of 32 bits, and products that fit together
+pub row_meets : (xs ys row zs : List ℤ) (j : Joint) (r q : ℕ) → AreNarrow xs → AreNarrow ys → FitTogether xs ys j.joined → length row ≡ j.joined →
+    ((k : ℕ) → k < j.joined → get_or row k (pos 0) ≡ get_or xs (r * j.joined + k) (pos 0)) → IsColumn ys j.columns q j.joined zs → Meets row zs
+row_meets xs ys row zs j r q narrow_xs narrow_ys small size numbers column =
+    let P : ℤ → Type 0 = λ w. unsigned_abs w < 2 ^ 31 in
+    let Q : ℕ → Type 0 = λ n. n * small.bound < 2 ^ 63 in
+    record {
+      size = column.size ∙ sym size;
+      left = λ k h. subst P (sym (numbers k (omega arith))) (narrow_xs (r * j.joined + k));
+      right = λ k h. subst P (sym (column.each k (omega arith))) (narrow_ys (k * j.columns + q));
+      bound = small.bound;
+      fits = subst Q (sym size) small.fits;
+      each = λ k h. both (numbers k (omega arith)) (column.each k (omega arith)) (small.each (r * j.joined + k) (k * j.columns + q));
+    }
+  where
+    both : {x y v w : ℤ} {b : ℕ} → x ≡ v → y ≡ w → unsigned_abs v * unsigned_abs w ≤ b → unsigned_abs x * unsigned_abs y ≤ b
+    both e f h = rw (e, f) h
+
+-- where the sums of all columns are known, all sums are
+pub sums_whole : (xs ys zs : List ℤ) (j : Joint) (done : ℕ) → j.columns ≤ done → SumsBefore xs ys j done zs → AreSums xs ys j (j.rows * j.columns) zs
+sums_whole xs ys zs j done whole before = record {
+  size = before.size;
+  each = λ r h.
+      let below : r % j.columns < j.columns = rest_below j.rows j.columns r h in
+      ap (λ (m : ℕ). get_or zs m (pos 0)) (place r j.columns) ∙ before.each (r / j.columns) (r % j.columns) (row_below j.rows j.columns r h) (omega arith);
+}
+  where
+    place : (r c : ℕ) → r ≡ (r / c) * c + r % c
+    place r c = omega (arith, div-add-mod r c)

@@ -3,7 +3,7 @@ use Rattle.std.proofs.Common.{◌≡◌, ◌⊎◌, inl, inr, ⊎_elim, ℕ, ℤ
 use Rattle.std.proofs.lemmas.Bool.{cases_lt}
 use Rattle.std.proofs.lemmas.Grind.{common_steps}
 use Rattle.std.proofs.lemmas.Int.{unsigned_abs-mul}
-use Rattle.std.proofs.lemmas.List.{length-append, get_or_append_left, get_or-append_right, get_or-replicate, get_or-set_other}
+use Rattle.std.proofs.lemmas.List.{drop_at, length-append, get_or_append_left, get_or-append_right, get_or-replicate, get_or-set_other}
 use Rattle.std.proofs.lemmas.Nat.{mul-add-lt}
 use Rattle.std.proofs.Math.Nat.{div-add-mod, mul-le-mul_right}
 use Rattle.apl_arrays.proofs.Nth.{row_below, rest_below}
@@ -140,3 +140,11 @@ row_within r n w m h e = omega (arith, e, mul-le-mul_right w (above r n h))
   where
     above : (r n : ℕ) → r < n → r + 1 ≤ n
     above r n h = omega arith
+
+-- where a number is repeated behind a list, there is that number
+pub room_within : (old grown shown : List ℤ) (x : ℤ) (n before : ℕ) → grown ≡ old ++ replicate n x → before ≡ length old → shown ≡ grown → before ≤ length shown
+room_within old grown shown x n before g b e = let long : length shown ≡ length old + length (replicate n x) = ap length e ∙ ap length g ∙ length-append old (replicate n x) in omega arith
+
+pub room_number : (old grown shown back : List ℤ) (x : ℤ) (n before k : ℕ) → grown ≡ old ++ replicate n x → before ≡ length old → shown ≡ grown → back ≡ drop before shown → k < n → get_or back k (pos 0) ≡ x
+room_number old grown shown back x n before k g b e d h =
+    ap (λ (zs : List ℤ). get_or zs k (pos 0)) (d ∙ ap (λ (zs : List ℤ). drop before zs) (e ∙ g) ∙ drop_at old (replicate n x) before (sym b)) ∙ get_or-replicate n k x (pos 0) h

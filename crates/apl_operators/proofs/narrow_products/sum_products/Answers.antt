@@ -1,8 +1,49 @@
 use Rattle.std.proofs.Common.{rules, ◌≡◌, ◌*ℤ◌, ◌+ℤ◌, ◌<◌, length, pos, get_or, w64, to_z}
 use Rattle.std.proofs.lemmas.Int.{to_z-of_z}
 use mir.Val.{SFits}
-use Rattle.apl_operators.proofs.NarrowProducts.{dot_next, dot_next_fits}
+use Rattle.apl_operators.proofs.NarrowProducts.{dot_next, dot_next_fits, narrow_read}
 use Rattle.apl_operators.proofs.narrow_products.sum_products.Goals as goal
+
+-- each number by a term, since a search for its bound goes through all that is known of the others
+pub narrow_times-first-requires-clause-x : goal.narrow_times-first-requires-clause-x
+narrow_times-first-requires-clause-x c =
+    let within : c.loop-k.k < length c.args.xs.now = search rules in
+    narrow_read (get_or c.args.xs.now c.loop-k.k (pos 0)) (c.requires.first.left c.loop-k.k within)
+
+pub narrow_times-first-requires-clause-y : goal.narrow_times-first-requires-clause-y
+narrow_times-first-requires-clause-y c =
+    let within : c.loop-k.k < length c.args.xs.now = search rules in
+    narrow_read (get_or c.args.group.now.first.now c.loop-k.k (pos 0)) (c.requires.first.right c.loop-k.k within)
+
+pub narrow_times-second-requires-clause-x : goal.narrow_times-second-requires-clause-x
+narrow_times-second-requires-clause-x c =
+    let within : c.loop-k.k < length c.args.xs.now = search rules in
+    narrow_read (get_or c.args.xs.now c.loop-k.k (pos 0)) (c.requires.second.left c.loop-k.k within)
+
+pub narrow_times-second-requires-clause-y : goal.narrow_times-second-requires-clause-y
+narrow_times-second-requires-clause-y c =
+    let within : c.loop-k.k < length c.args.xs.now = search rules in
+    narrow_read (get_or c.args.group.now.second.now c.loop-k.k (pos 0)) (c.requires.second.right c.loop-k.k within)
+
+pub narrow_times-third-requires-clause-x : goal.narrow_times-third-requires-clause-x
+narrow_times-third-requires-clause-x c =
+    let within : c.loop-k.k < length c.args.xs.now = search rules in
+    narrow_read (get_or c.args.xs.now c.loop-k.k (pos 0)) (c.requires.third.left c.loop-k.k within)
+
+pub narrow_times-third-requires-clause-y : goal.narrow_times-third-requires-clause-y
+narrow_times-third-requires-clause-y c =
+    let within : c.loop-k.k < length c.args.xs.now = search rules in
+    narrow_read (get_or c.args.group.now.third.now c.loop-k.k (pos 0)) (c.requires.third.right c.loop-k.k within)
+
+pub narrow_times-fourth-requires-clause-x : goal.narrow_times-fourth-requires-clause-x
+narrow_times-fourth-requires-clause-x c =
+    let within : c.loop-k.k < length c.args.xs.now = search rules in
+    narrow_read (get_or c.args.xs.now c.loop-k.k (pos 0)) (c.requires.fourth.left c.loop-k.k within)
+
+pub narrow_times-fourth-requires-clause-y : goal.narrow_times-fourth-requires-clause-y
+narrow_times-fourth-requires-clause-y c =
+    let within : c.loop-k.k < length c.args.xs.now = search rules in
+    narrow_read (get_or c.args.group.now.fourth.now c.loop-k.k (pos 0)) (c.requires.fourth.right c.loop-k.k within)
 
 pub overflow_add-first : goal.overflow_add-first
 overflow_add-first c =

@@ -18,3 +18,10 @@ loop-j-preserved c =
       so_far = row_more c.args.x c.more.result c.args.row.now c.args.sums.now c.loop-j.sums c.loop-j.j within (c.loop-j.invariant.others c.loop-j.j (omega arith)) made (simp to_z-of_z at c.loop-j.invariant.so_far);
       others = row_rest c.more.result c.args.sums.now c.loop-j.sums c.loop-j.j c.loop-j.invariant.others;
     })
+
+-- answered, since more is tried for a goal with no answer
+pub loop-j-init : goal.loop-j-init
+loop-j-init c = search rules
+
+pub returns : goal.returns
+returns c = search rules
