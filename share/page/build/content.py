@@ -25,7 +25,7 @@ OF_THE_PROGRAM = ("The program", "Commands of the terminal", "What there isn't")
 IN_THE_PAGE = {
     "The line took more steps than it is given, and was cut off: 1,000,000, or as many as the program's word `--steps` says. A step is one phrase done "
     "or one line ended. The caret is under the first column.": "The line was ended by the button Interrupt. The caret is under the first column.",
-    "| steps of a typed line | 1,000,000, or what `--steps` says; at the terminal and in the page no bound | INTERRUPT |":
+    "| steps of a typed line | 1,000,000, or what `--steps` says; at the terminal, in a notebook and in the page no bound | INTERRUPT |":
         "| steps of a typed line | no bound | |",
     "| bytes of a line of input; lines of input | 2,000; 1,000,000 | the program ends |": "| bytes of a line | 2,000 | the line is not done |",
 }
