@@ -7,7 +7,7 @@ from contextlib import suppress
 from hashlib import sha256
 from typing import Callable, Dict, List, Optional, Pattern, Tuple
 
-from apl.errors import AplError, NotSaved, Refused
+from apl.errors import AplError, NotSaved, Refused, why
 from apl.files import digest, save_file
 from apl.session import PathLike, Session
 
@@ -147,7 +147,7 @@ class Library(Commands):
         except Refused as refused:
             if refused.reason != "load":
                 raise
-            raise NotDone(f"{name} is no workspace: it breaks rule {refused.number} of docs/WORKSPACE.md") from None
+            raise NotDone(f"{name} {why(refused)}") from None
 
     def described(self) -> str:
         """Returns the size of the workspace's file and when it was saved. Raises OSError."""
