@@ -53,6 +53,7 @@ class Screen:
                 with plain():
                     answer = input(f"{text} [{'Y/n' if default else 'y/N'}] ").strip().lower()
             except (EOFError, KeyboardInterrupt, OSError):
+                self.write("\n")
                 raise Gone from None
             finally:
                 signal.signal(signal.SIGINT, old)
@@ -101,7 +102,7 @@ class Terminal:
             return 1
         except Gone:
             self.work.is_closing = True
-            self.screen.tell("\nnothing is changed: the lines are kept, and offered the next time")
+            self.screen.tell("nothing is changed: the lines are kept, and offered the next time")
         except Died as died:
             self.screen.tell(f"apl-terminal: {died}. What was typed is kept, and offered when the workspace is opened again.")
             self.work.is_closing = True

@@ -183,8 +183,10 @@ class Work:
     def read(file: str) -> Optional[bytes]:
         """Returns the bytes of a workspace's file, None where there is none yet."""
         try:
+            if os.path.isdir(file):
+                raise NotDone(said.IS_FOLDER.format(places.shown(file)))
             if os.path.exists(file) and not os.path.isfile(file):
-                raise NotDone(f"{places.shown(file)} is {'a folder' if os.path.isdir(file) else 'no regular file'}, no workspace")
+                raise NotDone(f"{places.shown(file)} is no regular file, no workspace")
             with open(file, "rb") as opened:
                 return opened.read()
         except FileNotFoundError:

@@ -101,8 +101,9 @@ class Files(OfSession):
         self.assertEqual(self.not_done(")LOAD NONE"), "there is no NONE: )LIB lists the workspaces of this folder")
         self.assertEqual(self.not_done(")LOAD NOTES"), "NOTES is no workspace: it is JSON of another form (rule 2 of docs/WORKSPACE.md)")
         self.assertEqual(self.not_done(")LOAD HALF"), "HALF is no workspace: it is no JSON (rule 1 of docs/WORKSPACE.md)")
-        self.assertEqual(self.not_done(")LOAD FOLDER"), "FOLDER: Is a directory")
-        self.assertEqual(self.not_done(")WSID FOLDER"), "FOLDER: Is a directory")
+        self.assertEqual(self.not_done(")LOAD FOLDER"), "FOLDER is a folder, no workspace")
+        self.assertEqual(self.not_done(")WSID FOLDER"), "FOLDER is a folder, no workspace")
+        self.assertEqual(self.not_done(")SAVE FOLDER"), "not saved: FOLDER is a folder")
 
     def test_where_nothing_can_be_saved(self) -> None:
         self.library.folder = str(self.folder / "NONE")
