@@ -6,7 +6,7 @@ import unicodedata
 from typing import List, Protocol
 
 from apl import Fault, Line
-from apl.answers import CHARACTER, COMMAND, DEFN
+from apl.answers import COMMAND, DEFN
 from apl.arrays import LANGUAGE
 from apl.commands import CLEAR
 from apl_terminal.journal import Past
@@ -64,8 +64,6 @@ def hint(line: str, fault: Fault, next_line: int) -> str:
         return ")HELP lists the commands"
     if fault.number == DEFN:
         return why_refused(line.strip(" "))
-    if fault.number != CHARACTER:
-        return ""
     wrong = ", ".join(described(it) for it in dict.fromkeys(line) if it not in LANGUAGE)
     what_next = f"line {next_line} is still to be typed" if next_line else ")HELP KEYS shows those that are"
     return f"no character of the language: {wrong}; {what_next}"

@@ -13,7 +13,7 @@ from typing import List, Optional, Sequence
 
 from apl import Died, Fault, Line, NotSaved, Refused, Result, Session
 from apl import commands as said
-from apl.answers import DEFN
+from apl.answers import ALONE, DEFN
 from apl.commands import NotDone, reason
 from apl.errors import why
 from apl.files import save_file
@@ -79,17 +79,11 @@ class Work:
             self.begin_again(died)
             return
         self.journal.ended(result.steps if result.told == "interrupted" else None)
-        if result.fault and is_shown and not (was_open and result.fault.number == DEFN):
-            self.tell_hint(line, result.fault)
+        if is_shown and result.fault and result.fault.number in ALONE and not (was_open and result.fault.number == DEFN):
+            self.front.tell(hint(line, result.fault, self.next_line))
         if time.monotonic() - began > LONG and not self.next_line:
             self.keep_state()
         self.tell_fault()
-
-    def tell_hint(self, line: str, fault: Fault) -> None:
-        """Tells what belongs below the report of a line's fault, if something does."""
-        told = hint(line, fault, self.next_line)
-        if told:
-            self.front.tell(told)
 
     def run(self, line: str, steps: Optional[int] = None, is_shown: bool = True) -> Result:
         """Runs a line, and keeps what it tells of a definition."""
