@@ -154,7 +154,7 @@ def files() -> str:
             other.run(")LOAD ledger\nA←6\n)SAVE")
         finally:
             other.close()
-        same(plain(it.run(")SAVE")), ["not saved: another has changed it"])
+        same(plain(it.run(")SAVE")), ["not saved: another program has changed the file"])
         same(it.run(")LOAD ledger\nA").text.split("\n")[1], "6")
     return "saved, listed, loaded; not over what another has saved"
 
@@ -197,7 +197,7 @@ def deaths() -> str:
                 os.kill(process, signal.SIGKILL)
 
         ran = it.run(SPIN, kill)
-        same((ran.status, ran.name, plain(ran)[0]), ("error", "PROGRAM ENDED", "The program has ended with status -9."))
+        same((ran.status, ran.name, plain(ran)[0]), ("error", "PROGRAM ENDED", "The program was killed by SIGKILL."))
         told = f"The session begins with the workspace ledger: {SAVED}. What was done since is lost: run the cells again."
         assert re.fullmatch(told, plain(ran)[1]), ran.error
         same(it.run("A\n)WSID").text, "6\nledger\n")

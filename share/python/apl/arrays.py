@@ -25,7 +25,7 @@ class Array:
     items: Items
 
     def __post_init__(self) -> None:
-        """Raises ValueError where the machine has no such array."""
+        """Has True and False be 1 and 0. Raises ValueError where the machine has no such array, and TypeError where an element is no number."""
         if len(self.shape) > MOST_AXES or prod(max(n, 1) for n in self.shape) > MOST_ITEMS:
             raise ValueError(f"an array has at most {MOST_AXES} axes and {MOST_ITEMS:,} elements")
         if any(n < 0 for n in self.shape) or prod(self.shape) != len(self.items):
@@ -33,7 +33,13 @@ class Array:
         if isinstance(self.items, str):
             if wrong := set(self.items) - LANGUAGE:
                 raise ValueError(f"no characters of the language: {''.join(sorted(wrong))!r}")
-        elif self.items and not -(2**63) <= min(self.items) <= max(self.items) < 2**63:
+            return
+        if {*map(type, self.items)} - {int}:
+            # another kind is typed by its name, as True, which may be that of a variable
+            if other := next((type(it) for it in self.items if not isinstance(it, int)), None):
+                raise TypeError(f"an element is a whole number, not {other.__name__}")
+            object.__setattr__(self, "items", tuple(map(int, self.items)))
+        if self.items and not -(2**63) <= min(self.items) <= max(self.items) < 2**63:
             raise ValueError("a number has 64 bits")
 
     @classmethod

@@ -7,7 +7,7 @@ from contextlib import suppress
 from hashlib import sha256
 from typing import Callable, Dict, List, Optional, Pattern, Tuple
 
-from apl.errors import AplError, NotSaved, Refused
+from apl.errors import AplError, NotSaved, Refused, why
 from apl.files import digest, save_file
 from apl.session import PathLike, Session
 
@@ -29,6 +29,7 @@ BEGINS = re.compile(rb'\s*\{\s*"(?:(?:contexts|functions|variables)"\s*:\s*\[|(?
 # What is told.
 CLEAR, NONE = "CLEAR WS", "no workspaces here"
 NO_NAME = "this workspace has no name yet: )SAVE NAME gives it one"
+IS_FOLDER = "{} is a folder, no workspace"
 IS_THERE = "not saved: {0} is there already. )WSID {0} and then )SAVE write over it"
 NOT_THERE = "there is no {}: )LIB lists the workspaces of this folder"
 # The digest of no file.
@@ -120,6 +121,8 @@ class Library(Commands):
         to, path = name or self.name, self.path(name or self.name)
         if not to:
             raise NotDone(NO_NAME)
+        if os.path.isdir(path):
+            raise NotDone(f"not saved: {to} is a folder")
         if to != self.name and os.path.lexists(path):
             raise NotDone(IS_THERE.format(to))
         try:
@@ -142,12 +145,14 @@ class Library(Commands):
             return [f"{name}: {self.described()}"]
         except FileNotFoundError:
             raise NotDone(NOT_THERE.format(name)) from None
+        except IsADirectoryError:
+            raise NotDone(IS_FOLDER.format(name)) from None
         except OSError as error:
             raise NotDone(f"{name}: {reason(error)}") from None
         except Refused as refused:
             if refused.reason != "load":
                 raise
-            raise NotDone(f"{name} is no workspace: it breaks rule {refused.number} of docs/WORKSPACE.md") from None
+            raise NotDone(f"{name} {why(refused)}") from None
 
     def described(self) -> str:
         """Returns the size of the workspace's file and when it was saved. Raises OSError."""
@@ -162,6 +167,8 @@ class Library(Commands):
             return [name]
         try:
             self.name, self.known = name, digest(self.path(name)) or NO_FILE
+        except IsADirectoryError:
+            raise NotDone(IS_FOLDER.format(name)) from None
         except OSError as error:
             raise NotDone(f"{name}: {reason(error)}") from None
         return [f"{name}, which is there: )SAVE writes over it" if self.known else f"{name}, not saved yet"]

@@ -16,6 +16,16 @@ REASONS = {
     "length": "the request has over 100,000,000 bytes",
     "load": "the workspace is refused",
 }
+# What the rules of docs/WORKSPACE.md are for, by their numbers.
+RULES = {
+    1: "it is no JSON",
+    2: "it is JSON of another form",
+    3: "an array in it doesn't fit its shape, or has a character that the language hasn't",
+    4: "a function or a variable in it is ill formed",
+    5: "a half-done statement or call in it is ill formed",
+    6: "the code of a line in it isn't that line's",
+    7: "an array in it, or the calls, pass a limit",
+}
 
 
 class AplError(Exception):
@@ -30,7 +40,7 @@ class Refused(AplError):
     """
 
     def __init__(self, reason: str, number: int = 0, lines: Tuple[Line, ...] = (), about: str = "") -> None:
-        about = about or (str(number) if number else "")
+        about = about or rule(number)
         super().__init__(REASONS.get(reason, reason) + (f": {about}" if about else ""))
         self.reason, self.number, self.lines = reason, number, lines
 
@@ -65,3 +75,13 @@ class Interrupted(KeyboardInterrupt):
     def __init__(self, result: Result) -> None:
         super().__init__("\n".join(line.text for line in result.lines[-3:]))
         self.result = result
+
+
+def rule(number: int) -> str:
+    """Returns which rule a workspace's file breaks, "" for none."""
+    return f"{RULES[number]} (rule {number} of docs/WORKSPACE.md)" if number in RULES else ""
+
+
+def why(refused: Refused) -> str:
+    """Returns what is told behind the name of a workspace's file that is refused."""
+    return f"is no workspace: {rule(refused.number)}" if refused.reason == "load" else f"can't be opened: {refused}"

@@ -29,7 +29,7 @@ def save_file(path: str, data: bytes, known: Optional[bytes]) -> None:
                 file.flush()
                 os.fsync(file.fileno())
             if known is not None and digest(path) not in (None, known):
-                raise NotSaved("another has changed it")
+                raise NotSaved("another program has changed the file")
             os.rename(fresh, path)
         except BaseException:
             os.unlink(fresh)
@@ -107,7 +107,7 @@ def lock(path: str) -> Tuple[int, bool]:
             fcntl.flock(descriptor, fcntl.LOCK_EX | fcntl.LOCK_NB)
         except BlockingIOError:
             os.close(descriptor)
-            raise NotSaved("another is to save in it") from None
+            raise NotSaved("another program is to save in the file") from None
         except OSError:
             # a file system without locks
             pass

@@ -111,7 +111,7 @@ class Pipe:
         with suppress(OSError, ValueError):
             if self.process.poll() is not None and self.process.stderr:
                 error = self.process.stderr.read()
-        self.close(f"the program has ended with status {self.process.poll()}: {error.decode(errors='replace').strip()}".rstrip(": "))
+        self.close(f"the program {ended(self.process.poll() or 0)}: {error.decode(errors='replace').strip()}".rstrip(": "))
         return Died(self.end, self.kept)
 
     def close(self, end: str = "the session is closed") -> None:
@@ -125,14 +125,26 @@ class Pipe:
                     pipe.close()
 
 
+def ended(status: int) -> str:
+    """Returns how a process ended, by its status or, below 0, by the signal that killed it."""
+    if status >= 0:
+        return f"has ended with status {status}"
+    with suppress(ValueError):
+        return f"was killed by {signal.Signals(-status).name}"
+    return f"was killed by signal {-status}"
+
+
 def request(key: str, asked: object) -> bytes:
     """Returns a request as it is sent."""
     return json.dumps({key: asked}).encode()
 
 
 def read(answer: bytes, about: str = "") -> Dict[str, Any]:
-    """Returns what an answer has. Raises Refused, about what was asked, where it is a refusal."""
-    found: Dict[str, Any] = json.loads(answer)
+    """Returns what an answer has. Raises Refused, about what was asked, where it is a refusal, and Died where it is none."""
+    try:
+        found: Dict[str, Any] = json.loads(answer)
+    except ValueError:
+        raise Died(f"the program isn't apl: it answers {answer[:60]!r}", None) from None
     if "refused" in found:
         raise Refused(found["refused"], found.get("number", 0), about=about)
     return found

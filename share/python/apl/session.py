@@ -69,6 +69,10 @@ class Session:
         thread's line runs, and where memory runs out, which abandons the line; Interrupted where a KeyboardInterrupt comes; Died where the
         program ends.
         """
+        if not isinstance(line, str):
+            raise TypeError(f"a line is a str, not {type(line).__name__}")
+        if steps is not None and steps < 0:
+            raise ValueError(f"a line can't make {steps} steps")
         with self._alone() as keyboard:
             result = self._run(line, self._seconds, keyboard, steps, show)
             if keyboard.struck:

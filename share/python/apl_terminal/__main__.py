@@ -10,6 +10,7 @@ from pathlib import Path
 from typing import List
 
 from apl import AplError
+from apl.commands import reason
 from apl_terminal.loop import Terminal
 
 
@@ -25,10 +26,14 @@ def main(words: List[str]) -> int:
             return 1
         terminal = Terminal(program, top)
     except (AplError, OSError) as error:
-        print(f"apl-terminal: {program}: {error}", file=sys.stderr)
+        print(f"apl-terminal: {program} can't be run: {reason(error)}", file=sys.stderr)
         return 1
     return terminal.run(words[4] if len(words) == 5 else None)
 
 
 if __name__ == "__main__":
-    sys.exit(main(sys.argv[1:]))
+    try:
+        sys.exit(main(sys.argv[1:]))
+    except KeyboardInterrupt:
+        # before the session has begun, as while bin/apl makes the program
+        sys.exit(130)

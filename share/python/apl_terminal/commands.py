@@ -9,10 +9,11 @@ from typing import List, Optional
 from apl import Refused
 from apl.commands import NOT_THERE, SEEN, NotDone, listed, reason
 from apl.commands import Commands as Shared
+from apl.pipe import ended
 from apl_terminal import library, places, reference
 from apl_terminal.edit import edited, editor, fault_of
 from apl_terminal.keys import Key, table
-from apl_terminal.telling import Gone
+from apl_terminal.telling import Gone, wrapped
 from apl_terminal.work import IS_OPEN, Work
 
 HELP = """\
@@ -26,6 +27,9 @@ HELP = """\
 )OFF             ends the session, as Ctrl-D does; what isn't saved is kept, and offered the next time
 )FNS  )VARS  )SI  )ERASE NAME..  )CLEAR     the machine's own commands
 Ctrl-C interrupts the line that runs, and clears the one that is typed. Backquote and a key type a character."""
+
+# Where what a command does stands in its line.
+COLUMN = 17
 
 
 class Commands(Shared):
@@ -61,7 +65,9 @@ class Commands(Shared):
     def load(self, name: str) -> List[str]:
         if not name:
             raise NotDone(")LOAD NAME: of which file? )LIB lists those of this folder")
-        if not os.path.lexists(places.real(name)):
+        file = places.real(name)
+        # one that was never saved may have lines that wait in its journal
+        if not os.path.lexists(file) and not os.path.lexists(places.journal(file)):
             raise NotDone(NOT_THERE.format(name))
         self.work.open(name)
         return [self.work.told()]
@@ -89,7 +95,7 @@ class Commands(Shared):
 
     def help(self, word: str) -> List[str]:
         if not word:
-            return [HELP]
+            return [wrapped(it, self.front.width(), COLUMN if it.startswith(")") else 0) for it in HELP.splitlines()]
         if word.upper() == "KEYS":
             return table(self.keys)
         return reference.help_text(self.manual, word, min(100, self.front.width()))
@@ -98,7 +104,11 @@ class Commands(Shared):
         """Opens a function's text in the editor until it is taken or given up."""
         if self.work.next_line:
             raise NotDone(IS_OPEN)
-        command, draft = editor(), Path(places.draft())
+        draft = Path(places.draft())
+        try:
+            command = editor()
+        except ValueError as error:
+            raise NotDone(f"what VISUAL or EDITOR names can't be used: it is no command ({error})") from None
         if not command:
             raise NotDone("no editor is installed: put its name into EDITOR")
         lines = self.text_of(name, draft)
@@ -106,8 +116,10 @@ class Commands(Shared):
         while True:
             try:
                 text = edited(command, name, text)
-            except (OSError, subprocess.CalledProcessError) as error:
-                raise NotDone(f"{command[0]} failed: {error}") from None
+            except OSError as error:
+                raise NotDone(f"the editor {command[0]} can't be used: {reason(error)}; EDITOR names another") from None
+            except subprocess.CalledProcessError as error:
+                raise NotDone(f"the editor {command[0]} {ended(error.returncode)}, so nothing is defined") from None
             if text == lines and name and self.is_function(name):
                 raise NotDone(f"{name} stays as it is")
             if not text:
@@ -134,6 +146,8 @@ class Commands(Shared):
         try:
             return self.work.session.listing(name)
         except Refused:
+            if any(it.name == name for it in self.work.session.names()):
+                raise NotDone(f"{name} stands for something that is no function") from None
             return [name]
 
     def is_function(self, name: str) -> bool:

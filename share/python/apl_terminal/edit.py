@@ -18,8 +18,9 @@ LABEL = re.compile(r"^\s*[A-Za-z∆⍙_][0-9A-Za-z∆⍙_]*\s*:")
 
 
 def editor() -> Optional[List[str]]:
-    """Returns the command of the editor: VISUAL or EDITOR of the environment, or one that is installed."""
-    chosen = os.environ.get("VISUAL") or os.environ.get("EDITOR")
+    """Returns the command of the editor: VISUAL or EDITOR of the environment, or one that is installed. Raises ValueError where they name no
+    command."""
+    chosen = (os.environ.get("VISUAL") or os.environ.get("EDITOR") or "").strip()
     if chosen:
         return shlex.split(chosen)
     return next(([it] for it in EDITORS if shutil.which(it)), None)

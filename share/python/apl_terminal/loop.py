@@ -13,7 +13,7 @@ from apl.commands import NotDone
 from apl_terminal import keys, places
 from apl_terminal.commands import Commands
 from apl_terminal.prompt import Typing
-from apl_terminal.telling import Gone, prompted
+from apl_terminal.telling import Gone, laid, prompted, wrapped
 from apl_terminal.tty import plain, quiet
 from apl_terminal.work import Work
 
@@ -36,25 +36,30 @@ class Screen:
     def show(self, lines: List[Line]) -> None:
         """Shows what a line writes."""
         if lines:
-            self.write("".join(f"{it.text}\n" for it in lines))
+            self.write("".join(f"{it}\n" for it in laid(lines, self.width())))
 
     def tell(self, text: str) -> None:
         """Tells something of the terminal's own."""
-        self.write(f"{text}\n")
+        self.write(f"{wrapped(text, self.width())}\n")
 
     def ask(self, text: str, default: bool) -> bool:
-        """Asks a question for yes or no."""
+        """Asks a question for yes or no: the last line again, where the answer is another."""
+        *before, text = text.split("\n")
+        if before:
+            self.tell("\n".join(before))
         while True:
             old = signal.signal(signal.SIGINT, signal.default_int_handler)
             try:
                 with plain():
                     answer = input(f"{text} [{'Y/n' if default else 'y/N'}] ").strip().lower()
             except (EOFError, KeyboardInterrupt, OSError):
+                self.write("\n")
                 raise Gone from None
             finally:
                 signal.signal(signal.SIGINT, old)
             if answer in ("", "y", "yes", "n", "no"):
                 return default if not answer else answer.startswith("y")
+            self.tell("y or n is the answer")
 
     def width(self) -> int:
         """Tells how many characters a line has room for."""
@@ -97,7 +102,7 @@ class Terminal:
             return 1
         except Gone:
             self.work.is_closing = True
-            self.screen.tell("\nnothing is changed")
+            self.screen.tell("nothing is changed: the lines are kept, and offered the next time")
         except Died as died:
             self.screen.tell(f"apl-terminal: {died}. What was typed is kept, and offered when the workspace is opened again.")
             self.work.is_closing = True
@@ -122,13 +127,16 @@ class Terminal:
             self.commands.is_over = True
             return
         self.work.struck = 0.0
+        is_refused = False
         if not self.commands.is_done(line):
             self.work.type(line)
-        if self.work.struck:
+            # what closes a definition would define it without the line
+            is_refused = bool(self.work.next_line and self.work.fault)
+        if self.work.struck or is_refused:
             self.drop()
 
     def drop(self) -> None:
-        """Tells which lines of a paste don't follow an interrupted one."""
+        """Tells which lines of a paste don't follow one that was interrupted, or refused in a definition."""
         lines = self.typing.drop()
         if lines:
             self.screen.tell("\n".join([f"{len(lines)} pasted lines are not typed:", *(f"      {it}" for it in lines)]))

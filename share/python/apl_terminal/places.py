@@ -4,7 +4,10 @@ from __future__ import annotations
 import functools
 import os
 import tempfile
+from contextlib import suppress
 from typing import Iterator
+
+from apl.commands import NotDone
 
 UNNAMED = "unnamed-{}.apl-journal"
 
@@ -37,8 +40,12 @@ def draft() -> str:
 
 
 def real(name: str) -> str:
-    """Returns the file that a workspace's name stands for: a path, with ~ for one's own folder, through links."""
-    return os.path.realpath(os.path.expanduser(name))
+    """Returns the file that a workspace's name stands for: a path, with ~ for one's own folder, through links. Raises NotDone where it begins
+    in the folder that the terminal was started in, and that is gone."""
+    try:
+        return os.path.realpath(os.path.expanduser(name))
+    except FileNotFoundError:
+        raise NotDone("the folder that the terminal was started in is gone: name a file by its whole path, as ~/ledger") from None
 
 
 def journal(file: str) -> str:
@@ -63,7 +70,9 @@ def unnamed() -> Iterator[str]:
 
 def shown(path: str) -> str:
     """Returns a path as it is told: from the folder that the terminal runs in or from one's own where it lies there."""
-    here, home = os.getcwd(), os.path.expanduser("~")
-    if path.startswith(here.rstrip("/") + "/"):
+    here, home = "", os.path.expanduser("~")
+    with suppress(FileNotFoundError):
+        here = os.getcwd()
+    if here and path.startswith(here.rstrip("/") + "/"):
         return path[len(here.rstrip("/")) + 1:]
     return "~" + path[len(home):] if home != "/" and path.startswith(home + "/") else path

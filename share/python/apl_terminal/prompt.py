@@ -110,8 +110,8 @@ class Typing:
             buffer.start_completion()
 
     def paste(self, event: KeyPressEvent) -> None:
-        """Takes what is pasted: its first line is typed now, and the others follow."""
-        first, *others = event.data.replace("\r\n", "\n").replace("\r", "\n").split("\n")
+        """Takes what is pasted, with blanks for tabs, which the language hasn't: its first line is typed now, and the others follow."""
+        first, *others = event.data.replace("\r\n", "\n").replace("\r", "\n").expandtabs(4).split("\n")
         buffer = event.current_buffer
         if others:
             others[-1] += buffer.document.text_after_cursor

@@ -13,12 +13,13 @@ from typing import List, Optional, Sequence
 
 from apl import Died, Fault, Line, NotSaved, Refused, Result, Session
 from apl import commands as said
-from apl.answers import DEFN
+from apl.answers import ALONE, DEFN
 from apl.commands import NotDone, reason
+from apl.errors import why
 from apl.files import save_file
 from apl_terminal import library, places
 from apl_terminal.journal import Busy, Foreign, Journal, Past, Typed, set_aside
-from apl_terminal.telling import SHOWN, Front, Gone, prompted, question
+from apl_terminal.telling import SHOWN, Front, Gone, hint, prompted, question
 
 IS_OPEN = "a definition is open: ∇ closes it"
 CLEAR = b'{"contexts":[],"functions":[],"io":1,"variables":[],"version":2}'
@@ -67,7 +68,7 @@ class Work:
         """Types a line, which the journal has on the disk before it runs. Raises Died where the program can't be begun again."""
         self.journal.typed(line)
         self.tell_fault()
-        began = time.monotonic()
+        began, was_open = time.monotonic(), bool(self.next_line)
         try:
             result = self.run(line, None, is_shown)
         except Refused as refused:
@@ -78,6 +79,8 @@ class Work:
             self.begin_again(died)
             return
         self.journal.ended(result.steps if result.told == "interrupted" else None)
+        if is_shown and result.fault and result.fault.number in ALONE and not (was_open and result.fault.number == DEFN):
+            self.front.tell(hint(line, result.fault, self.next_line))
         if time.monotonic() - began > LONG and not self.next_line:
             self.keep_state()
         self.tell_fault()
@@ -161,7 +164,7 @@ class Work:
         except Refused as refused:
             if journal is not getattr(self, "journal", None):
                 self.give(journal)
-            raise NotDone(f"{places.shown(file or '')} is no workspace: {refused}") from None
+            raise NotDone(f"{places.shown(file or '')} {why(refused)}") from None
         if hasattr(self, "journal") and journal is not self.journal:
             self.leave(is_kept)
         self.file, self.journal = file, journal
@@ -174,8 +177,10 @@ class Work:
     def read(file: str) -> Optional[bytes]:
         """Returns the bytes of a workspace's file, None where there is none yet."""
         try:
+            if os.path.isdir(file):
+                raise NotDone(said.IS_FOLDER.format(places.shown(file)))
             if os.path.exists(file) and not os.path.isfile(file):
-                raise NotDone(f"{places.shown(file)} is no file")
+                raise NotDone(f"{places.shown(file)} is no regular file, no workspace")
             with open(file, "rb") as opened:
                 return opened.read()
         except FileNotFoundError:
@@ -306,7 +311,7 @@ class Work:
         except (NotSaved, OSError, Refused) as error:
             if journal is not self.journal:
                 self.give(journal)
-            raise NotDone(f"not saved: {reason(error)}; what is typed stays in this session") from None
+            raise NotDone(f"not saved: {reason(error)}; )SAVE NAME saves in another file, and what is typed stays in this session") from None
         if journal is not self.journal:
             self.journal.remove()
         self.file, self.journal, self.digest = file, journal, sha256(data).digest()
@@ -317,6 +322,8 @@ class Work:
 
     def take_new(self, file: str) -> Journal:
         """Takes the journal of a file that isn't there yet."""
+        if os.path.isdir(file):
+            raise NotDone(f"not saved: {places.shown(file)} is a folder")
         if os.path.lexists(file):
             raise NotDone(said.IS_THERE.format(places.shown(file)))
         if not os.path.isdir(os.path.dirname(file)):
@@ -356,7 +363,7 @@ class Work:
             made, taken, lacking = library.merged(self.session.workspace(), theirs, names)
             self.session.open(made)
         except (ValueError, LookupError, TypeError, Refused) as error:
-            raise NotDone(f"not copied: {error if isinstance(error, Refused) else name + ' is no workspace'}") from None
+            raise NotDone(f"not copied: {name} {why(error) if isinstance(error, Refused) else 'is no workspace'}") from None
         self.keep_state()
         return "\n".join([f"copied: {' '.join(taken) or 'nothing'}", *([f"not there: {' '.join(lacking)}"] if lacking else [])])
 
@@ -382,7 +389,7 @@ class Work:
         self.journal.release()
         count = len(self.journal.past.lines)
         what = f"{count} line{'s' * (count != 1)}" if count else "what was done"
-        self.front.tell(f"{what} since {self.name + ' was saved' if self.file else 'the beginning'}: not saved, but kept, and offered when "
+        self.front.tell(f"{what} since {self.name + ' was saved' if self.digest else 'the beginning'}: not saved, but kept, and offered when "
                         f"{self.name if self.file else 'the terminal'} is opened again")
 
     def close(self) -> None:

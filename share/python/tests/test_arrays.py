@@ -38,6 +38,14 @@ class Values(OfSession):
                 self.session.set("V", value)
                 self.assertEqual(self.session.value("V"), value)
 
+    def test_elements_of_another_kind(self) -> None:
+        self.session.run("True←5")
+        self.session.set("V", Array((2,), (True, 7)))
+        self.assertEqual(self.session.value("V"), [1, 7])
+        for items in ((1.5,), ("A",), (None,)):
+            with self.assertRaisesRegex(TypeError, "an element is a whole number, not"):
+                Array((1,), items)  # type: ignore[arg-type]
+
     def test_each_character(self) -> None:
         text = "".join(sorted(LANGUAGE))
         self.session.set("V", text)

@@ -121,7 +121,7 @@ class Keys(OfSession):
     def test_a_step_that_takes_too_long(self) -> None:
         signal.setitimer(signal.ITIMER_REAL, 0.1, 1.1)
         try:
-            with self.assertRaisesRegex(Died, "-9"):
+            with self.assertRaisesRegex(Died, "was killed by SIGKILL"):
                 self.session.run("A←|\\1000000⍴7 5 3")
         finally:
             signal.setitimer(signal.ITIMER_REAL, 0)

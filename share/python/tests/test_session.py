@@ -151,9 +151,9 @@ class Ends(OfSession):
         os.kill(self.session._pipe.process.pid, signal.SIGKILL)
         with self.assertRaises(Died) as caught:
             self.session.run("A")
-        self.assertIn("-9", str(caught.exception))
+        self.assertEqual(str(caught.exception), "the program was killed by SIGKILL")
         self.assertEqual(caught.exception.workspace, kept)
-        with self.assertRaisesRegex(Died, "-9"):
+        with self.assertRaisesRegex(Died, "SIGKILL"):
             self.session.names()
         self.assertEqual(self.begun(caught.exception.workspace).value("A"), 1)
 
@@ -176,6 +176,20 @@ class Ends(OfSession):
             Session(sys.executable)
         with self.assertRaises(FileNotFoundError):
             Session("no such program")
+
+    def test_a_program_that_answers_something_else(self) -> None:
+        path = self.folder / "other"
+        path.write_text("#!/bin/sh\nwhile read it; do echo hello; done\n")
+        path.chmod(0o755)
+        with self.assertRaisesRegex(Died, r"the program isn't apl: it answers b'hello\\n'"):
+            Session(path)
+
+    def test_what_is_no_line(self) -> None:
+        with self.assertRaisesRegex(TypeError, "a line is a str, not int"):
+            self.session.run(5)  # type: ignore[arg-type]
+        with self.assertRaisesRegex(ValueError, "can't make -1 steps"):
+            self.session.run("5", -1)
+        self.assertEqual(self.session.run("5").text, "5")
 
     def test_the_program_ends_with_python(self) -> None:
         script = f"import apl, os; s = apl.Session({PROGRAM!r}); print(s._pipe.process.pid, flush=True); os._exit(0)"

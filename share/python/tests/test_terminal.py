@@ -2,15 +2,19 @@
 import json
 import os
 import re
+import shutil
 import stat
 from pathlib import Path
 from typing import List, Tuple
+from unittest import mock
 
+from apl import Line
 from apl.commands import SEEN, NotDone, workspaces
 from apl_terminal import keys, library, places, reference
-from apl_terminal.commands import Commands
+from apl_terminal.commands import HELP, Commands
 from apl_terminal.complete import completions
 from apl_terminal.edit import fault_of
+from apl_terminal.telling import laid, wrapped
 from apl_terminal.work import Work
 from tests.front import OfTerminal
 from tests.support import PROGRAM, TOP
@@ -55,7 +59,7 @@ class OwnCommands(OfCommands):
         self.assertIn("there is no none", self.told(")LOAD none"))
         self.assertIn("of which file?", self.told(")LOAD"))
         Path("wrong").write_text("{}")
-        self.assertIn("wrong is no workspace: the workspace is refused: 2", self.told(")LOAD wrong"))
+        self.assertIn("wrong is no workspace: it is JSON of another form (rule 2 of docs/WORKSPACE.md)", self.told(")LOAD wrong"))
         self.assertEqual((self.at.session.value("A"), self.told(")WSID").split()[0]), (2, "ledger"))
         self.told(")SAVE", ")SAVE second", "A←3", ")LOAD ledger")
         self.assertEqual((self.at.session.value("A"), self.said(self.at).asked), (2, []))
@@ -85,7 +89,7 @@ class OwnCommands(OfCommands):
         for line in (")COPY", ")COPY none", ")COPY . A"):
             self.told(line)
         Path("wrong").write_text(json.dumps({"functions": [], "variables": [{"name": "Q", "value": 5}]}))
-        self.assertEqual(self.told(")COPY wrong"), "not copied: the workspace is refused: 2")
+        self.assertEqual(self.told(")COPY wrong"), "not copied: wrong is no workspace: it is JSON of another form (rule 2 of docs/WORKSPACE.md)")
         Path("wrong").write_text("text")
         self.assertEqual(self.told(")COPY wrong"), "not copied: wrong is no workspace")
         self.assertEqual(self.at.session.workspace(), state)
@@ -108,6 +112,43 @@ class OwnCommands(OfCommands):
         rows = [it.split() for it in self.told(")LIB").splitlines()]
         self.assertEqual([it[:3] for it in rows], [["aa", "108", "bytes"], ["b", "64", "bytes"]])
         self.assertIn("No such file", self.told(")LIB none"))
+
+    def test_what_is_no_file(self) -> None:
+        Path("books").mkdir()
+        os.mkfifo("pipe")
+        self.assertEqual(self.told(")SAVE books"), "not saved: books is a folder")
+        for line in (")LOAD books", ")WSID books", ")COPY books A"):
+            self.assertEqual(self.told(line), "books is a folder, no workspace")
+        self.assertEqual(self.told(")LOAD pipe"), "pipe is no regular file, no workspace")
+
+    def test_a_folder_that_is_gone(self) -> None:
+        Path("gone").mkdir()
+        os.chdir("gone")
+        self.told("A←1", ")SAVE ledger", "A←2")
+        shutil.rmtree(self.folder / "gone")
+        self.assertEqual(self.told(")WSID"), f"{self.folder}/gone/ledger  {self.folder}/gone/ledger")
+        self.assertIn("not saved: No such file or directory; )SAVE NAME saves in another file", self.told(")SAVE"))
+        for line in (")LIB", ")SAVE other", ")LOAD other", ")COPY other", ")WSID other"):
+            self.assertIn("is gone: name a file by its whole path", self.told(line))
+        self.assertIn("saved", self.told(f")SAVE {self.folder}/ledger"))
+        self.at.close()
+        os.chdir(self.folder)
+        self.assertEqual(self.work("ledger").session.value("A"), 2)
+
+    def test_what_was_never_saved(self) -> None:
+        self.told(")WSID ledger", "A←1")
+        self.assertEqual(self.told(")CLEAR"), "1 line since the beginning: not saved, but kept, and offered when ledger is opened again")
+        self.assertIn("wait to be played again by )LOAD ledger", self.told(")SAVE ledger"))
+        self.assertIn("ledger: a new workspace", self.told(")LOAD ledger"))
+        self.assertIn("What was done in ledger is not saved, and ended with", self.said(self.at).asked[0])
+        self.assertEqual(self.at.session.value("A"), 1)
+
+    def test_the_help_of_commands(self) -> None:
+        for width in (30, 80, 200):
+            with mock.patch.object(self.said(self.at), "width", return_value=width):
+                shown = self.told(")HELP").splitlines()
+            self.assertLessEqual(max(map(len, shown)), max(width, 34))
+            self.assertEqual(" ".join(" ".join(shown).split()), " ".join(HELP.split()))
 
     def test_samples_are_workspaces(self) -> None:
         self.assertEqual(len(workspaces(TOP / "share/workspaces", SEEN)), 6)
@@ -140,6 +181,23 @@ class Documents(OfCommands):
 def dated(text: str) -> str:
     """Returns a text without dates and times."""
     return re.sub(r"\d{4}-\d\d-\d\d \d\d:\d\d(:\d\d)?", "DATE", text)
+
+
+class Telling(OfTerminal):
+    def test_prose_is_broken_between_words(self) -> None:
+        self.assertEqual(wrapped("not saved: it is full\n      A←1 2 3 4 5 6\none", 12), "not saved:\nit is full\n      A←1 2 3 4 5 6\none")
+        self.assertEqual(wrapped(")LIB   lists the workspaces", 20, 7), ")LIB   lists the\n       workspaces")
+
+    def test_a_caret_is_under_its_part_of_a_wide_line(self) -> None:
+        def report(text: str, place: int) -> List[Line]:
+            return [Line(it, "report") for it in ("SYNTAX ERROR", text, " " * place + "^")]
+
+        self.assertEqual(laid(report("ABCDEFGHIJKLMN", 1), 20), ["SYNTAX ERROR", "ABCDEFGHIJKLMN", " ^"])
+        self.assertEqual(laid(report("ABCDEFGHIJKLMN", 1), 6), ["SYNTAX ERROR", "ABCDEF", " ^", "GHIJKL", "MN"])
+        self.assertEqual(laid(report("ABCDEFGHIJKLMN", 8), 6), ["SYNTAX ERROR", "ABCDEF", "GHIJKL", "  ^", "MN"])
+        self.assertEqual(laid(report("ABCDEFGHIJKLMN", 13), 6), ["SYNTAX ERROR", "ABCDEF", "GHIJKL", "MN", " ^"])
+        shown = [Line("ABCDEFGHIJKLMN"), Line("        ^")]
+        self.assertEqual(laid(shown, 6), [it.text for it in shown])
 
 
 class Editing(OfCommands):
@@ -181,19 +239,22 @@ class Editing(OfCommands):
 
     def test_a_name_that_is_in_use(self) -> None:
         self.told("F←1")
+        self.assertEqual(self.told(")EDIT F"), "F stands for something that is no function")
         self.editor("F\n1\n")
         self.said(self.at).answer = False
-        self.assertIn("its name stands for a variable", self.told(")EDIT F"))
+        self.assertIn("its name stands for a variable", self.told(")EDIT G"))
 
     def test_no_text_and_no_editor(self) -> None:
         self.editor("", "F\n" + "A" * 2_001)
         self.assertIn("the text is empty", self.told(")EDIT F"))
         self.said(self.at).answer = False
         self.assertIn("over 2,000 bytes", self.told(")EDIT F"))
-        os.environ["VISUAL"] = "false"
-        self.assertIn("false failed", self.told(")EDIT F"))
-        os.environ["VISUAL"] = "./none"
-        self.assertIn("./none failed", self.told(")EDIT F"))
+        os.environ["VISUAL"] = "false -x"
+        self.assertEqual(self.told(")EDIT F"), "the editor false has ended with status 1, so nothing is defined")
+        for command, why in (("./none -x", "the editor ./none can't be used: No such file or directory"), ("vi '", "it is no command")):
+            os.environ["VISUAL"] = command
+            self.assertIn(why, self.told(")EDIT F"))
+            self.assertIn("EDITOR", self.told(")EDIT F"))
 
     def test_which_line_is_refused(self) -> None:
         rows: List[Tuple[List[str], str]] = [

@@ -25,6 +25,23 @@ class Lines(OfTerminal):
         self.assertEqual((work.next_line, work.open_lines), (2, ["∇F", "1"]))
         self.assertEqual((self.typed(work, "∇", "F"), work.next_line, work.open_lines), (["1"], 0, []))
 
+    def test_hints(self) -> None:
+        for line, told in ((")SAFE", ")HELP lists the commands"), ("∇5", ")HELP HEADERS tells what one is"), (" ∇ ", "no definition is open"),
+                           ("∇F[⎕]∇", "there is no such function: )FNS"), ("1÷0", ""),
+                           ("’A’−\x01", "no character of the language: ’ (right single quotation mark), − (minus sign), U+0001; "
+                                        ")HELP KEYS shows those that are")):
+            work = self.work()
+            self.typed(work, line)
+            self.assertEqual(len(self.said(work).told), bool(told), line)
+            self.assertIn(told, "".join(self.said(work).told))
+
+    def test_hints_in_a_definition(self) -> None:
+        work = self.work()
+        self.assertEqual(self.typed(work, "∇F", "\t1"), ["CHARACTER ERROR"])
+        self.assertEqual(self.said(work).told, ["no character of the language: tab; line 1 is still to be typed"])
+        self.typed(work, "(", "∇")
+        self.assertEqual(self.said(work).told[1:], ["the definition is refused, but its text is kept: )EDIT opens it"])
+
     def test_an_interrupt(self) -> None:
         work = self.work("ledger")
         self.typed(work, *LOOP)
@@ -148,7 +165,7 @@ class Saving(OfTerminal):
         work = self.work()
         work.save("ledger")
         (self.folder / "ledger").write_text("mine")
-        self.assertRaisesRegex(NotDone, "another has changed it", work.save)
+        self.assertRaisesRegex(NotDone, "another program has changed the file; .SAVE NAME saves in another file", work.save)
         self.typed(work, "A←1")
         self.assertEqual((self.folder / "ledger").read_text(), "mine")
         work.save("other")
@@ -264,7 +281,7 @@ class PlayedAgain(OfTerminal):
         data = path.read_bytes()
         path.write_bytes(data.replace("A←2".encode(), "A←3".encode()))
         work = self.work("ledger")
-        self.assertIn("is damaged behind that; it is kept", self.said(work).asked[0])
+        self.assertIn("is damaged from there on; it is kept", self.said(work).asked[0])
         self.assertEqual((work.session.value("A"), len(work.journal.past.lines)), (1, 1))
         self.assertEqual((self.folder / ".ledger.apl-journal-1").read_bytes(), data.replace("A←2".encode(), "A←3".encode()))
         self.killed(work)
