@@ -5,4 +5,4 @@ pub mod Stacks
 pub mod Kept
 pub mod Known
 pub mod Typed
-pub mod Light
+pub mod Fast

@@ -1,5 +1,5 @@
 pub mod IndexLists
-pub mod Lights
+pub mod Small
 pub mod Items
 pub mod Environment
 pub mod Frames

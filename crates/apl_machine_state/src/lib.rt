@@ -9,7 +9,7 @@ mod texts;
 mod watch;
 
 pub use level::Level;
-pub use operand::{Light, Operand, Slots};
+pub use operand::{Operand, Slots, Small};
 pub use output::{LineKind, OutLine, Progress};
 pub use texts::colon_of;
 pub use watch::Watch;
