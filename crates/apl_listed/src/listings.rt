@@ -27,14 +27,18 @@ fn line_listing(alloc: Global, machine: &Machine, tokens: &[Token]) -> Result<Ve
 }
 
 /// The tokens of the line of that number, from 1.
-fn tokens_at(definition: &Definition, number: usize) -> &[Token]
+fn tokens_at(
+    alloc: Global,
+    definition: &Definition,
+    number: usize,
+) -> Result<Vec<Token>, AllocError>
     requires { (1 ≤ number) × (number ≤ length definition.now.lines) }
-    ensures { tokens_of (line_of definition.now number) ≡ Ok result.now }
+    ensures { IfOk result (λ tokens. tokens_of (line_of definition.now number) ≡ Ok tokens.items) }
 {
-    let Some(tokens) = definition.tokens(number) else {
+    let Some(tokens) = definition.tokens(alloc, number)? else {
         unreachable!()
     };
-    tokens
+    Ok(tokens)
 }
 
 /// The listing of each line of a function, in their order.
@@ -47,7 +51,8 @@ fn listings(
 {
     let mut found = Vec::with_capacity(alloc, definition.len())?;
     for i in 0..definition.len() {
-        found.push(line_listing(alloc, machine, tokens_at(definition, i + 1))?)?;
+        let tokens = tokens_at(alloc, definition, i + 1)?;
+        found.push(line_listing(alloc, machine, tokens.as_slice())?)?;
     }
     Ok(found)
 }

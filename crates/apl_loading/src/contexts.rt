@@ -40,10 +40,10 @@ fn read_call(
     ensures refused { IfErr result (Refuses fault.Context (λ c. IsCallBy definition field.now values.locals.items values.operands.items c)) }
 {
     let Values { locals, operands } = values;
-    let Some(tokens) = definition.tokens(field.at) else {
+    let Some(tokens) = definition.tokens(alloc, field.at)? else {
         return Err(LoadFault::Context);
     };
-    let line = read_call_line(alloc, tokens, &field.rest, operands, cache)?;
+    let line = read_call_line(alloc, tokens.as_slice(), &field.rest, operands, cache)?;
     let fields = field.locals.as_slice();
     let locals = read_locals(alloc, definition.header(), fields, locals)?;
     let function = DefinedFunction::new(alloc, definition)?;

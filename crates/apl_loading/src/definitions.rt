@@ -31,9 +31,9 @@ fn read_texts(
 }
 
 /// The function that these lines define, the header first.
-fn defined(alloc: Global, texts: &[Text]) -> Result<Definition, LoadFault>
-    ensures found { IfOk result (λ d. defined_of texts.now ≡ Ok d) }
-    ensures refused { IfErr result (Refuses fault.Definition (λ d. defined_of texts.now ≡ Ok d)) }
+fn defined(alloc: Global, texts: Vec<Text>) -> Result<Definition, LoadFault>
+    ensures found { IfOk result (λ d. defined_of texts.items ≡ Ok d) }
+    ensures refused { IfErr result (Refuses fault.Definition (λ d. defined_of texts.items ≡ Ok d)) }
 {
     match define(alloc, texts) {
         Ok(definition) => Ok(definition),
@@ -42,12 +42,26 @@ fn defined(alloc: Global, texts: &[Text]) -> Result<Definition, LoadFault>
     }
 }
 
-/// Whether the header of a definition is the first of these texts.
-fn is_headed(alloc: Global, definition: &Definition, texts: &[Text]) -> Result<bool, AllocError>
-    ensures { IfOk result (λ b. IsTrue b ↔ (slice_get texts.now 0 ≡ Some (canonical definition.now.header))) }
+/// The first of these texts again.
+fn first_of(alloc: Global, texts: &[Text]) -> Result<Option<Text>, AllocError>
+    ensures { IfOk result (λ first. first ≡ slice_get texts.now 0) }
+{
+    match texts.first() {
+        Some(first) => Ok(Some(first.copy(alloc)?)),
+        None => Ok(None),
+    }
+}
+
+/// Whether the header of a definition is this text.
+fn is_headed(
+    alloc: Global,
+    definition: &Definition,
+    first: Option<Text>,
+) -> Result<bool, AllocError>
+    ensures { IfOk result (λ b. IsTrue b ↔ (first ≡ Some (canonical definition.now.header))) }
 {
     let header = canonical(alloc, definition.header())?;
-    match texts.first() {
+    match first {
         Some(first) => Ok(are_same(first.as_slice(), header.as_slice())),
         None => Ok(false),
     }
@@ -64,8 +78,9 @@ pub(crate) fn read_definition(
     ensures refused { IfErr result (Refuses fault.Definition (λ d. IsDefinitionOf header.now lines.now d × IsDefined d)) }
 {
     let texts = read_texts(alloc, header, lines)?;
-    let definition = defined(alloc, texts.as_slice())?;
-    if is_headed(alloc, &definition, texts.as_slice())? {
+    let first = first_of(alloc, texts.as_slice())?;
+    let definition = defined(alloc, texts)?;
+    if is_headed(alloc, &definition, first)? {
         Ok(definition)
     } else {
         Err(LoadFault::Definition)

@@ -32,14 +32,13 @@ impl Workspace {
             self.contexts.leave();
             return Ok(());
         };
-        if let Some(tokens) = call.definition().tokens(at) {
+        if let Some(_text) = call.definition().line(at) {
             let translated = function_line(
                 &mut self.lines,
                 &self.names,
                 &mut self.cache,
                 call.function(),
                 at,
-                tokens,
             )?;
             let line = FrameBuf::of(self.alloc, translated)?;
             self.contexts.leave();

@@ -30,7 +30,7 @@ impl Workspace {
         ensures ok { OnOk result (HasEntered self.old self.new function left) }
         ensures err { OnErr result (self.new ≡ self.old) }
     {
-        let Some(tokens) = function.definition().tokens(1) else {
+        let Some(_text) = function.definition().line(1) else {
             unreachable!()
         };
         let translated = function_line(
@@ -39,7 +39,6 @@ impl Workspace {
             &mut self.cache,
             &function,
             1,
-            tokens,
         )?;
         self.contexts
             .enter_call(self.alloc, function, translated, left)?;

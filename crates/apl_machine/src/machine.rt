@@ -354,7 +354,7 @@ impl Machine {
         self.workspace.contexts.levels(self.workspace.alloc)
     }
 
-    /// The translations of the lines that began last. They change no answer.
+    /// The translations that were looked up last. They change no answer.
     pub fn cache(&self) -> &Cache {
         &self.workspace.cache
     }

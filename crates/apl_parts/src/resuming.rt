@@ -78,14 +78,14 @@ fn statement_of(
 }
 
 /// The tokens of a line of a function.
-fn tokens_at(definition: &Definition, at: usize) -> &[Token]
+fn tokens_at(alloc: Global, definition: &Definition, at: usize) -> Result<Vec<Token>, AllocError>
     requires { is_line definition.now at ≡ true }
-    ensures { tokens_of (line_of definition.now at) ≡ Ok result.now }
+    ensures { IfOk result (λ tokens. tokens_of (line_of definition.now at) ≡ Ok tokens.items) }
 {
-    let Some(tokens) = definition.tokens(at) else {
+    let Some(tokens) = definition.tokens(alloc, at)? else {
         unreachable!()
     };
-    tokens
+    Ok(tokens)
 }
 
 /// A call at that line of its function, as it waits.
@@ -106,8 +106,8 @@ fn call_of(
     let Some(rest) = rest else {
         return Ok(Call::stopped(function, at));
     };
-    let tokens = tokens_at(function.definition(), at);
-    let line = waiting_line(alloc, tokens, rest, cache)?;
+    let tokens = tokens_at(alloc, function.definition(), at)?;
+    let line = waiting_line(alloc, tokens.as_slice(), rest, cache)?;
     Ok(Call::new(function, at, line))
 }
 

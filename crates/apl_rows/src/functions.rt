@@ -40,7 +40,7 @@ fn write_header(page: &mut Page, text: &str) {
 /// The function that the lines between the marks define.
 pub fn definition_of(page: &mut Page, text: &str) -> Option<Definition> {
     let lines = page.parts(text);
-    let answer = define(page.alloc, &lines);
+    let answer = define(page.alloc, lines);
     page.kept(answer)
 }
 
@@ -88,7 +88,7 @@ fn many_lines(page: &mut Page, count: usize, text: &str) -> Vec<Text> {
 fn write_many(page: &mut Page, text: &str) {
     let (number, text) = next_word(text);
     let lines = many_lines(page, count(number), text);
-    match define(page.alloc, &lines) {
+    match define(page.alloc, lines) {
         Ok(definition) => write_definition(page, &definition),
         Err(error) => page.refuse(&error),
     }

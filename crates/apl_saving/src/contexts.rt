@@ -64,10 +64,10 @@ fn call_rest_field(alloc: Global, part: &CallPart) -> Result<Option<RestField>, 
     let Some(rest) = part.rest() else {
         return Ok(None);
     };
-    let Some(tokens) = part.function().definition().tokens(part.at()) else {
+    let Some(tokens) = part.function().definition().tokens(alloc, part.at())? else {
         unreachable!()
     };
-    let field = rest_field(alloc, tokens, rest)?;
+    let field = rest_field(alloc, tokens.as_slice(), rest)?;
     Ok(Some(field))
 }
 

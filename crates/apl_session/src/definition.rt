@@ -208,13 +208,25 @@ pub fn show_or_open(
     Ok(None)
 }
 
+/// The same lines again.
+fn copied_lines(alloc: Global, lines: &[Text]) -> Result<Vec<Text>, AllocError>
+    ensures { IfOk result (λ copied. copied.items ≡ lines.now) }
+{
+    let mut copied = Vec::with_capacity(alloc, lines.len())?;
+    for line in lines {
+        copied.push(line.copy(alloc)?)?;
+    }
+    Ok(copied)
+}
+
 /// Defines the function of these lines, or reports that they define none.
 pub fn close(alloc: Global, machine: &mut Machine, lines: &[Text]) -> Result<(), AllocError>
     requires { is_idle machine.old ≡ true }
     ensures ok { OnOk result (machine.new ≡ model.defined_by machine.old (defined_of lines.now)) }
     ensures err { OnErr result (machine.new ≡ machine.old) }
 {
-    match define(alloc, lines) {
+    // The lines stay with the session, in case memory runs out.
+    match define(alloc, copied_lines(alloc, lines)?) {
         Ok(definition) => {
             if !machine.is_variable(&definition.header().name) {
                 return machine.define(definition);

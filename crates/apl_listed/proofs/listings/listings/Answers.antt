@@ -11,5 +11,5 @@ loop-i-preserved c =
     let items = λ (bytes : Vec ℕ Global). bytes.items in
     let d = c.args.definition.now in
     let below : c.loop-i.i < length d.lines = omega arith in
-    let more = one_more items c.args.machine.now d c.loop-i.found.items c.loop-i.i c.in_ok-line_listing.field-0 c.tokens_at.result.now below c.loop-i.invariant c.tokens_at.ensures c.in_ok-line_listing.ensures in
+    let more = one_more items c.args.machine.now d c.loop-i.found.items c.loop-i.i c.in_ok-line_listing.field-0 c.in_ok-tokens.tokens.items below c.loop-i.invariant c.in_ok-tokens.ensures c.in_ok-line_listing.ensures in
     subst (λ (found : List (Vec ℕ Global)). AllZip (Lists c.args.machine.now) (take (c.loop-i.i + 1) d.lines) (map items found)) (sym c.in_ok-push.ensures.items) more

@@ -1,20 +1,20 @@
-use Rattle.std.proofs.Common.{◌≡◌, Option, Ok, Some, sym, ap, ◌∙◌, subst}
+use Rattle.std.proofs.Common.{◌≡◌, Option, Some, true, sym, ap, ◌∙◌, subst}
 use Rattle.std.specs.Option.{option_copied}
 use Rattle.std.specs.Prelude.{IfSome}
-use Rattle.apl_defn.specs.Definitions.{Definition, line_of}
-use Rattle.apl_tokens.specs.Tokens.{tokens_of}
+use Rattle.apl_defn.specs.Definitions.{Definition, is_line}
 use Rattle.apl_frames.specs.Flat.{Flat, begun_flat}
 use Rattle.apl_names.specs.Bound.{IsLineNow}
 use Rattle.apl_names.specs.Owned.{Owns}
 use Rattle.apl_contexts.specs.Callers.{Caller}
 use Rattle.apl_contexts.specs.Contexts.{at_line, call_in}
-use Rattle.apl_contexts.proofs.Begun.{begins_now, line_now}
-use Rattle.apl_contexts.proofs.Numbers.{never}
+use Rattle.apl_contexts.proofs.Begun.{begins_now}
 use Rattle.apl_contexts.proofs.contexts.Contexts.begin_beneath.Goals as goal
 
-pub unreachable-requires-in_default-tokens : goal.unreachable-requires-in_default-tokens
-unreachable-requires-in_default-tokens c =
-    never (call_in c.args.self.now) c.in-Some.call.now c.definition.result.now c.args.at (sym c.call.ensures ∙ ap option_copied c.in-Some.is) c.definition.ensures c.requires.line c.in_default-tokens.ensures.none
+pub function_line-requires-clause-line : goal.function_line-requires-clause-line
+function_line-requires-clause-line c =
+    let call : call_in c.args.self.now ≡ Some c.in-Some.call.now = sym c.call.ensures ∙ ap option_copied c.in-Some.is in
+    let line = subst (λ (o : Option Caller). IfSome o (λ (k : Caller). is_line k.definition c.args.at ≡ true)) call c.requires.line in
+    subst (λ (d : Definition). is_line d c.args.at ≡ true) (sym c.function.ensures) line
 
 pub function_line-requires-clause-own : goal.function_line-requires-clause-own
 function_line-requires-clause-own c =
@@ -27,8 +27,7 @@ returns-clause-ok c =
     let ready = c.in_ok-line.line.value in
     let k = c.in-Some.call.now in
     let call : call_in c.args.self.now ≡ Some k = sym c.call.ensures ∙ ap option_copied c.in-Some.is in
-    let read = subst (λ (d : Definition). tokens_of (line_of d c.args.at) ≡ Ok c.in-Some-tokens.tokens.now) c.definition.ensures c.in-Some-tokens.ensures.value in
-    let known : IsLineNow c.args.names.now k.definition c.args.at ready.bound = line_now c.args.names.now k.definition c.args.at c.in-Some-tokens.tokens.now ready.bound read c.in_ok-line.ensures in
+    let known = subst (λ (d : Definition). IsLineNow c.args.names.now d c.args.at ready.bound) c.function.ensures c.in_ok-line.ensures in
     let now = subst (λ (o : Option Caller). IfSome o (λ j. IsLineNow c.args.names.now j.definition c.args.at ready.bound)) (sym call) known in
     record {
       line = begun_flat ready.bound ready.code;
