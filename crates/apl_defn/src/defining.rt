@@ -1,18 +1,18 @@
 // The function that lines define.
-ghost use Rattle.std.specs.Prelude.{◌≡◌, ◌∷◌, ◌++◌, map, None, IfOk, IfErr, OnOk};
+ghost use Rattle.std.specs.Prelude.{◌≡◌, ◌==◌, ◌∷◌, ◌++◌, map, IfOk, OnOk};
+ghost use Rattle.std.specs.List.{list_any};
 ghost use Rattle.apl_tokens.specs.Tokens.{tokens_of};
 ghost use Rattle.apl_defn.specs.Headers.{names_of};
 ghost use Rattle.apl_defn.specs.Reading.{Answers};
-ghost use Rattle.apl_defn.specs.Defining.{label_in, label_among, labelled, labels_from, first_fault, FaultIs, made, once_each, IsWhole, defined_of};
+ghost use Rattle.apl_defn.specs.Defining.{label_in, label_among, labelled, labels_from, first_fault, made, once_each, IsWhole, defined_of};
 
 use crate::definition::Definition;
 use crate::error::DefnError;
-use crate::line::Line;
 use crate::parts::Header;
 use crate::reading::{are_distinct, head_of, name_in, names_of};
-use apl_charset::Text;
+use apl_charset::{Ch, Text};
 use apl_symbols::Name;
-use apl_tokens::Token;
+use apl_tokens::{Token, TokenError, is_read, tokens};
 use std::alloc::{AllocError, Global};
 
 /// The most lines that a function has.
@@ -31,27 +31,55 @@ pub fn label_in(tokens: &[Token]) -> Option<Name>
     name_in(&first.kind)
 }
 
-/// The lines of texts, or the first that is faulty.
-fn read_lines(alloc: Global, texts: &[Text]) -> Result<Vec<Line>, DefnError>
-    ensures lines { IfOk result (λ v. map (λ l. l.text) v.items ≡ texts.now) }
-    ensures whole { IfOk result (λ v. first_fault 1 texts.now ≡ None) }
-    ensures fault { IfErr result (λ e. FaultIs e (first_fault 1 texts.now)) }
+/// The number of the first line that is faulty.
+fn first_fault(lines: &[Text]) -> Option<usize>
+    ensures { result ≡ first_fault 1 lines.now }
 {
-    let mut lines = Vec::with_capacity(alloc, texts.len())?;
-    for (i, text) in texts.iter().enumerate() {
-        match Line::new(alloc, text)? {
-            Some(line) => lines.push(line)?,
-            None => return Err(DefnError::Line { line: i + 1 }),
+    for (i, line) in lines.iter().enumerate() {
+        if !is_read(line.as_slice()) {
+            return Some(i + 1);
         }
     }
-    Ok(lines)
+    None
+}
+
+/// Whether a colon stands in a text.
+fn has_colon(text: &[Ch]) -> bool
+    ensures { result ≡ list_any (λ c. c == 58) text.now }
+{
+    let colon = Ch::ascii(b':');
+    for c in text {
+        if *c == colon {
+            return true;
+        }
+    }
+    false
+}
+
+/// The label of a line. Tokens are made only where a colon stands in it.
+fn label_of(alloc: Global, line: &[Ch]) -> Result<Option<Name>, AllocError>
+    ensures { IfOk result (λ label. label ≡ label_among (tokens_of line.now)) }
+{
+    if !has_colon(line) {
+        return Ok(None);
+    }
+    match tokens(alloc, line) {
+        Ok(tokens) => return Ok(label_in(&tokens)),
+        Err(TokenError::Memory) => return Err(AllocError),
+        Err(_) => return Ok(None),
+    }
 }
 
 /// Adds the label of a line with the line's number at the end.
-fn push_label(labels: &mut Vec<(Name, usize)>, line: &Line, n: usize) -> Result<(), AllocError>
-    ensures { OnOk result (labels.new.items ≡ labels.old.items ++ labelled n (label_among (tokens_of line.now.text))) }
+fn push_label(
+    alloc: Global,
+    labels: &mut Vec<(Name, usize)>,
+    line: &[Ch],
+    n: usize,
+) -> Result<(), AllocError>
+    ensures { OnOk result (labels.new.items ≡ labels.old.items ++ labelled n (label_among (tokens_of line.now))) }
 {
-    let Some(label) = label_in(&line.tokens) else {
+    let Some(label) = label_of(alloc, line)? else {
         return Ok(());
     };
     labels.push((label, n))?;
@@ -59,12 +87,12 @@ fn push_label(labels: &mut Vec<(Name, usize)>, line: &Line, n: usize) -> Result<
 }
 
 /// The labels of lines, each with its line's number.
-fn labels_of(alloc: Global, lines: &[Line]) -> Result<Vec<(Name, usize)>, AllocError>
-    ensures { IfOk result (λ v. v.items ≡ labels_from 1 (map (λ l. l.text) lines.now)) }
+fn labels_of(alloc: Global, lines: &[Text]) -> Result<Vec<(Name, usize)>, AllocError>
+    ensures { IfOk result (λ v. v.items ≡ labels_from 1 lines.now) }
 {
     let mut labels = Vec::new(alloc);
     for (i, line) in lines.iter().enumerate() {
-        push_label(&mut labels, line, i + 1)?;
+        push_label(alloc, &mut labels, line.as_slice(), i + 1)?;
     }
     Ok(labels)
 }
@@ -85,9 +113,9 @@ fn all_names(
 }
 
 /// The function of a header and lines, where no name stands twice.
-fn assembled(alloc: Global, header: Header, lines: Vec<Line>) -> Result<Definition, DefnError>
-    requires { IsWhole header (map (λ l. l.text) lines.items) }
-    ensures { Answers result (once_each (made header (map (λ l. l.text) lines.items))) }
+fn assembled(alloc: Global, header: Header, lines: Vec<Text>) -> Result<Definition, DefnError>
+    requires { IsWhole header lines.items }
+    ensures { Answers result (once_each (made header lines.items)) }
 {
     let labels = labels_of(alloc, lines.as_slice())?;
     let names = all_names(alloc, &header, labels.as_slice())?;
@@ -99,31 +127,35 @@ fn assembled(alloc: Global, header: Header, lines: Vec<Line>) -> Result<Definiti
 
 /// The function that these lines define behind a header.
 #[tactic(auto, unfolding(crate::specs::Defining::defined_of))]
-fn define_behind(alloc: Global, first: &Text, texts: &[Text]) -> Result<Definition, DefnError>
-    ensures { Answers result (defined_of (first.now ∷ texts.now)) }
+fn define_behind(alloc: Global, first: &Text, lines: Vec<Text>) -> Result<Definition, DefnError>
+    ensures { Answers result (defined_of (first.now ∷ lines.items)) }
 {
     let Some(header) = head_of(alloc, first.as_slice())? else {
         return Err(DefnError::Header);
     };
-    if texts.len() > MOST_LINES {
+    if lines.len() > MOST_LINES {
         return Err(DefnError::TooLong);
     }
-    let lines = read_lines(alloc, texts)?;
+    if let Some(line) = first_fault(lines.as_slice()) {
+        return Err(DefnError::Line { line });
+    }
     assembled(alloc, header, lines)
 }
 
-/// The function that lines define, the first of which is its header. The others are taken as they
+/// The function that lines define, the first of which is its header. The others move into it as they
 /// stand, and a line that begins with a name and a colon has that label. Errors, the first in this
 /// order: Header where there is no line or the first is no header; TooLong where more than 999 lines
 /// stand behind it; Line, the first line with a fault of its tokens, as one with more than 500
 /// characters; Twice where a name stands twice among those of the header and the labels; Memory.
 #[tactic(auto, unfolding(crate::specs::Defining::defined_of))]
-pub fn define(alloc: Global, lines: &[Text]) -> Result<Definition, DefnError>
+pub fn define(alloc: Global, lines: Vec<Text>) -> Result<Definition, DefnError>
     // It is the one answer for the lines.
-    ensures { Answers result (defined_of lines.now) }
+    ensures { Answers result (defined_of lines.items) }
 {
-    let [first, texts @ ..] = lines else {
+    let mut behind = lines;
+    if behind.is_empty() {
         return Err(DefnError::Header);
-    };
-    define_behind(alloc, first, texts)
+    }
+    let first = behind.remove(0);
+    define_behind(alloc, &first, behind)
 }

@@ -1,22 +1,21 @@
 // Functions as they are defined.
-ghost use Rattle.std.specs.Prelude.{◌≡◌, ◌≤◌, length, map, Some, None, Ok, IfOk, IfSome, IfNone};
+ghost use Rattle.std.specs.Prelude.{◌≡◌, ◌≤◌, length, Some, None, Ok, IfOk, IfSome, IfNone};
 ghost use Rattle.apl_tokens.specs.Tokens.{tokens_of};
 ghost use Rattle.apl_defn.specs.Definitions.{class_of, line_of, line_at};
 ghost use Rattle.apl_defn.specs.Defining.{IsDefined};
 
-use crate::line::Line;
 use crate::parts::Header;
-use apl_charset::Ch;
+use apl_charset::{Ch, Text};
 use apl_symbols::{Class, Name};
-use apl_tokens::Token;
+use apl_tokens::{Token, TokenError, tokens};
 use std::alloc::{AllocError, Global};
 use std::marker::Model;
 
-/// A function: its header, its lines, and its labels. It keeps the tokens of each line, so that a
-/// line isn't read anew each time it begins.
+/// A function: its header, its lines, and its labels. It keeps the texts of the lines alone, each of
+/// which has tokens; they are made when somebody asks for them.
 pub struct Definition {
     header: Header,
-    lines: Vec<Line>,
+    lines: Vec<Text>,
     labels: Vec<(Name, usize)>,
 }
 
@@ -35,23 +34,22 @@ impl Drop for Definition {
 }
 
 impl Model for Definition {
-    ghost use Rattle.std.specs.Prelude.{map};
     ghost use Rattle.apl_defn.specs.Definitions.{Definition as Defined};
 
     ghost Value = { Defined };
 
     ghost use Rattle.apl_defn.specs.Defining.{IsDefined};
 
-    ghost view = { λ d. record { header = d.header; lines = map (λ l. l.text) d.lines.items; labels = d.labels.items } };
+    ghost view = { λ d. record { header = d.header; lines = d.lines.items; labels = d.labels.items } };
 
-    ghost invariant = { λ d. IsDefined (record { header = d.header; lines = map (λ l. l.text) d.lines.items; labels = d.labels.items }) };
+    ghost invariant = { λ d. IsDefined (record { header = d.header; lines = d.lines.items; labels = d.labels.items }) };
 }
 
 impl Definition {
     /// The function of this header with these lines and labels.
-    pub(crate) fn new(header: Header, lines: Vec<Line>, labels: Vec<(Name, usize)>) -> Definition
-        requires { IsDefined (record { header = header; lines = map (λ l. l.text) lines.items; labels = labels.items }) }
-        ensures { result ≡ record { header = header; lines = map (λ l. l.text) lines.items; labels = labels.items } }
+    pub(crate) fn new(header: Header, lines: Vec<Text>, labels: Vec<(Name, usize)>) -> Definition
+        requires { IsDefined (record { header = header; lines = lines.items; labels = labels.items }) }
+        ensures { result ≡ record { header = header; lines = lines.items; labels = labels.items } }
     {
         Definition {
             header,
@@ -87,8 +85,8 @@ impl Definition {
     }
 
     /// Its lines.
-    pub(crate) fn lines(&self) -> &[Line]
-        ensures { map (λ l. l.text) result.now ≡ self.now.lines }
+    pub(crate) fn lines(&self) -> &[Text]
+        ensures { result.now ≡ self.now.lines }
     {
         self.lines.as_slice()
     }
@@ -100,20 +98,25 @@ impl Definition {
         ensures short { IfSome result (λ text. length text.now ≤ 500) }
     {
         match line_at(self.lines(), n) {
-            Some(line) => return Some(line.text.as_slice()),
+            Some(line) => return Some(line.as_slice()),
             None => return None,
         }
     }
 
-    /// The tokens of a line, counted from 1.
-    pub fn tokens(&self, n: usize) -> Option<&[Token]>
-        ensures none { IfNone result (line_at self.now.lines n ≡ None) }
-        ensures line { IfSome result (λ tokens. line_at self.now.lines n ≡ Some (line_of self.now n)) }
-        ensures value { IfSome result (λ tokens. tokens_of (line_of self.now n) ≡ Ok tokens.now) }
+    /// The tokens of a line, counted from 1. They are made at each call. The only error is that
+    /// memory has run out.
+    pub fn tokens(&self, alloc: Global, n: usize) -> Result<Option<Vec<Token>>, AllocError>
+        ensures none { IfOk result (λ o. IfNone o (line_at self.now.lines n ≡ None)) }
+        ensures line { IfOk result (λ o. IfSome o (λ tokens. line_at self.now.lines n ≡ Some (line_of self.now n))) }
+        ensures value { IfOk result (λ o. IfSome o (λ tokens. tokens_of (line_of self.now n) ≡ Ok tokens.items)) }
     {
-        match line_at(self.lines(), n) {
-            Some(line) => return Some(line.tokens.as_slice()),
-            None => return None,
+        let Some(line) = line_at(self.lines(), n) else {
+            return Ok(None);
+        };
+        match tokens(alloc, line.as_slice()) {
+            Ok(tokens) => return Ok(Some(tokens)),
+            Err(TokenError::Memory) => return Err(AllocError),
+            Err(_) => unreachable!(),
         }
     }
 
@@ -140,9 +143,9 @@ impl Definition {
 }
 
 /// The line of that number, from 1.
-fn line_at(lines: &[Line], n: usize) -> Option<&Line>
-    ensures none { IfNone result (line_at (map (λ l. l.text) lines.now) n ≡ None) }
-    ensures value { IfSome result (λ l. line_at (map (λ l. l.text) lines.now) n ≡ Some l.now.text) }
+fn line_at(lines: &[Text], n: usize) -> Option<&Text>
+    ensures none { IfNone result (line_at lines.now n ≡ None) }
+    ensures value { IfSome result (λ l. line_at lines.now n ≡ Some l.now) }
 {
     if n == 0 {
         return None;
@@ -151,15 +154,12 @@ fn line_at(lines: &[Line], n: usize) -> Option<&Line>
 }
 
 /// The same lines again.
-fn copy_lines(alloc: Global, lines: &[Line]) -> Result<Vec<Line>, AllocError>
-    ensures { IfOk result (λ v. map (λ l. l.text) v.items ≡ map (λ l. l.text) lines.now) }
+fn copy_lines(alloc: Global, lines: &[Text]) -> Result<Vec<Text>, AllocError>
+    ensures { IfOk result (λ v. v.items ≡ lines.now) }
 {
     let mut copied = Vec::with_capacity(alloc, lines.len())?;
     for line in lines {
-        match Line::new(alloc, &line.text)? {
-            Some(again) => copied.push(again)?,
-            None => unreachable!(),
-        }
+        copied.push(line.copy(alloc)?)?;
     }
     Ok(copied)
 }

@@ -108,7 +108,7 @@ pub fn show(alloc: Global, definition: &Definition) -> Result<Vec<Text>, AllocEr
     out.push(head_line(alloc, definition.header())?)?;
     let lines = definition.lines();
     for (i, line) in lines.iter().enumerate() {
-        out.push(numbered(alloc, i + 1, line.text.as_slice())?)?;
+        out.push(numbered(alloc, i + 1, line.as_slice())?)?;
     }
     out.push(Text::new(margin(alloc)?))?;
     Ok(out)

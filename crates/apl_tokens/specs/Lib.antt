@@ -9,3 +9,4 @@ pub mod Tokens
 pub mod Plain
 pub mod Faults
 pub mod Worked
+pub mod Measures

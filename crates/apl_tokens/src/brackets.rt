@@ -16,7 +16,7 @@ pub enum Bracket {
 }
 
 impl Bracket {
-    fn is(self, other: Bracket) -> bool
+    pub fn is(self, other: Bracket) -> bool
         ensures { result ≡ same_bracket self other }
     {
         match self {
@@ -34,7 +34,7 @@ pub enum Side {
     Neither,
 }
 
-fn side_of(symbol: Symbol) -> Side
+pub fn side_of(symbol: Symbol) -> Side
     ensures { result ≡ side_of symbol }
 {
     match symbol {

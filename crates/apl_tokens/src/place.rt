@@ -2,6 +2,7 @@
 
 ghost use Rattle.std.specs.Prelude.{◌≡◌};
 ghost use Rattle.apl_tokens.specs.Spelling.{is_named, next_place};
+ghost use Rattle.apl_tokens.specs.Measures.{place_behind};
 
 use crate::token::Kind;
 
@@ -29,6 +30,16 @@ impl Place {
     {
         match (self, kind) {
             (Place::Start, Kind::Name(_)) => Place::Named,
+            _ => Place::Inside,
+        }
+    }
+
+    /// The same after a token that is a name, or isn't.
+    pub fn behind(self, is_name: bool) -> Place
+        ensures { result ≡ place_behind self is_name }
+    {
+        match self {
+            Place::Start if is_name => Place::Named,
             _ => Place::Inside,
         }
     }

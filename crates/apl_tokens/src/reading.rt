@@ -95,7 +95,7 @@ impl Run {
 const LIMIT: u64 = 1 << 63;
 
 /// The number that the digits write, if it is at most 2 ^ 63.
-fn magnitude(digits: &[Ch]) -> Option<u64>
+pub fn magnitude(digits: &[Ch]) -> Option<u64>
     requires { all_digits digits.now ≡ true }
     ensures some { IfSome result (λ m. (m ≡ digits_value 10 digits.now) × (m ≤ 2 ^ 63)) }
     ensures none { IfNone result (2 ^ 63 < digits_value 10 digits.now) }
@@ -114,7 +114,7 @@ fn magnitude(digits: &[Ch]) -> Option<u64>
 }
 
 /// The number with that sign, if it is in range.
-fn with_sign(negative: bool, m: u64) -> Option<i64>
+pub fn with_sign(negative: bool, m: u64) -> Option<i64>
     requires { m ≤ 2 ^ 63 }
     ensures some { IfSome result (λ n. (n ≡ signed_value negative m) × (in_range negative m ≡ true)) }
     ensures none { IfNone result (in_range negative m ≡ false) }
@@ -231,13 +231,13 @@ fn quad_at(rest: &[Ch]) -> Result<(Kind, usize), Halt>
     }
 }
 
-fn is_quad(symbol: Symbol) -> bool
+pub fn is_quad(symbol: Symbol) -> bool
     ensures { result ≡ is_quad symbol }
 {
     matches!(symbol, Symbol::Quad)
 }
 
-fn is_colon(symbol: Symbol) -> bool
+pub fn is_colon(symbol: Symbol) -> bool
     ensures { result ≡ is_colon symbol }
 {
     matches!(symbol, Symbol::Colon)
