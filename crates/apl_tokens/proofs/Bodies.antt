@@ -23,7 +23,7 @@ skip_front front i (Some body) =
     let n : i + (1 + body.1) ≡ (i + 1) + body.1 = omega arith in
     rw n refl
 
-at_cons : (rest : List ℕ) (i c : ℕ) → i < length rest → c ≡ get_or rest i c → drop i rest ≡ c ∷ drop (i + 1) rest
+pub at_cons : (rest : List ℕ) (i c : ℕ) → i < length rest → c ≡ get_or rest i c → drop i rest ≡ c ∷ drop (i + 1) rest
 at_cons rest i c lt e = rw (add-one, drop-cons rest i c, ← e) refl
 
 pub plain : (front rest : List ℕ) (i c : ℕ) (total : Option (List ℕ × ℕ)) → i < length rest → c ≡ get_or rest i c → is_quote (class_of c) ≡ false

@@ -22,3 +22,5 @@ pub mod Fitting
 pub mod Written
 pub mod Sharp
 pub mod Leftmost
+pub mod Lengths
+pub mod Accepting

@@ -14,20 +14,21 @@ use std::marker::Model;
 const LONGEST: usize = 500;
 
 /// The brackets that are open in a line. Contracts see their list, the innermost first.
+#[derive(Drop)]
 struct Open {
     brackets: [Bracket; LONGEST],
     depth: usize,
 }
 
 impl Model for Open {
-    ghost use Rattle.std.specs.Prelude.{◌≤◌, List, take, reverse};
+    ghost use Rattle.std.specs.Prelude.{◌≡◌, ◌≤◌, List, length, take, reverse};
     ghost use Rattle.apl_tokens.specs.declared.brackets.Bracket.{Bracket};
 
     ghost Value = { List Bracket };
 
     ghost view = { λ o. reverse (take o.depth o.brackets) };
 
-    ghost invariant = { λ o. o.depth ≤ 500 };
+    ghost invariant = { λ o. (o.depth ≤ 500) × (length o.brackets ≡ 500) };
 }
 
 impl Open {

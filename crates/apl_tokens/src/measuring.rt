@@ -1,7 +1,8 @@
 // How long the token at the front of a text is, without making it.
-ghost use Rattle.std.specs.Prelude.{◌≡◌, ◌<◌, ◌≤◌, length, IfSome};
+ghost use Rattle.std.specs.Prelude.{◌≡◌, ◌<◌, ◌≤◌, length, false, IfSome};
 ghost use Rattle.apl_tokens.specs.Reading.{number_at, name_at, body_at, text_at, quad_at, symbol_at, next_at};
 ghost use Rattle.apl_tokens.specs.Measures.{measured, body_len};
+ghost use Rattle.apl_tokens.specs.declared.brackets.Side.TheVariants.{Neither};
 
 use crate::brackets::{Side, side_of};
 use crate::class::{Class, class_of};
@@ -23,7 +24,7 @@ pub struct Measure {
 
 /// A token of so many characters that is neither a name nor a bracket.
 fn plain(len: usize) -> Measure
-    ensures { result ≡ record { side = Side.Neither; is_name = false; len = len } }
+    ensures { result ≡ record { side = Neither; is_name = false; len = len } }
 {
     Measure {
         side: Side::Neither,
