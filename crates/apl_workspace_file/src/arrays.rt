@@ -13,10 +13,10 @@ use serde_json::{Map, Value};
 use std::alloc::{AllocError, Global};
 
 #[tactic(auto, unfolding(crate::specs::Reading::numbers_of))]
-fn read_numbers(alloc: Global, value: &Value) -> Result<ArrayField, TreeError>
-    ensures { Gives result (numbers_of (view value.now)) }
+fn read_numbers(alloc: Global, value: Value) -> Result<ArrayField, TreeError>
+    ensures { Gives result (numbers_of (view value)) }
 {
-    let mut members = object(value)?.iter();
+    let mut members = object(value)?;
     let numbers = next_field(&mut members, alloc, "nums")?;
     let shape = next_field(&mut members, alloc, "shape")?;
     end(members)?;
@@ -27,10 +27,10 @@ fn read_numbers(alloc: Global, value: &Value) -> Result<ArrayField, TreeError>
 }
 
 #[tactic(auto, unfolding(crate::specs::Reading::characters_of))]
-fn read_characters(alloc: Global, value: &Value) -> Result<ArrayField, TreeError>
-    ensures { Gives result (characters_of (view value.now)) }
+fn read_characters(alloc: Global, value: Value) -> Result<ArrayField, TreeError>
+    ensures { Gives result (characters_of (view value)) }
 {
-    let mut members = object(value)?.iter();
+    let mut members = object(value)?;
     let shape = next_field(&mut members, alloc, "shape")?;
     let text = next_field(&mut members, alloc, "text")?;
     end(members)?;
@@ -46,8 +46,8 @@ impl Field for ArrayField {
     ghost tree = { array_tree };
 
     #[tactic(auto, unfolding(crate::specs::Reading::array_of))]
-    fn read(alloc: Global, value: &Value) -> Result<ArrayField, TreeError> {
-        if has(value, "nums") {
+    fn read(alloc: Global, value: Value) -> Result<ArrayField, TreeError> {
+        if has(&value, "nums") {
             read_numbers(alloc, value)
         } else {
             read_characters(alloc, value)
@@ -72,10 +72,10 @@ impl Field for ArrayField {
 }
 
 #[tactic(auto, unfolding(crate::specs::Reading::slots_of))]
-fn read_slots(alloc: Global, value: &Value) -> Result<ListField<Option<ArrayField>>, TreeError>
-    ensures { Gives result (slots_of (view value.now)) }
+fn read_slots(alloc: Global, value: Value) -> Result<ListField<Option<ArrayField>>, TreeError>
+    ensures { Gives result (slots_of (view value)) }
 {
-    let mut members = object(value)?.iter();
+    let mut members = object(value)?;
     let slots = next_field(&mut members, alloc, "slots")?;
     end(members)?;
     Ok(slots)
@@ -87,8 +87,8 @@ impl Field for OperandField {
     ghost tree = { operand_tree };
 
     #[tactic(auto, unfolding(crate::specs::Reading::operand_of))]
-    fn read(alloc: Global, value: &Value) -> Result<OperandField, TreeError> {
-        if has(value, "slots") {
+    fn read(alloc: Global, value: Value) -> Result<OperandField, TreeError> {
+        if has(&value, "slots") {
             Ok(OperandField::Slots(read_slots(alloc, value)?))
         } else {
             Ok(OperandField::Array(ArrayField::read(alloc, value)?))

@@ -29,7 +29,7 @@ pub fn read(alloc: Global, bytes: &[u8]) -> Result<File, ReadError>
         → MatchResult result (λ g. g ≡ f) (λ e. e ≡ Memory) }
 {
     let tree = parse(alloc, bytes)?;
-    Ok(File::read(alloc, &tree)?)
+    Ok(File::read(alloc, tree)?)
 }
 
 // The tree of these bytes.

@@ -17,8 +17,8 @@ impl Field for RestField {
     ghost tree = { rest_tree };
 
     #[tactic(auto, unfolding(crate::specs::Reading::rest_of))]
-    fn read(alloc: Global, value: &Value) -> Result<RestField, TreeError> {
-        let mut members = object(value)?.iter();
+    fn read(alloc: Global, value: Value) -> Result<RestField, TreeError> {
+        let mut members = object(value)?;
         let classes = next_field(&mut members, alloc, "classes")?;
         let code = next_field(&mut members, alloc, "code")?;
         let done = next_field(&mut members, alloc, "done")?;
@@ -48,8 +48,8 @@ impl Field for LocalField {
     ghost tree = { local_tree };
 
     #[tactic(auto, unfolding(crate::specs::Reading::local_of))]
-    fn read(alloc: Global, value: &Value) -> Result<LocalField, TreeError> {
-        let mut members = object(value)?.iter();
+    fn read(alloc: Global, value: Value) -> Result<LocalField, TreeError> {
+        let mut members = object(value)?;
         let name = next_field(&mut members, alloc, "name")?;
         let value = next_field(&mut members, alloc, "value")?;
         end(members)?;
@@ -65,10 +65,10 @@ impl Field for LocalField {
 }
 
 #[tactic(auto, unfolding(crate::specs::Reading::statement_of))]
-fn read_statement(alloc: Global, value: &Value) -> Result<StatementField, TreeError>
-    ensures { Gives result (statement_of (view value.now)) }
+fn read_statement(alloc: Global, value: Value) -> Result<StatementField, TreeError>
+    ensures { Gives result (statement_of (view value)) }
 {
-    let mut members = object(value)?.iter();
+    let mut members = object(value)?;
     next_kind(&mut members, "statement")?;
     let line = next_field(&mut members, alloc, "line")?;
     let rest = next_field(&mut members, alloc, "rest")?;
@@ -77,10 +77,10 @@ fn read_statement(alloc: Global, value: &Value) -> Result<StatementField, TreeEr
 }
 
 #[tactic(auto, unfolding(crate::specs::Reading::execute_of))]
-fn read_execute(alloc: Global, value: &Value) -> Result<StatementField, TreeError>
-    ensures { Gives result (execute_of (view value.now)) }
+fn read_execute(alloc: Global, value: Value) -> Result<StatementField, TreeError>
+    ensures { Gives result (execute_of (view value)) }
 {
-    let mut members = object(value)?.iter();
+    let mut members = object(value)?;
     next_kind(&mut members, "execute")?;
     let rest = next_field(&mut members, alloc, "rest")?;
     let line = next_field(&mut members, alloc, "text")?;
@@ -89,10 +89,10 @@ fn read_execute(alloc: Global, value: &Value) -> Result<StatementField, TreeErro
 }
 
 #[tactic(auto, unfolding(crate::specs::Reading::call_of))]
-fn read_call(alloc: Global, value: &Value) -> Result<CallField, TreeError>
-    ensures { Gives result (call_of (view value.now)) }
+fn read_call(alloc: Global, value: Value) -> Result<CallField, TreeError>
+    ensures { Gives result (call_of (view value)) }
 {
-    let mut members = object(value)?.iter();
+    let mut members = object(value)?;
     let at = next_field(&mut members, alloc, "at")?;
     let header = next_field(&mut members, alloc, "header")?;
     next_kind(&mut members, "call")?;
@@ -115,8 +115,8 @@ impl Field for ContextField {
     ghost tree = { context_tree };
 
     #[tactic(auto, unfolding(crate::specs::Reading::context_of))]
-    fn read(alloc: Global, value: &Value) -> Result<ContextField, TreeError> {
-        match kind(value) {
+    fn read(alloc: Global, value: Value) -> Result<ContextField, TreeError> {
+        match kind(&value) {
             Some("call") => Ok(ContextField::Call(read_call(alloc, value)?)),
             Some("statement") => Ok(ContextField::Statement(read_statement(alloc, value)?)),
             Some("execute") => Ok(ContextField::Execute(read_execute(alloc, value)?)),

@@ -15,9 +15,9 @@ pub(crate) trait Field: Drop {
 
     ghost tree: { Self → Data };
 
-    /// The value of this tree.
-    fn read(alloc: Global, value: &Value) -> Result<Self, TreeError>
-        ensures { Gives result (reading (view value.now)) };
+    /// The value of this tree. Its texts are moved, not copied.
+    fn read(alloc: Global, value: Value) -> Result<Self, TreeError>
+        ensures { Gives result (reading (view value)) };
 
     /// Its tree.
     fn write(&self, alloc: Global) -> Result<Value, AllocError>

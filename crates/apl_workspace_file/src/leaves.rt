@@ -16,7 +16,7 @@ impl Field for usize {
     ghost tree = { whole_tree };
 
     #[tactic(auto, unfolding(crate::specs::Reading::whole_of))]
-    fn read(_alloc: Global, value: &Value) -> Result<usize, TreeError> {
+    fn read(_alloc: Global, value: Value) -> Result<usize, TreeError> {
         match value.as_u64() {
             Some(n) if n < 1 << 63 => Ok(n as usize),
             _ => Err(TreeError::Form),
@@ -35,7 +35,7 @@ impl Field for i64 {
     ghost tree = { number_tree };
 
     #[tactic(auto, unfolding(crate::specs::Reading::number_of))]
-    fn read(_alloc: Global, value: &Value) -> Result<i64, TreeError> {
+    fn read(_alloc: Global, value: Value) -> Result<i64, TreeError> {
         if let Some(n) = value.as_u64() {
             return if n < 1 << 63 {
                 Ok(n as i64)
@@ -59,9 +59,11 @@ impl Field for TextField {
 
     ghost tree = { string };
 
-    fn read(alloc: Global, value: &Value) -> Result<TextField, TreeError> {
-        let text = value.as_str().ok_or(TreeError::Form)?;
-        Ok(TextField::new(String::from_str(alloc, text)?))
+    fn read(_alloc: Global, value: Value) -> Result<TextField, TreeError> {
+        match value {
+            Value::String(text) => Ok(TextField::new(text)),
+            _ => Err(TreeError::Form),
+        }
     }
 
     fn write(&self, alloc: Global) -> Result<Value, AllocError> {
@@ -75,8 +77,10 @@ impl<T: Field> Field for ListField<T> {
     ghost tree = { list_tree T.tree };
 
     #[tactic(auto, unfolding(crate::specs::Reading::list_of))]
-    fn read(alloc: Global, value: &Value) -> Result<ListField<T>, TreeError> {
-        let items = value.as_array().ok_or(TreeError::Form)?;
+    fn read(alloc: Global, value: Value) -> Result<ListField<T>, TreeError> {
+        let Value::Array(items) = value else {
+            return Err(TreeError::Form);
+        };
         let mut found = Vec::with_capacity(alloc, items.len())?;
         for item in items {
             found.push(T::read(alloc, item)?)?;
@@ -101,7 +105,7 @@ impl<T: Field> Field for Option<T> {
     ghost tree = { option_tree T.tree };
 
     #[tactic(auto, unfolding(crate::specs::Reading::option_of))]
-    fn read(alloc: Global, value: &Value) -> Result<Option<T>, TreeError> {
+    fn read(alloc: Global, value: Value) -> Result<Option<T>, TreeError> {
         match value {
             Value::Null => Ok(None),
             _ => Ok(Some(T::read(alloc, value)?)),

@@ -9,21 +9,27 @@ use crate::error::TreeError;
 use crate::field::Field;
 use serde_json::{Map, Value, put};
 use std::alloc::{AllocError, Global};
-use std::collections::btree_map::Iter;
+use std::collections::btree_map::IntoIter;
+
+/// The members of an object that are left, in the order of their keys.
+pub(crate) type Members = IntoIter<String, Value, Global>;
 
 /// The members of a tree that is an object.
-pub(crate) fn object(value: &Value) -> Result<&Map<String, Value>, TreeError>
+pub(crate) fn object(value: Value) -> Result<Members, TreeError>
     ensures { MatchResult result
-        (λ o. form_of (as_object (view value.now)) ≡ Ok (members_view o.now.entries))
-        (λ e. form_of (as_object (view value.now)) ≡ Err e) }
+        (λ ms. form_of (as_object (view value)) ≡ Ok (members_view ms))
+        (λ e. form_of (as_object (view value)) ≡ Err e) }
 {
-    value.as_object().ok_or(TreeError::Form)
+    match value {
+        Value::Object(members) => Ok(members.into_iter()),
+        _ => Err(TreeError::Form),
+    }
 }
 
 // The value of the next member, where that has this key.
-fn next_member<'a>(members: &mut Iter<'a, String, Value>, key: &str) -> Result<&'a Value, TreeError>
+fn next_member(members: &mut Members, key: &str) -> Result<Value, TreeError>
     ensures { MatchResult result
-        (λ v. field key.now (members_view members.old) ≡ Ok (view v.now, members_view members.new))
+        (λ v. field key.now (members_view members.old) ≡ Ok (view v, members_view members.new))
         (λ e. field key.now (members_view members.old) ≡ Err e) }
 {
     match members.next() {
@@ -35,7 +41,7 @@ fn next_member<'a>(members: &mut Iter<'a, String, Value>, key: &str) -> Result<&
 /// The next member as a field, where it has this key.
 #[tactic(auto, unfolding(crate::specs::Reading::next))]
 pub(crate) fn next_field<T: Field>(
-    members: &mut Iter<'_, String, Value>,
+    members: &mut Members,
     alloc: Global,
     key: &str,
 ) -> Result<T, TreeError>
@@ -46,7 +52,7 @@ pub(crate) fn next_field<T: Field>(
 
 /// Passes the next member where it is the kind, and this one.
 #[tactic(auto, unfolding(crate::specs::Reading::next, crate::specs::Reading::word_of))]
-pub(crate) fn next_kind(members: &mut Iter<'_, String, Value>, kind: &str) -> Result<(), TreeError>
+pub(crate) fn next_kind(members: &mut Members, kind: &str) -> Result<(), TreeError>
     ensures { GivesNext result (members_view members.new) (next (codes "kind") (word_of kind.now) (members_view members.old)) }
 {
     match next_member(members, "kind")?.as_str() {
@@ -56,8 +62,8 @@ pub(crate) fn next_kind(members: &mut Iter<'_, String, Value>, kind: &str) -> Re
 }
 
 /// Passes where no member is left.
-pub(crate) fn end(mut members: Iter<'_, String, Value>) -> Result<(), TreeError>
-    ensures { Gives result (ended (members_view members.entry)) }
+pub(crate) fn end(mut members: Members) -> Result<(), TreeError>
+    ensures { Gives result (ended (members_view members)) }
 {
     match members.next() {
         None => Ok(()),

@@ -20,8 +20,8 @@ impl Field for FunctionField {
     ghost tree = { function_tree };
 
     #[tactic(auto, unfolding(crate::specs::Reading::function_of))]
-    fn read(alloc: Global, value: &Value) -> Result<FunctionField, TreeError> {
-        let mut members = object(value)?.iter();
+    fn read(alloc: Global, value: Value) -> Result<FunctionField, TreeError> {
+        let mut members = object(value)?;
         let header = next_field(&mut members, alloc, "header")?;
         let lines = next_field(&mut members, alloc, "lines")?;
         let stop = next_field(&mut members, alloc, "stop")?;
@@ -51,8 +51,8 @@ impl Field for VariableField {
     ghost tree = { variable_tree };
 
     #[tactic(auto, unfolding(crate::specs::Reading::variable_of))]
-    fn read(alloc: Global, value: &Value) -> Result<VariableField, TreeError> {
-        let mut members = object(value)?.iter();
+    fn read(alloc: Global, value: Value) -> Result<VariableField, TreeError> {
+        let mut members = object(value)?;
         let name = next_field(&mut members, alloc, "name")?;
         let value = next_field(&mut members, alloc, "value")?;
         end(members)?;
@@ -73,7 +73,7 @@ impl Field for Version {
     ghost tree = { version_tree };
 
     #[tactic(auto, unfolding(crate::specs::Reading::version_of))]
-    fn read(alloc: Global, value: &Value) -> Result<Version, TreeError> {
+    fn read(alloc: Global, value: Value) -> Result<Version, TreeError> {
         match usize::read(alloc, value)? {
             1 => Ok(Version::One),
             2 => Ok(Version::Two),
@@ -90,10 +90,10 @@ impl Field for Version {
 }
 
 #[tactic(auto, unfolding(crate::specs::Reading::members_of))]
-fn read_members(alloc: Global, value: &Value) -> Result<File, TreeError>
-    ensures { Gives result (members_of (view value.now)) }
+fn read_members(alloc: Global, value: Value) -> Result<File, TreeError>
+    ensures { Gives result (members_of (view value)) }
 {
-    let mut members = object(value)?.iter();
+    let mut members = object(value)?;
     let contexts = next_field(&mut members, alloc, "contexts")?;
     let functions = next_field(&mut members, alloc, "functions")?;
     let origin = next_field(&mut members, alloc, "io")?;
@@ -144,7 +144,7 @@ impl Field for File {
     ghost tree = { tree_of };
 
     #[tactic(auto, unfolding(crate::specs::Reading::file_of))]
-    fn read(alloc: Global, value: &Value) -> Result<File, TreeError> {
+    fn read(alloc: Global, value: Value) -> Result<File, TreeError> {
         let file = read_members(alloc, value)?;
         if file.origin < 2 && keeps_to_its_version(&file) {
             Ok(file)
