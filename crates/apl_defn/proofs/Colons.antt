@@ -1,5 +1,6 @@
 -- A text without a colon has no label.
 use Rattle.std.proofs.Common.{◌≡◌, ℕ, ◌==◌, ◌||◌, Bool, true, false, List, [], ◌∷◌, ◌++◌, Option, Some, None, Ok, Err, refl, sym, ap, ◌∙◌, subst}
+use Rattle.std.specs.Prelude.{is_ok}
 use Rattle.std.specs.List.{list_any}
 use Rattle.apl_symbols.specs.declared.symbol.Symbol.TheVariants.{Colon}
 use Rattle.apl_tokens.specs.declared.place.Place.{Place}
@@ -79,6 +80,14 @@ label_case (t ∷ u ∷ ts) h = rw h.1.0 refl
 answer_case : (text : Text) (answer : Answer) → tokens_of text ≡ answer → has_colon text ≡ false → label_among answer ≡ None
 answer_case text (Ok ts) a e = label_case ts (spells_none ts text (answer_spells text ts a) e)
 answer_case text (Err x) a e = refl
+
+faulty_case : (answer : Answer) → is_ok answer ≡ false → label_among answer ≡ None
+faulty_case (Ok ts) e = absurd cc
+faulty_case (Err x) e = refl
+
+-- nor has a text without tokens
+pub faulty_label : (text : Text) → is_ok (tokens_of text) ≡ false → label_among (tokens_of text) ≡ None
+faulty_label text e = faulty_case (tokens_of text) e
 
 pub no_label : (text : Text) → list_any (λ c. c == 58) text ≡ false → label_among (tokens_of text) ≡ None
 no_label text e = answer_case text (tokens_of text) refl e

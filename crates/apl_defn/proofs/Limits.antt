@@ -1,9 +1,8 @@
 -- What has few lines, and short ones with tokens.
 use Rattle.std.proofs.Common.{◌≡◌, ℕ, zero, suc, ◌+◌, ◌-◌, ◌==◌, ◌≤◌, cond, Bool, true, false, List, [], ◌∷◌, ◌++◌, map, length, Option, Some, None, Ok, Err, refl, ap, sym, ◌∙◌, arith}
-use Rattle.std.specs.Prelude.{nat_lt, slice_get, unwrap_or, if◌then◌else◌}
+use Rattle.std.specs.Prelude.{is_ok, nat_lt, slice_get, unwrap_or, if◌then◌else◌}
 use Rattle.std.proofs.lemmas.Bool.Decides.{nat_tests}
 use Rattle.apl_tokens.specs.declared.token.Token.{Token}
-use Rattle.apl_tokens.specs.declared.line.TokenError.{TokenError}
 use Rattle.apl_tokens.specs.declared.line.TokenError.TheVariants.{TooLong}
 use Rattle.apl_tokens.specs.declared.place.Place.TheVariants.{Start}
 use Rattle.apl_tokens.specs.Tokens.{Answer, tokens_of, balanced, pieces_of}
@@ -89,8 +88,11 @@ pub line_is : (d : Definition) (n : ℕ) (text : Text) → line_at d.lines n ≡
 line_is d n text is = number_case (n == 0) (slice_get d.lines (n - 1)) text is
 
 -- so no fault is found in it
-pub line_sound : (d : Definition) (n : ℕ) (text : Text) (e : TokenError) → IsDefined d → line_at d.lines n ≡ Some text → tokens_of text ≡ Err e → ⊥
-line_sound d n text e p is fault = let t = line_tokens d n text p is in let both = t.1 in cc
+pub line_sound : (d : Definition) (n : ℕ) (text : Text) → IsDefined d → line_at d.lines n ≡ Some text → is_ok (tokens_of text) ≡ false → ⊥
+line_sound d n text p is fault =
+    let t = line_tokens d n text p is in
+    let fine : is_ok (tokens_of text) ≡ true = ap is_ok t.1 in
+    cc
 
 pub more_not : (n m : ℕ) → m ≤ n → nat_lt n m ≡ false
 more_not n m h = grind (arith, nat_tests)
