@@ -4,5 +4,6 @@ pub mod Heads
 pub mod Named
 pub mod Headings
 pub mod Limits
+pub mod Colons
 pub mod Defined
 pub mod Canon

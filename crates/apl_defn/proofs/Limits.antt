@@ -1,16 +1,16 @@
--- What has few lines, and short ones.
-use Rattle.std.proofs.Common.{◌≡◌, ℕ, ◌+◌, ◌≤◌, Bool, true, false, List, ◌∷◌, ◌++◌, map, length, Option, Some, None, Ok, Err, refl, ap, sym, ◌∙◌, arith}
-use Rattle.std.specs.Prelude.{nat_lt, if◌then◌else◌}
+-- What has few lines, and short ones with tokens.
+use Rattle.std.proofs.Common.{◌≡◌, ℕ, zero, suc, ◌+◌, ◌-◌, ◌==◌, ◌≤◌, cond, Bool, true, false, List, [], ◌∷◌, ◌++◌, map, length, Option, Some, None, Ok, Err, refl, ap, sym, ◌∙◌, arith}
+use Rattle.std.specs.Prelude.{is_ok, nat_lt, slice_get, unwrap_or, if◌then◌else◌}
 use Rattle.std.proofs.lemmas.Bool.Decides.{nat_tests}
 use Rattle.apl_tokens.specs.declared.token.Token.{Token}
 use Rattle.apl_tokens.specs.declared.line.TokenError.TheVariants.{TooLong}
 use Rattle.apl_tokens.specs.declared.place.Place.TheVariants.{Start}
 use Rattle.apl_tokens.specs.Tokens.{Answer, tokens_of, balanced, pieces_of}
 use Rattle.apl_defn.specs.declared.error.DefnError.TheVariants as error
-use Rattle.apl_defn.specs.Definitions.{Text, Header, Definition}
+use Rattle.apl_defn.specs.Definitions.{Text, Header, Definition, line_of, line_at}
 use Rattle.apl_defn.specs.Headers.{names_of}
 use Rattle.apl_defn.specs.Reading.{are_distinct, head_of}
-use Rattle.apl_defn.specs.Defining.{first_fault, labels_from, all_names, once_each, made, with_lines, with_head, defined_of, IsDefined, IsWhole}
+use Rattle.apl_defn.specs.Defining.{fault_or, first_fault, labels_from, all_names, once_each, made, with_lines, with_head, defined_of, IsDefined, IsWhole}
 
 pub not_more : (n m : ℕ) → nat_lt n m ≡ false → m ≤ n
 not_more n m h = grind (arith, nat_tests)
@@ -54,6 +54,45 @@ defined_made first lines d e = head_case (head_of first) lines d e
 
 pub few_lines : (d : Definition) → IsDefined d → length d.lines ≤ 999
 few_lines d p = (defined_made p.0 d.lines d p.1).2.few
+
+-- each of its lines has tokens
+fault_case : (n : ℕ) (a : Answer) (later : Option ℕ) → fault_or a n later ≡ None → (later ≡ None) × ((ts : List Token) × (a ≡ Ok ts))
+fault_case n (Ok ts) later e = (e, (ts, refl))
+fault_case n (Err x) later e = cc
+
+tokens_at : (n : ℕ) (lines : List Text) (k : ℕ) (text : Text) → first_fault n lines ≡ None → slice_get lines k ≡ Some text → (ts : List Token) × (tokens_of text ≡ Ok ts)
+tokens_at n [] k text e is = cc
+tokens_at n (l ∷ ls) zero text e is =
+    let same : l ≡ text = cc in
+    let t = (fault_case n (tokens_of l) (first_fault (suc n) ls) e).1 in
+    (t.0, ap tokens_of (sym same) ∙ t.1)
+tokens_at n (l ∷ ls) (suc k) text e is = tokens_at (suc n) ls k text (fault_case n (tokens_of l) (first_fault (suc n) ls) e).0 is
+
+line_case : (b : Bool) (d : Definition) (n : ℕ) (text : Text) → first_fault 1 d.lines ≡ None → cond b None (slice_get d.lines (n - 1)) ≡ Some text → (ts : List Token) × (tokens_of text ≡ Ok ts)
+line_case true d n text e is = cc
+line_case false d n text e is = tokens_at 1 d.lines (n - 1) text e is
+
+pub line_tokens : (d : Definition) (n : ℕ) (text : Text) → IsDefined d → line_at d.lines n ≡ Some text → (ts : List Token) × (tokens_of text ≡ Ok ts)
+line_tokens d n text p is = line_case (n == 0) d n text (defined_made p.0 d.lines d p.1).2.whole is
+
+pub line_short : (d : Definition) (n : ℕ) (text : Text) → IsDefined d → line_at d.lines n ≡ Some text → length text ≤ 500
+line_short d n text p is = let t = line_tokens d n text p is in text_short text t.0 t.1
+
+-- a line that is there is the one of its number
+number_case : (b : Bool) (o : Option Text) (text : Text) → cond b None o ≡ Some text → unwrap_or o [] ≡ text
+number_case true o text is = cc
+number_case false None text is = cc
+number_case false (Some t) text is = cc
+
+pub line_is : (d : Definition) (n : ℕ) (text : Text) → line_at d.lines n ≡ Some text → line_of d n ≡ text
+line_is d n text is = number_case (n == 0) (slice_get d.lines (n - 1)) text is
+
+-- so no fault is found in it
+pub line_sound : (d : Definition) (n : ℕ) (text : Text) → IsDefined d → line_at d.lines n ≡ Some text → is_ok (tokens_of text) ≡ false → ⊥
+line_sound d n text p is fault =
+    let t = line_tokens d n text p is in
+    let fine : is_ok (tokens_of text) ≡ true = ap is_ok t.1 in
+    cc
 
 pub more_not : (n m : ℕ) → m ≤ n → nat_lt n m ≡ false
 more_not n m h = grind (arith, nat_tests)

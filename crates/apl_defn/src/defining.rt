@@ -8,11 +8,12 @@ ghost use Rattle.apl_defn.specs.Defining.{label_in, label_among, labelled, label
 
 use crate::definition::Definition;
 use crate::error::DefnError;
+use crate::line::tokens_in;
 use crate::parts::Header;
 use crate::reading::{are_distinct, head_of, name_in, names_of};
 use apl_charset::{Ch, Text};
 use apl_symbols::Name;
-use apl_tokens::{Token, TokenError, is_read, tokens};
+use apl_tokens::{Token, is_read};
 use std::alloc::{AllocError, Global};
 
 /// The most lines that a function has.
@@ -57,16 +58,16 @@ fn has_colon(text: &[Ch]) -> bool
 }
 
 /// The label of a line. Tokens are made only where a colon stands in it.
+#[tactic(auto, using(crate::proofs::Colons::no_label, crate::proofs::Colons::faulty_label))]
 fn label_of(alloc: Global, line: &[Ch]) -> Result<Option<Name>, AllocError>
     ensures { IfOk result (λ label. label ≡ label_among (tokens_of line.now)) }
 {
     if !has_colon(line) {
         return Ok(None);
     }
-    match tokens(alloc, line) {
-        Ok(tokens) => return Ok(label_in(&tokens)),
-        Err(TokenError::Memory) => return Err(AllocError),
-        Err(_) => return Ok(None),
+    match tokens_in(alloc, line)? {
+        Some(tokens) => return Ok(label_in(&tokens)),
+        None => return Ok(None),
     }
 }
 

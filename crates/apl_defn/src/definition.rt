@@ -4,10 +4,11 @@ ghost use Rattle.apl_tokens.specs.Tokens.{tokens_of};
 ghost use Rattle.apl_defn.specs.Definitions.{class_of, line_of, line_at};
 ghost use Rattle.apl_defn.specs.Defining.{IsDefined};
 
+use crate::line::tokens_in;
 use crate::parts::Header;
 use apl_charset::{Ch, Text};
 use apl_symbols::{Class, Name};
-use apl_tokens::{Token, TokenError, tokens};
+use apl_tokens::Token;
 use std::alloc::{AllocError, Global};
 use std::marker::Model;
 
@@ -86,7 +87,8 @@ impl Definition {
 
     /// Its lines.
     pub(crate) fn lines(&self) -> &[Text]
-        ensures { result.now ≡ self.now.lines }
+        ensures value { result.now ≡ self.now.lines }
+        ensures defined { IsDefined self.now }
     {
         self.lines.as_slice()
     }
@@ -113,10 +115,9 @@ impl Definition {
         let Some(line) = line_at(self.lines(), n) else {
             return Ok(None);
         };
-        match tokens(alloc, line.as_slice()) {
-            Ok(tokens) => return Ok(Some(tokens)),
-            Err(TokenError::Memory) => return Err(AllocError),
-            Err(_) => unreachable!(),
+        match tokens_in(alloc, line.as_slice())? {
+            Some(tokens) => return Ok(Some(tokens)),
+            None => unreachable!(),
         }
     }
 

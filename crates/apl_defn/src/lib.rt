@@ -6,6 +6,7 @@ mod defining;
 mod definition;
 mod error;
 mod laws;
+mod line;
 mod listing;
 mod name;
 mod parts;

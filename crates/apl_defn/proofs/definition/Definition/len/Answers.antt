@@ -1,7 +1,6 @@
 use Rattle.std.proofs.Common.{arith}
-use Rattle.std.proofs.lemmas.List.{length-map}
 use Rattle.apl_defn.proofs.Limits.{few_lines}
 use Rattle.apl_defn.proofs.definition.Definition.len.Goals as goal
 
 pub returns-clause-few : goal.returns-clause-few
-returns-clause-few c = let few = few_lines _ c.self.invariant in omega (arith, few, c.len.ensures, length-map c.self.inside.lines.items (λ l. l.text))
+returns-clause-few c = let few = few_lines _ c.self.invariant in omega (arith, few, c.len.ensures)
