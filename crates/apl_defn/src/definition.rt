@@ -1,5 +1,6 @@
 // Functions as they are defined.
-ghost use Rattle.std.specs.Prelude.{◌≡◌, ◌≤◌, length, Some, None, Ok, IfOk, IfSome, IfNone};
+ghost use Rattle.std.specs.Prelude.{◌≡◌, ◌≤◌, length, List, Some, None, Ok, IfOk, IfSome, IfNone};
+ghost use Rattle.apl_tokens.specs.declared.token.Token.{Token};
 ghost use Rattle.apl_tokens.specs.Tokens.{tokens_of};
 ghost use Rattle.apl_defn.specs.Definitions.{class_of, line_of, line_at};
 ghost use Rattle.apl_defn.specs.Defining.{IsDefined};
@@ -98,6 +99,9 @@ impl Definition {
         ensures none { IfNone result (line_at self.now.lines n ≡ None) }
         ensures value { IfSome result (λ text. line_at self.now.lines n ≡ Some text.now) }
         ensures short { IfSome result (λ text. length text.now ≤ 500) }
+        ensures line { IfSome result (λ text. line_at self.now.lines n ≡ Some (line_of self.now n)) }
+        // It has tokens.
+        ensures read { IfSome result (λ text. (tokens : List Token) × (tokens_of (line_of self.now n) ≡ Ok tokens)) }
     {
         match line_at(self.lines(), n) {
             Some(line) => return Some(line.as_slice()),
