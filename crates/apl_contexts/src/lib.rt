@@ -17,7 +17,7 @@ mod typed;
 
 pub use context::{Call, Context, Statement};
 pub use contexts::{Contexts, share_top};
-pub use fast::{FallBack, Way};
+pub use fast::{FallBack, Path};
 pub use lines::{Lines, TextLine, bound_text_line, function_line, text_line};
 pub use moves::Move;
 pub use stack::Stack;

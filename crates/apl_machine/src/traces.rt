@@ -62,7 +62,7 @@ fn traced<'a>(traces: &Vectors, call: Option<&'a Call>) -> Option<&'a Call>
     }
 }
 
-/// These lines, the first of them behind a front, which stands alone where there are none.
+/// These lines, the first of them behind a prefix, which stands alone where there are none.
 fn behind(mut front: Vec<Ch>, mut lines: Vec<Text>) -> Result<Vec<Text>, AllocError>
     ensures { IfOk result (λ out. out.items ≡ behind front.items lines.items) }
 {

@@ -14,7 +14,7 @@ pub enum ServeError {
     /// The reader failed. The answers to all requests before are written.
     #[error("the reader failed")]
     Read = 1,
-    /// The writer failed, or took no byte of some. A front of the answers is written.
+    /// The writer failed, or took no byte of some. A prefix of the answers is written.
     #[error("the writer failed, or took no byte")]
     Write = 2,
     /// So many requests were read, or so many bytes without a line feed: 18,446,744,073,709,551,615. The answers to all requests before are

@@ -11,7 +11,7 @@ use apl_devices::{Failed, Sink, Source, write_all};
 use apl_kept::Kept;
 use std::alloc::Global;
 
-/// Writes an answer. After an error a front of it is written.
+/// Writes an answer. After an error a prefix of it is written.
 fn write_answer<W: Sink>(writer: &mut W, answer: &[u8]) -> Result<(), ServeError>
     ensures wrote { Writes result answer.now W.tells (W.written writer.old) (W.written writer.new) }
     ensures writer { W.failed writer.new ≡ writer_failed result (W.failed writer.old) }
@@ -67,7 +67,7 @@ fn serve_one<R: Source, W: Sink>(
 /// feed counts. What a request may be, and what it is answered, docs/SERVE.md tells. Errors:
 ///
 /// - Read where the reader failed. The answers to all requests before are written.
-/// - Write where the writer failed or took no byte. The answers to all requests but the last that was read are written, and a front of
+/// - Write where the writer failed or took no byte. The answers to all requests but the last that was read are written, and a prefix of
 ///   the answer to that.
 /// - TooMany where 2^64 - 1 requests were read, or as many bytes without a line feed. The answers to all requests are written.
 ///
