@@ -15,7 +15,7 @@ use apl_faults::Fault;
 use apl_scalar::{ByFunction, Difference, Dyadic, Maximum, Minimum, Product, Scalar, Sum, grow};
 use std::alloc::{AllocError, Global};
 
-/// Writes the fronts of a line of numbers that lie side by side, while they are told, and answers how many.
+/// Writes the prefixes of a line of numbers that lie side by side, while they are told, and answers how many.
 fn tell_line<F: Scalar, K: Kept<F>>(
     numbers: &[i64],
     axis: Axis,
@@ -147,7 +147,7 @@ fn columns<F: Scalar, K: Kept<F>>(alloc: Global, count: usize) -> Result<Vec<K>,
     Ok(all)
 }
 
-/// Writes the first fronts, while they are told, and answers how many.
+/// Writes the first prefixes, while they are told, and answers how many.
 fn tell<F: Scalar, K: Kept<F>>(
     alloc: Global,
     numbers: &[i64],
@@ -201,7 +201,7 @@ fn fold_rest<F: Scalar>(
     Ok(())
 }
 
-/// All fronts, or the first fault.
+/// All prefixes, or the first fault.
 fn fronts_by<F: Scalar, K: Kept<F>>(
     alloc: Global,
     numbers: &[i64],
