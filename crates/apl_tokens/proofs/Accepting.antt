@@ -1,6 +1,6 @@
 -- Whether what is still to be read has tokens and closes its brackets.
 use Rattle.std.proofs.Common.{◌≡◌, ℕ, zero, suc, ◌+◌, ◌-◌, ◌<◌, ◌≤◌, ◌==◌, Bool, true, false, cond, List, [], ◌∷◌, map, length, drop, Option, Some, None, Ok, Err, refl, sym, ap, ◌∙◌, arith}
-use Rattle.std.specs.Prelude.{is_ok, is_none, nat_lt, if◌then◌else◌}
+use Rattle.std.specs.Prelude.{is_ok, is_none, nat_lt}
 use Rattle.std.proofs.lemmas.Bool.Decides.{nat_tests}
 use Rattle.std.proofs.lemmas.List.{nil_from_length, length-drop}
 use Rattle.apl_tokens.specs.declared.token.Kind.{Kind}
@@ -21,6 +21,8 @@ use Rattle.apl_tokens.specs.Reading.{Reading, run_len, next_at}
 use Rattle.apl_tokens.specs.Tokens.{Answer, token, after_blanks, with_token, from_reading, from_word, pieces_of, if_balanced, balanced, tokens_of}
 use Rattle.apl_tokens.specs.Measures.{measure_of, measured, place_behind, turned, unless_refused}
 use Rattle.apl_tokens.proofs.Steps.{front_len, word_le}
+use Rattle.apl_tokens.proofs.Classes.{is_blank_class, not_blank}
+use Rattle.apl_tokens.specs.Characters.{class_of, is_blank}
 use Rattle.apl_tokens.proofs.Sound.{next_front}
 
 -- what comes of the open brackets, if a token was not refused
@@ -208,6 +210,37 @@ one_deeper Neither open_ones new e = let same : open_ones ≡ new = cc in omega 
 one_deeper (Opens b) open_ones new e = let same : b ∷ open_ones ≡ new = cc in omega (arith, ap length same)
 one_deeper (Closes b) [] new e = absurd cc
 one_deeper (Closes b) (o ∷ open_ones) new e = one_less (same_bracket b o) o open_ones new e
+
+-- the blank in front is passed over
+blank_front : (c : ℕ) (after : List ℕ) (b : Bool) → is_blank (class_of c) ≡ b → b ≡ true → after_blanks (c ∷ after) ≡ after_blanks after
+blank_front c after b e t =
+    let one : 1 + run_len run.Blanks after ≡ suc (run_len run.Blanks after) = omega arith in
+    rw (e, t, one) refl
+
+word_front : (c : ℕ) (after : List ℕ) → is_blank (class_of c) ≡ false → after_blanks (c ∷ after) ≡ c ∷ after
+word_front c after e = rw e refl
+
+blank_round : (fuel end : ℕ) (place : Place) (c : ℕ) (after : List ℕ) → is_blank (class_of c) ≡ true → pieces_of fuel end place (c ∷ after) ≡ pieces_of fuel end place after
+unfolding pieces_of
+blank_round zero end place c after e = refl
+blank_round (suc n) end place c after e = ap (λ w. from_word end place w (λ p r. pieces_of n end p r)) (blank_front c after true e refl)
+
+pub passes : (text rest after : List ℕ) (c : ℕ) (open_ones : List Bracket) (place : Place) → Checks text open_ones place rest → rest ≡ c ∷ after → c ≡ 32 → Checks text open_ones place after
+passes text rest after c open_ones place k is blank =
+    let one : length rest ≡ suc (length after) = ap length is in
+    record {
+      fuel = k.fuel;
+      enough = omega (arith, one, k.enough);
+      same = ap (accepted open_ones) (sym (blank_round k.fuel (length text + 1) place c after (is_blank_class c blank)) ∙ ap (λ r. pieces_of k.fuel (length text + 1) place r) (sym is)) ∙ k.same;
+      room = omega (arith, one, k.room);
+    }
+
+-- another character begins a word
+pub word_is : (rest after : List ℕ) (c : ℕ) → rest ≡ c ∷ after → (c ≡ 32 → ⊥) → rest ≡ after_blanks rest
+word_is rest after c is other = is ∙ sym (ap after_blanks is ∙ word_front c after (not_blank c other))
+
+pub not_empty : (rest after : List ℕ) (c : ℕ) → rest ≡ c ∷ after → length rest ≡ 0 → ⊥
+not_empty rest after c is none = let one = ap length is in omega (arith, one, none)
 
 -- or taken
 pub goes_on : (text rest word after : List ℕ) (open_ones new : List Bracket) (place next : Place) (m : Measure) (b : Bool) → Checks text open_ones place rest → word ≡ after_blanks rest → (length word ≡ 0 → ⊥) → measured (next_at place word) ≡ Some m

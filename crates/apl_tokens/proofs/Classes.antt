@@ -8,7 +8,7 @@ use Rattle.apl_symbols.specs.Glyphs.{glyph_of, symbol_of, symbols}
 use Rattle.apl_symbols.proofs.Glyphs.{glyph_of_symbol, symbol_of_glyph}
 use Rattle.apl_tokens.specs.declared.class.Class.{Class}
 use Rattle.apl_tokens.specs.declared.class.Class.TheVariants as class
-use Rattle.apl_tokens.specs.Characters.{class_of, symbol_class, is_digit, is_quote}
+use Rattle.apl_tokens.specs.Characters.{class_of, symbol_class, is_blank, is_digit, is_quote}
 
 pub and_left : (a b : Bool) → (a && b) ≡ true → a ≡ true
 and_left true b h = refl
@@ -129,3 +129,21 @@ not_true false h = refl
 
 pub glyph_class : (s : Symbol) → class_of (glyph_of s) ≡ class.Symbol s
 glyph_class s = later_class (glyph_of s) (not_true _ (not_earlier s)) ∙ ap symbol_class (symbol_of_glyph s)
+
+-- the blank alone is blank
+pub is_blank_class : (c : ℕ) → c ≡ 32 → is_blank (class_of c) ≡ true
+unfolding class_of
+is_blank_class c e = rw e refl
+
+blank_case : (c : ℕ) (k : Class) → class_of c ≡ k → (c ≡ 32 → ⊥) → is_blank k ≡ false
+blank_case c class.Blank e other = absurd (other (eqb-true c 32 (of_class c class.Blank e)))
+blank_case c class.Digit e other = refl
+blank_case c class.Minus e other = refl
+blank_case c class.Quote e other = refl
+blank_case c class.Letter e other = refl
+blank_case c class.Lamp e other = refl
+blank_case c (class.Symbol symbol) e other = refl
+blank_case c class.Other e other = refl
+
+pub not_blank : (c : ℕ) → (c ≡ 32 → ⊥) → is_blank (class_of c) ≡ false
+not_blank c other = blank_case c (class_of c) refl other

@@ -1,6 +1,10 @@
 -- Runs of characters at the front.
 use Rattle.std.proofs.Common.{◌≡◌, ℕ, suc, ◌+◌, Bool, true, false, cond, List, [], ◌∷◌, ◌++◌, length, take, drop, get_or, refl, arith}
 use Rattle.std.specs.List.{list_all, prefix_len}
+use Rattle.apl_tokens.specs.declared.class.Class.TheVariants as class
+use Rattle.apl_tokens.specs.declared.reading.Run.TheVariants as run
+use Rattle.apl_tokens.specs.Characters.{class_of}
+use Rattle.apl_tokens.specs.Reading.{run_len}
 use Rattle.apl_tokens.proofs.Classes.{and_left, and_right}
 
 take_suc : (n c : ℕ) (cs : List ℕ) → take (1 + n) (c ∷ cs) ≡ c ∷ take n cs
@@ -36,3 +40,7 @@ stop_at p (c ∷ cs) h = rw h refl
 pub run_exact : (p : ℕ → Bool) (w after : List ℕ) → list_all p w ≡ true → p (get_or after 0 0) ≡ false → prefix_len p (w ++ after) ≡ length w
 run_exact p [] after all h = stop_at p after h
 run_exact p (c ∷ w) after all h = run_exact-case p c w after (p c) refl (and_left _ _ all) (run_exact p w after (and_right _ _ all) h)
+
+-- a letter before the rest of a name
+pub letter_more : (c : ℕ) (rest : List ℕ) → class_of c ≡ class.Letter → run_len run.Name (c ∷ rest) ≡ 1 + run_len run.Name rest
+letter_more c rest e = rw e refl

@@ -1,5 +1,5 @@
 -- What is needed of a token to read on behind it, and the brackets that are open.
-use Rattle.std.specs.Prelude.{◌≡◌, ℕ, Bool, true, false, List, [], ◌∷◌, Option, Some, None, Ok, Err, option_map, if◌then◌else◌}
+use Rattle.std.specs.Prelude.{ℕ, Bool, true, false, List, [], ◌∷◌, Option, Some, None, Ok, Err, option_map, if◌then◌else◌}
 use Rattle.apl_tokens.specs.declared.token.Kind.{Kind}
 use Rattle.apl_tokens.specs.declared.place.Place.{Place}
 use Rattle.apl_tokens.specs.declared.place.Place.TheVariants.{Start, Named, Inside}

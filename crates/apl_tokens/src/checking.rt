@@ -6,7 +6,6 @@ ghost use Rattle.apl_tokens.specs.Tokens.{tokens_of};
 use crate::brackets::{Bracket, Side};
 use crate::measuring::next_len;
 use crate::place::Place;
-use crate::reading::Run;
 use apl_charset::Ch;
 use std::marker::Model;
 
@@ -83,19 +82,20 @@ pub fn is_read(text: &[Ch]) -> bool
     let mut open = Open::none();
     let mut place = Place::Start;
     let mut rest = text;
-    loop {
-        let (_, word) = rest.split_at(Run::Blanks.len(rest));
-        if word.is_empty() {
-            return open.is_empty();
+    while let Some((first, behind)) = rest.split_first() {
+        if *first == Ch::default() {
+            rest = behind;
+            continue;
         }
-        let Some(measure) = next_len(place, word) else {
+        let Some(measure) = next_len(place, rest) else {
             return false;
         };
         if !open.turn(measure.side) {
             return false;
         }
         place = place.behind(measure.is_name);
-        let (_, after) = word.split_at(measure.len);
+        let (_, after) = rest.split_at(measure.len);
         rest = after;
     }
+    open.is_empty()
 }

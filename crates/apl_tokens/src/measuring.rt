@@ -1,5 +1,7 @@
 // How long the token at the front of a text is, without making it.
-ghost use Rattle.std.specs.Prelude.{◌≡◌, ◌<◌, ◌≤◌, length, false, IfSome};
+ghost use Rattle.std.specs.Prelude.{◌≡◌, ℕ, ◌<◌, ◌≤◌, ◌∷◌, length, false, IfSome};
+ghost use Rattle.apl_tokens.specs.declared.class.Class.TheVariants.{Letter};
+ghost use Rattle.apl_tokens.specs.Characters.{class_of};
 ghost use Rattle.apl_tokens.specs.Reading.{number_at, name_at, body_at, text_at, quad_at, symbol_at, next_at};
 ghost use Rattle.apl_tokens.specs.Measures.{measured, body_len};
 ghost use Rattle.apl_tokens.specs.declared.brackets.Side.TheVariants.{Neither};
@@ -59,12 +61,12 @@ fn number_len(negative: bool, rest: &[Ch]) -> Option<Measure>
     }
 }
 
-/// The name at the front.
-#[tactic(auto, unfolding(crate::specs::Reading::name_at))]
-fn name_len(rest: &[Ch]) -> Option<Measure>
-    ensures { result ≡ measured (name_at rest.now) }
+/// The name whose first character stands before `after`.
+fn name_len(after: &[Ch]) -> Option<Measure>
+    requires { length after.now < 1000 }
+    ensures { (c : ℕ) → class_of c ≡ Letter → result ≡ measured (name_at (c ∷ after.now)) }
 {
-    let len = Run::Name.len(rest);
+    let len = 1 + Run::Name.len(after);
     if len > MOST {
         return None;
     }
@@ -158,7 +160,7 @@ pub fn next_len(place: Place, rest: &[Ch]) -> Option<Measure>
         Class::Digit => number_len(false, rest),
         Class::Minus => number_len(true, after),
         Class::Quote => text_len(after),
-        Class::Letter => name_len(rest),
+        Class::Letter => name_len(after),
         Class::Lamp => Some(plain(1 + after.len())),
         Class::Symbol(symbol) => symbol_len(symbol, place, after),
         Class::Other | Class::Blank => None,
