@@ -6,4 +6,4 @@ pub mod Kept
 pub mod Nearest
 pub mod Standing
 pub mod Blamed
-pub mod Fast
+pub mod FastSteps

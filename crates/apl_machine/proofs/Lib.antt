@@ -26,4 +26,4 @@ pub mod Owned
 pub mod Silent
 pub mod ManySteps
 pub mod Stretched
-pub mod Fast
+pub mod FastSteps
