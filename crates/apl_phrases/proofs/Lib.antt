@@ -1,5 +1,5 @@
 pub mod Becoming
-mod NoCalls
+mod NoValues
 mod NoNumbers
 mod NumbersRead
 mod Elsewhere
