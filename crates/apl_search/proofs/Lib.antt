@@ -19,3 +19,4 @@ pub mod Reaches
 pub mod Loads
 pub mod Passes
 pub mod Sorts
+pub mod Mapped

@@ -1,13 +1,67 @@
-use Rattle.std.proofs.Common.{◌≡◌, ◌+◌, ◌-◌, ◌*◌, ◌<◌, ℕ, pos, drop, length, get_or, set, Ok, to_z, w64, subst, ap, sym, ◌∙◌, rules, arith}
+use Rattle.std.proofs.Common.{◌≡◌, ◌+◌, ◌-◌, ◌*◌, ◌<◌, ℕ, pos, drop, length, get_or, set, Ok, List, [], ℤ, to_z, of_z, w64, subst, refl, ap, sym, ◌∙◌, rules, arith}
 use mir.Syntax.{w128}
 use mir.Val.{SFits}
 use Rattle.std.proofs.lemmas.Int.{to_z-of_z}
+use Rattle.std.proofs.lemmas.List.{drop_all}
 use Rattle.apl_scalar.specs.Functions.{in_range, residue}
-use Rattle.apl_search.specs.Encoded.{left_of, left_by}
+use Rattle.apl_search.specs.Encoded.{left_of, left_by, IsNear}
 use Rattle.apl_search.specs.inside.Rows.{digit_in_row, HasDigits, KeepsBefore}
+use Rattle.apl_search.proofs.Digits.{row_below}
 use Rattle.apl_search.proofs.Rounded.{fits_near}
 use Rattle.apl_search.proofs.Rows.{rests_step, digit_here, digits_step, kept_step}
 use Rattle.apl_search.proofs.encoding.write_digits.Goals as goal
+
+-- where the digit of a row stands
+place_in_row : (rows bases numbers row place : ℕ) → rows ≡ bases * numbers → row < bases → place < numbers → row * numbers + place < rows
+place_in_row rows bases numbers row place e h p = omega (arith, row_below bases numbers row place h p)
+
+pub overflow_mul-digit : goal.overflow_mul-digit
+overflow_mul-digit c = record {
+  fits =
+      let below : c.loop-row.row - 1 < length c.args.bases.now = omega arith in
+      let there : (c.loop-row.row - 1) * length c.args.numbers.now + c.args.place < length c.loop-row.rows =
+      place_in_row (length c.loop-row.rows) (length c.args.bases.now) (length c.args.numbers.now) (c.loop-row.row - 1) c.args.place (c.loop-row.invariant.size ∙ c.requires.rows) below c.requires.place
+      in
+      omega arith;
+}
+
+pub overflow_add-digit : goal.overflow_add-digit
+overflow_add-digit c = record {
+  fits =
+      let below : c.loop-row.row - 1 < length c.args.bases.now = omega arith in
+      let there : (c.loop-row.row - 1) * length c.args.numbers.now + c.args.place < length c.loop-row.rows =
+      place_in_row (length c.loop-row.rows) (length c.args.bases.now) (length c.args.numbers.now) (c.loop-row.row - 1) c.args.place (c.loop-row.invariant.size ∙ c.requires.rows) below c.requires.place
+      in
+      omega arith;
+}
+
+pub offset_bounds-rows-row : goal.offset_bounds-rows-row
+offset_bounds-rows-row c = record {
+  fits =
+      let below : c.loop-row.row - 1 < length c.args.bases.now = omega arith in
+      let there : (c.loop-row.row - 1) * length c.args.numbers.now + c.args.place < length c.loop-row.rows =
+      place_in_row (length c.loop-row.rows) (length c.args.bases.now) (length c.args.numbers.now) (c.loop-row.row - 1) c.args.place (c.loop-row.invariant.size ∙ c.requires.rows) below c.requires.place
+      in
+      omega arith;
+}
+
+pub bounds-rows-row : goal.bounds-rows-row
+bounds-rows-row c =
+    let below : c.loop-row.row - 1 < length c.args.bases.now = omega arith in
+    place_in_row (length c.loop-row.rows) (length c.args.bases.now) (length c.args.numbers.now) (c.loop-row.row - 1) c.args.place (c.loop-row.invariant.size ∙ c.requires.rows) below c.requires.place
+
+pub loop-row-init : goal.loop-row-init
+loop-row-init c =
+    let fits : SFits w128 c.wide_at-rest.result = fits_near c.wide_at-rest.result c.wide_at-rest.ensures.near in
+    let same : to_z w128 (of_z w128 c.wide_at-rest.result) ≡ c.wide_at-rest.result = to_z-of_z w128 c.wide_at-rest.result fits in
+    let none : drop (length c.args.bases.now) c.args.bases.now ≡ [] = drop_all (length c.args.bases.now) c.args.bases.now (omega arith) in
+    record {
+      rest = same ∙ c.wide_at-rest.ensures.value ∙ ap (λ (zs : List ℤ). left_by zs (get_or c.args.numbers.now c.args.place (pos 0))) (sym none);
+      near = subst IsNear (sym same) c.wide_at-rest.ensures.near;
+      size = refl;
+      digits = λ row above below. absurd (omega (arith, above, below));
+      kept = λ row i h. refl;
+    }
 
 pub loop-row-preserved : goal.loop-row-preserved
 loop-row-preserved c =
