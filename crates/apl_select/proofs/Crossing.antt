@@ -14,12 +14,6 @@ use Rattle.apl_select.proofs.Lists.{all_imply, all_flat, all_mapped, rest_from}
 use Rattle.apl_select.proofs.Laying.{length_small}
 use Rattle.apl_select.proofs.Reaching.{on_axis_at, length_on_axes, bound-append}
 
-pub taken_more : {A : Type 0} (h : ℕ → A) (base out new : List A) (xs : List ℕ) (i : ℕ) → i < length xs → out ≡ base ++ map h (take i xs) → new ≡ out ++ h (get_or xs i 0) ∷ [] → new ≡ base ++ map h (take (i + 1) xs)
-taken_more h base out new xs i l e g =
-    g ∙ ap (λ z. z ++ h (get_or xs i 0) ∷ []) e ∙ append_assoc base (map h (take i xs)) (h (get_or xs i 0) ∷ [])
-    ∙ ap (λ z. base ++ z) (sym (map-append h (take i xs) (get_or xs i 0 ∷ [])))
-    ∙ ap (λ z. base ++ map h z) (sym (take_more xs i 0 l))
-
 crossed_next : (starts places : List ℕ) (n i : ℕ) → i < length starts → crossed (take (i + 1) starts) n places ≡ crossed (take i starts) n places ++ map (λ k. get_or starts i 0 * n + k) places
 crossed_next starts places n i l =
     ap (λ z. crossed z n places) (take_more starts i 0 l)

@@ -158,6 +158,14 @@ plane_single {A = A} e first (o ∷ places) = ap (λ (x : A). x ∷ plane_of e f
     one None = refl
     one (Some k) = ap (λ (n : ℕ). Some n) (turn first k)
 
+-- the places of a plane are near
+pub near_plane : (t m p : ℕ) (places : List (Option ℕ)) → p < t → t * m < 2 ^ 62 → All (IsBelow m) places → All (λ o. IsBelow (2 ^ 63) (option_map (λ k. p * m + k) o)) places
+near_plane t m p places l e a = all_imply (IsBelow m) (λ o. IsBelow (2 ^ 63) (option_map (λ k. p * m + k) o)) each places a
+  where
+    each : (o : Option ℕ) → IsBelow m o → IsBelow (2 ^ 63) (option_map (λ k. p * m + k) o)
+    each None h = tt
+    each (Some k) h = let row : (p + 1) * m ≤ t * m = mul-le-mul_right m (omega arith) in omega arith
+
 -- the places of a plane lie within the whole
 pub within_plane : (t m b p n : ℕ) (places : List (Option ℕ)) → p < t → n ≡ t * (m * b) → All (IsBelow m) places → All (λ o. IsBelow (n + 1) (option_map (λ k. (p * m + k) * b + b) o)) places
 within_plane t m b p n places l e a = all_imply (IsBelow m) (λ o. IsBelow (n + 1) (option_map (λ k. (p * m + k) * b + b) o)) each places a

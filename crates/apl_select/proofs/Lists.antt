@@ -1,8 +1,8 @@
 -- Lists made of lists.
-use Rattle.std.proofs.Common.{zero, suc, ◌≡◌, ℕ, ◌+◌, ◌<◌, List, [], ◌∷◌, ◌++◌, map, length, get_or, refl, ap, sym, ◌∙◌, arith, append-nil, add-one, drop, drop-cons}
+use Rattle.std.proofs.Common.{zero, suc, ◌≡◌, ℕ, ◌+◌, ◌<◌, List, [], ◌∷◌, ◌++◌, map, length, get_or, refl, ap, sym, ◌∙◌, arith, append-nil, append_assoc, add-one, drop, drop-cons, take}
 use Rattle.std.specs.List.{flat_map, range_with_len, AllByRecursion, All}
 use Rattle.std.proofs.lemmas.Grind.{flat_map-append}
-use Rattle.std.proofs.lemmas.List.{map-append}
+use Rattle.std.proofs.lemmas.List.{map-append, take_more}
 use Rattle.std.proofs.lemmas.List.FromFn.{fill_by_all}
 use Rattle.std.proofs.lemmas.List.Elements.{All-append, All-nil, All-cons, All-get_or, All-tail}
 
@@ -98,3 +98,18 @@ all_from P (x ∷ xs) a = All-cons P x xs a.0 (all_from P xs a.1)
 -- the items from one on
 pub rest_from : {A : Type 0} (xs : List A) (k : ℕ) (d : A) → k < length xs → drop k xs ≡ get_or xs k d ∷ drop (k + 1) xs
 rest_from xs k d h = rw (add-one, drop-cons xs k d)
+
+-- one item more of what is put behind a list
+pub map_next : {A B : Type 0} (h : B → A) (base out new : List A) (xs : List B) (i : ℕ) (d : B) → i < length xs → out ≡ base ++ map h (take i xs) → new ≡ out ++ h (get_or xs i d) ∷ [] → new ≡ base ++ map h (take (i + 1) xs)
+map_next h base out new xs i d l e g =
+    g ∙ ap (λ z. z ++ h (get_or xs i d) ∷ []) e ∙ append_assoc base (map h (take i xs)) (h (get_or xs i d) ∷ [])
+    ∙ ap (λ z. base ++ z) (sym (map-append h (take i xs) (get_or xs i d ∷ [])))
+    ∙ ap (λ z. base ++ map h z) (sym (take_more xs i d l))
+
+-- the items of one list more
+pub flat_next : {A B : Type 0} (f : B → List A) (base out new : List A) (xs : List B) (i : ℕ) (d : B) → i < length xs → out ≡ base ++ flat_map f (take i xs) → new ≡ out ++ f (get_or xs i d) → new ≡ base ++ flat_map f (take (i + 1) xs)
+flat_next {A = A} f base out new xs i d l e g =
+    g ∙ ap (λ z. z ++ f (get_or xs i d)) e ∙ append_assoc base (flat_map f (take i xs)) (f (get_or xs i d))
+    ∙ ap (λ (z : List A). base ++ (flat_map f (take i xs) ++ z)) (sym (append-nil (f (get_or xs i d))))
+    ∙ ap (λ z. base ++ z) (sym (flat_map-append f (take i xs) (get_or xs i d ∷ [])))
+    ∙ ap (λ z. base ++ flat_map f z) (sym (take_more xs i d l))

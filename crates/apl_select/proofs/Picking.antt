@@ -1,8 +1,8 @@
 -- What slots pick lies on the axes.
-use Rattle.std.proofs.Common.{zero, suc, ◌≡◌, ℕ, ℤ, pos, negsuc, ◌+◌, ◌-◌, ◌*◌, ◌<◌, ◌&&◌, Bool, true, false, nat_lt, nat_le, cond, List, [], ◌∷◌, ◌++◌, take, drop, length, get_or, refl, ap, sym, ◌∙◌, arith, add-one, Option, Result, Ok, Err}
+use Rattle.std.proofs.Common.{zero, suc, ◌≡◌, ℕ, ℤ, pos, negsuc, ◌+◌, ◌-◌, ◌*◌, ◌<◌, ◌≤◌, ◌&&◌, Bool, true, false, nat_lt, nat_le, cond, List, [], ◌∷◌, ◌++◌, take, drop, length, get_or, refl, ap, sym, ◌∙◌, arith, add-one, append-nil, Option, Result, Ok, Err}
 use Rattle.std.specs.List.{range_with_len, All}
 use Rattle.std.proofs.lemmas.Bool.{ltb-true}
-use Rattle.std.proofs.lemmas.List.{length-map}
+use Rattle.std.proofs.lemmas.List.{drop_all, length-map}
 use Rattle.std.proofs.lemmas.List.Elements.{All-nil, All-cons}
 use Rattle.std.proofs.lemmas.List.FromFn.{length-range_with_len}
 use Rattle.apl_faults.specs.declared.fault.Fault.{Fault}
@@ -71,6 +71,10 @@ picked_step shape slots k origin d p ps news h g e f =
     ap (λ l. after l (all_picked (drop (k + 1) shape) origin (drop (k + 1) slots))) f
     ∙ after_one ps p (all_picked (drop (k + 1) shape) origin (drop (k + 1) slots))
     ∙ sym (ap (after ps) (picked_rest shape slots k origin d h g ∙ ap (λ r. and_then r (λ p. ok_map (λ ps. p ∷ ps) (all_picked (drop (k + 1) shape) origin (drop (k + 1) slots)))) e))
+
+-- the end of all axes
+pub picked_end : (shape : List ℕ) (slots : List (Option Arr)) (k origin : ℕ) (ps : List Places) → length shape ≤ k → after ps (all_picked (drop k shape) origin (drop k slots)) ≡ Ok ps
+picked_end shape slots k origin ps h = ap (λ (s : List ℕ). after ps (all_picked s origin (drop k slots))) (drop_all k shape h) ∙ ap (λ (l : List Places). Ok l) (append-nil ps)
 
 pub picked_fault : (shape : List ℕ) (slots : List (Option Arr)) (k origin : ℕ) (d : Option Arr) (x : Fault) (ps : List Places) → k < length shape → k < length slots →
     picked_by (get_or shape k 0) origin (get_or slots k d) ≡ Err x → after ps (all_picked (drop k shape) origin (drop k slots)) ≡ Err x

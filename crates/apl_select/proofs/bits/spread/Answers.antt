@@ -1,6 +1,9 @@
-use Rattle.std.proofs.Common.{◌≡◌, pos, ◌+◌, ◌++◌, ◌∷◌, [], get_or, ap, sym, ◌∙◌, true, false, Some}
-use Rattle.std.proofs.lemmas.List.Sums.{count_by_more_yes, count_by_more_no}
-use Rattle.apl_select.specs.Compress.{is_one}
+use Rattle.std.proofs.Common.{◌≡◌, pos, ◌+◌, ◌++◌, ◌∷◌, [], get_or, ap, sym, ◌∙◌, true, false, Some, ℕ, ◌≤◌, length, map, take, arith}
+use Rattle.std.proofs.lemmas.List.Sums.{count_by_more_yes, count_by_more_no, count_by-le-length}
+use Rattle.apl_select.specs.Compress.{is_one, spread_at}
+use Rattle.std.specs.Prelude.{count_by}
+use Rattle.std.specs.List.{range_with_len}
+use Rattle.std.proofs.lemmas.List.{length-take-le}
 use Rattle.apl_select.proofs.Choosing.{spread_no, spread_yes}
 use Rattle.apl_select.proofs.bits.spread.Goals as goal
 
@@ -21,3 +24,16 @@ loop-k-preserved c =
           spread_yes c.args.bits.now c.args.len c.loop-k.k c.loop-k.next c.loop-k.places.items c.push-in-loop-k.new.self.items c.loop-k.invariant.next c.loop-k.invariant.places
           (c.in_ok-push-2.ensures.items ∙ ap (λ j. c.loop-k.places.items ++ Some j ∷ []) c.extended.ensures) bit;
     }
+
+pub overflow_add-next : goal.overflow_add-next
+overflow_add-next c = record {
+  fits =
+      let few : count_by is_one (take c.loop-k.k c.args.bits.now) ≤ length (take c.loop-k.k c.args.bits.now) = count_by-le-length is_one (take c.loop-k.k c.args.bits.now) in
+      let short : length (take c.loop-k.k c.args.bits.now) ≡ c.loop-k.k = length-take-le c.loop-k.k c.args.bits.now (omega arith) in
+      omega (arith, c.loop-k.invariant.next, few, short);
+}
+
+pub returns : goal.returns
+returns c =
+    let all : c.loop-k.k ≡ length c.args.bits.now = omega arith in
+    c.loop-k.invariant.places ∙ ap (λ (n : ℕ). map (spread_at c.args.bits.now c.args.len) (range_with_len 0 n)) all

@@ -1,4 +1,4 @@
-use Rattle.std.proofs.Common.{zero, suc, ◌≡◌, ℕ, ℤ, ◌<◌, List, [], ◌∷◌, length, get_or, refl, ap, sym, ◌∙◌, arith, Option, Result, Ok, Err}
+use Rattle.std.proofs.Common.{zero, suc, ◌≡◌, ℕ, ℤ, ◌<◌, List, [], ◌∷◌, length, get_or, refl, ap, sym, ◌∙◌, arith, Option, Result, Ok, Err, ◌≤◌, ◌*◌, subst, max}
 use Rattle.apl_faults.specs.declared.fault.Fault.{Fault}
 use Rattle.apl_arrays.specs.declared.stop.Stop.{Stop}
 use Rattle.apl_arrays.specs.Answers.{FaultsFirst}
@@ -8,8 +8,15 @@ use Rattle.apl_arrays.specs.Left.{listed}
 use Rattle.apl_arrays.specs.Results.{and_then, ok_map}
 use Rattle.apl_select.specs.Compress.{bits_of, common_count, compressed_along, kept, places_kept}
 use Rattle.apl_select.specs.Lined.{laid_within}
+use Rattle.apl_arrays.specs.Index.{bound_of, size_of}
 use Rattle.apl_select.proofs.Choosing.{kept_below}
 use Rattle.apl_select.proofs.compression.compress_along.Goals as goal
+
+once : (n : ℕ) → n * 1 ≡ n
+once n = omega arith
+
+few_bits : (n : ℕ) → max n 1 * 1 ≤ 1000000 → n ≤ 1000000
+few_bits n h = omega arith
 
 pub laid-requires-clause-places : goal.laid-requires-clause-places
 laid-requires-clause-places c =
@@ -48,3 +55,14 @@ returns-then-is_bit_each c =
           c.in_ok-kept_of_vector.ensures;
       at_once = no_fault_at _ _ _ p;
     }
+
+pub kept_of_vector-requires-clause-each : goal.kept_of_vector-requires-clause-each
+kept_of_vector-requires-clause-each c = c.requires.full ∙ ap size_of (c.if-is_bit_each.ensures.shape refl) ∙ once (length c.in_ok-bits.bits.now)
+
+pub kept_of_vector-requires-clause-few : goal.kept_of_vector-requires-clause-few
+kept_of_vector-requires-clause-few c =
+    let P : List ℕ → Type 0 = λ s. bound_of s ≤ 1000000 in
+    few_bits (length c.in_ok-bits.bits.now) (subst P (c.if-is_bit_each.ensures.shape refl) c.requires.small)
+
+pub laid-requires-clause-full : goal.laid-requires-clause-full
+laid-requires-clause-full c = c.requires.full

@@ -1,4 +1,4 @@
-use Rattle.std.proofs.Common.{◌≡◌, ℕ, List, length, ap, sym, ◌∙◌, Result, Ok}
+use Rattle.std.proofs.Common.{◌≡◌, ℕ, List, length, ap, sym, ◌∙◌, Result, Ok, Err, subst}
 use Rattle.apl_faults.specs.declared.fault.Fault.{Fault}
 use Rattle.apl_arrays.specs.Cells.{Arr, Items, cells_of}
 use Rattle.apl_arrays.specs.Checks.{limited}
@@ -8,9 +8,15 @@ use Rattle.apl_arrays.specs.Ravels.{items_of}
 use Rattle.apl_arrays.specs.Results.{and_then, ok_map}
 use Rattle.apl_arrays.specs.Views.{selected}
 use Rattle.apl_arrays.proofs.Order.{length-indices}
-use Rattle.apl_select.specs.Indexing.{Places, items_led_to, joined_shape, led_to, slots_of}
+use Rattle.apl_select.specs.Indexing.{Places, items_led_to, joined_shape, led_to, slots_of, slots_fit}
+use Rattle.apl_arrays.specs.declared.stop.Stop.{Stop}
+use Rattle.apl_arrays.specs.Answers.{FaultsFirst}
 use Rattle.apl_select.proofs.Indexes.{length-picked, index_shaped}
 use Rattle.apl_select.proofs.indexing.elements_led_to.Goals as goal
+
+fault_or_not : {A B C : Type 0} (m : Result A Fault) (r : Result B Stop) (x : B) (y : C) → r ≡ Ok x → FaultsFirst m r → FaultsFirst m (Ok y)
+fault_or_not (Ok a) r x y e h = tt
+fault_or_not (Err f) r x y e h = absurd (cc)
 
 pub in_shape-requires-clause-full : goal.in_shape-requires-clause-full
 in_shape-requires-clause-full c =
@@ -32,3 +38,11 @@ returns-clause-value c =
     ap (λ (m : Result (List Places) Fault). and_then m (λ ps. ok_map (λ s. selected c.args.b.now s (led_to ps)) (limited (joined_shape ps))))
     (ap (λ (a : Arr). slots_of a c.args.origin c.args.slots.now) (sym c.lend.ensures) ∙ c.in_ok-picks.ensures.value)
     ∙ index_shaped c.args.b.now c.in_ok-picks.picks.items c.as_slice-5.result.now (items_of c.in_ok-ravel.ravel) c.in_shape.result shape items fits c.in_shape.ensures
+
+pub returns-clause-at_once : goal.returns-clause-at_once
+returns-clause-at_once c =
+    let P : Arr → Type 0 = λ a. FaultsFirst (slots_fit a c.args.slots.now) c.picks_of.result in
+    fault_or_not (slots_fit c.args.b.now c.args.slots.now) c.picks_of.result c.in_ok-picks.picks c.in_shape.result c.in_ok-picks.was (subst P c.lend.ensures c.picks_of.ensures.at_once)
+
+pub read_items-requires-clause-full : goal.read_items-requires-clause-full
+read_items-requires-clause-full c = ap (λ (t : Items). length (cells_of t)) c.items.ensures.value ∙ c.items.ensures.full ∙ sym (ap size_of c.shape.ensures.value)

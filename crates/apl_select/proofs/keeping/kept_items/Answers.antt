@@ -1,6 +1,17 @@
-use Rattle.std.proofs.Common.{◌≡◌, ◌<◌, length, vec_len, arith, rules}
+use Rattle.std.proofs.Common.{◌≡◌, ◌<◌, length, vec_len, arith, rules, ◌≤◌, ◌+◌, ◌^◌, ℕ, ℤ, List, map, take, ap, sym, ◌∙◌}
+use Rattle.std.specs.Prelude.{count_by}
+use Rattle.std.proofs.lemmas.List.{take_all}
+use Rattle.std.proofs.lemmas.List.Sums.{count_by-le-length}
+use Rattle.apl_select.specs.Compress.{is_one, kept}
+use Rattle.apl_select.specs.Lined.{item_or}
 use Rattle.apl_select.proofs.NextPlace.{count_within, kept_step, next_step}
 use Rattle.apl_select.proofs.keeping.kept_items.Goals as goal
+
+few_bits : (n m : ℕ) → n ≡ m → m ≤ 1000000 → n ≤ 1000000
+few_bits n m e h = omega arith
+
+few_fit : (a b c n : ℕ) → a ≡ b → b ≤ c → c ≤ n → n ≤ 1000000 → a < 2 ^ 64
+few_fit a b c n e h k l = omega arith
 
 pub loop-k-preserved : goal.loop-k-preserved
 loop-k-preserved g c =
@@ -14,3 +25,33 @@ loop-k-preserved g c =
           kept_step c.args.fill c.args.raw.now c.loop-k.out.items c.args.bits.now c.loop-k.k c.loop-k.next c.step-next.result c.index-raw-k.result c.loop-k-test.true c.requires.each room c.index-raw-k.is
           c.step-next.ensures c.loop-k.invariant.so_far;
     }
+
+pub overflow_add-next : goal.overflow_add-next
+overflow_add-next g c = record {
+  fits =
+      let next : c.loop-k.next + c.step-next.result ≡ count_by is_one (take (c.loop-k.k + 1) c.args.bits.now) =
+      next_step c.args.bits.now c.loop-k.k c.loop-k.next c.step-next.result c.loop-k-test.true c.step-next.ensures c.loop-k.invariant.next
+      in
+      few_fit (c.loop-k.next + c.step-next.result) _ _ _ next (count_within c.args.bits.now (c.loop-k.k + 1)) (count_by-le-length is_one c.args.bits.now) (few_bits (length c.args.bits.now) (length c.args.raw.now) c.requires.each c.requires.few);
+}
+
+pub returns : goal.returns
+returns g c =
+    let all : c.loop-k.k ≡ length c.args.bits.now = omega arith in
+    let counted : c.loop-k.next ≡ c.count_ones-count.result =
+    c.loop-k.invariant.next ∙ ap (λ (zs : List ℤ). count_by is_one zs) (take_all c.loop-k.k c.args.bits.now c.loop-k-test.false) ∙ sym c.count_ones-count.ensures
+    in
+    c.truncate.ensures.items
+    ∙ ap (λ (n : ℕ). take n c.loop-k.out.items) (sym counted)
+    ∙ c.loop-k.invariant.so_far
+    ∙ ap (λ (n : ℕ). map (item_or c.args.fill c.args.raw.now) (kept c.args.bits.now (length c.args.bits.now) n)) all
+
+pub index_mut-requires : goal.index_mut-requires
+index_mut-requires g c = omega (arith, c.loop-k.invariant.size, c.loop-k.invariant.next, count_within c.args.bits.now c.loop-k.k, c.count_ones-count.ensures)
+
+pub overflow_add-count : goal.overflow_add-count
+overflow_add-count g c = record {
+  fits =
+      let within : count_by is_one c.args.bits.now ≤ length c.args.bits.now = count_by-le-length is_one c.args.bits.now in
+      omega (arith, within, c.count_ones-count.ensures);
+}

@@ -1,8 +1,9 @@
-use Rattle.std.proofs.Common.{◌*◌, ◌++◌, length, ap, sym, ◌∙◌}
-use Rattle.apl_select.specs.inside.Laying.{plane_of}
+use Rattle.std.proofs.Common.{◌*◌, ◌++◌, length, ap, sym, ◌∙◌, ◌≡◌, ℕ, arith}
+use Rattle.apl_select.specs.inside.Laying.{plane_of, planes_of}
 use Rattle.apl_select.specs.Lined.{item_or}
+use Rattle.std.proofs.Math.Nat.{mul-le-mul_right}
 use Rattle.apl_select.proofs.Lists.{flat_map_more}
-use Rattle.apl_select.proofs.Laying.{within_plane}
+use Rattle.apl_select.proofs.Laying.{within_plane, near_plane}
 use Rattle.apl_select.proofs.lay.lay_planes.Goals as goal
 
 pub lay_plane-requires-clause-within : goal.lay_plane-requires-clause-within
@@ -14,3 +15,14 @@ loop-plane-preserved g c =
     c.in_ok-lay_plane.ensures
     ∙ ap (λ l. l ++ plane_of (item_or c.args.fill c.args.raw.now) (c.loop-plane.plane * c.args.layout.length) c.args.layout.block c.args.places.now) c.loop-plane.invariant
     ∙ sym (flat_map_more (λ p. plane_of (item_or c.args.fill c.args.raw.now) (p * c.args.layout.length) c.args.layout.block c.args.places.now) c.loop-plane.plane)
+
+pub lay_plane-requires-clause-near : goal.lay_plane-requires-clause-near
+lay_plane-requires-clause-near g c = near_plane c.args.layout.planes c.args.layout.length c.loop-plane.plane c.args.places.now c.loop-plane-test.true c.requires.near c.requires.places
+
+pub returns : goal.returns
+returns g c =
+    let all : c.loop-plane.plane ≡ c.args.layout.planes = omega arith in
+    c.loop-plane.invariant ∙ ap (λ (n : ℕ). planes_of (item_or c.args.fill c.args.raw.now) c.args.layout.length c.args.layout.block c.args.places.now n) all
+
+pub overflow_mul-plane : goal.overflow_mul-plane
+overflow_mul-plane g c = record { fits = omega (arith, c.requires.near, mul-le-mul_right {m = c.loop-plane.plane} {n = c.args.layout.planes} c.args.layout.length (omega arith)) }

@@ -1,7 +1,6 @@
 use Rattle.std.proofs.Common.{◌+◌, ◌<◌, ◌++◌, ◌∷◌, [], map, length, get_or, arith, ap, ◌∙◌}
 use Rattle.std.proofs.lemmas.List.{get_or_default, take_all}
-use Rattle.apl_select.proofs.Lists.{all_at}
-use Rattle.apl_select.proofs.Crossing.{taken_more}
+use Rattle.apl_select.proofs.Lists.{all_at, map_next}
 use Rattle.apl_select.proofs.reach.gather_line.Goals as goal
 
 pub overflow_add-first : goal.overflow_add-first
@@ -17,7 +16,7 @@ pub loop-place-preserved : goal.loop-place-preserved
 loop-place-preserved g c =
     let below : c.args.first + get_or c.args.places.now c.loop-place.place-index 0 < length c.args.raw.now =
     all_at (λ q. q < length c.args.raw.now) (λ k. c.args.first + k) c.args.places.now c.loop-place.place-index 0 c.loop-place-test.true c.requires.within in
-    λ d. taken_more (λ k. get_or c.args.raw.now (c.args.first + k) d) c.args.out.now.items c.loop-place.out.items c.push.new.self.items c.args.places.now c.loop-place.place-index c.loop-place-test.true
+    λ d. map_next (λ k. get_or c.args.raw.now (c.args.first + k) d) c.args.out.now.items c.loop-place.out.items c.push.new.self.items c.args.places.now c.loop-place.place-index 0 c.loop-place-test.true
     (c.loop-place.invariant d)
     (c.in_ok-push.ensures.items
     ∙ ap (λ x. c.loop-place.out.items ++ x ∷ []) (c.index-raw-first.is ∙ get_or_default c.args.raw.now (c.args.first + get_or c.args.places.now c.loop-place.place-index 0) c.index-raw-first.result d below))
