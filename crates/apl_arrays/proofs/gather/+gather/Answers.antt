@@ -63,3 +63,12 @@ returns-after-loop-i g t c = λ d.
     sym (rows_end (λ i. get_or c.args.raw.now (place_at c.args.at (first_axis c.args.axes.now ∷ other_axes c.args.axes.now) i) d) (lengths (other_axes c.args.axes.now)) c.loop-i.i (first_axis c.args.axes.now).length c.loop-i.out.items (omega arith))
     ∙ c.loop-i.invariant d
     ∙ ap (λ xs. c.args.out.now.items ++ map (λ i. get_or c.args.raw.now (place_at c.args.at xs i) d) (indices (lengths xs))) (sym (parts c.args.axes.now (omega arith)))
+
+pub gather_line-requires-clause-near : goal.gather_line-requires-clause-near
+gather_line-requires-clause-near g t c = near_axis c.args.at (first_axis c.args.axes.now) (other_axes c.args.axes.now) _ (rw (parts c.args.axes.now (omega arith)) at c.requires.near)
+
+pub gather_fours-requires-clause-near : goal.gather_fours-requires-clause-near
+gather_fours-requires-clause-near g t c = rw (parts c.args.axes.now (omega arith)) at c.requires.near
+
+pub loop-i-init : goal.loop-i-init
+loop-i-init g t c = λ d. c.in_ok-begun-in-len1-up.ensures.rows d
