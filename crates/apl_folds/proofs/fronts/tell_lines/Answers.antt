@@ -1,5 +1,6 @@
 use Rattle.std.proofs.Common.{arith, ◌≡◌, ◌*◌, ◌/◌, length, ap, ◌∙◌}
 use Rattle.apl_folds.proofs.ByPlaces.{line_begins, all_lines}
+use Rattle.apl_folds.proofs.Rows.{whole_row}
 use Rattle.apl_folds.proofs.fronts.tell_lines.Goals as goal
 
 pub tell_line-told-requires-clause-line : goal.tell_line-told-requires-clause-line
@@ -11,3 +12,17 @@ returns-clause-fronts g c =
     let all : c.loop-line.line ≡ length c.args.numbers.now / c.args.axis.length = omega arith in
     let whole : c.loop-line.line * c.args.axis.length ≡ length c.args.numbers.now = ap (λ m. m * c.args.axis.length) all ∙ all_lines c.args.numbers.now c.args.axis c.requires.whole c.requires.beside in
     c.loop-line.invariant.fronts q (omega arith)
+
+pub overflow_mul-from : goal.overflow_mul-from
+overflow_mul-from g c = record {
+  fits =
+      let row = whole_row (length c.args.numbers.now) c.args.axis.length c.loop-line.line c.loop-line-test.true in
+      omega (arith, row);
+}
+
+pub overflow_add-result : goal.overflow_add-result
+overflow_add-result g c = record {
+  fits =
+      let row = whole_row (length c.args.numbers.now) c.args.axis.length c.loop-line.line c.loop-line-test.true in
+      omega (arith, row, c.tell_line-told.ensures.few);
+}

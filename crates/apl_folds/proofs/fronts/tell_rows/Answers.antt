@@ -1,6 +1,7 @@
 use Rattle.std.proofs.Common.{arith, ◌≡◌, ◌<◌, ◌+◌, ◌*◌, ◌/◌, ◌%◌, ℕ, ℤ, List, length, get_or, ap, subst, ◌∙◌}
 use Rattle.apl_folds.specs.inside.Fronts.{index_along}
 use Rattle.apl_folds.proofs.ByPlaces.{before_step, index_in_row, all_rows}
+use Rattle.apl_folds.proofs.Rows.{whole_row}
 use Rattle.apl_folds.proofs.fronts.tell_rows.Goals as goal
 
 next_row : (r w : ℕ) → (r + 1) * w ≡ r * w + w
@@ -29,3 +30,22 @@ returns-clause-fronts g c =
     let all : c.loop-row.row ≡ length c.args.numbers.now / c.args.axis.up = omega arith in
     let whole : c.loop-row.row * c.args.axis.up ≡ length c.args.numbers.now = ap (λ m. m * c.args.axis.up) all ∙ all_rows c.args.numbers.now c.args.axis c.requires.whole in
     c.loop-row.invariant.fronts q (omega arith)
+
+pub overflow_mul-result : goal.overflow_mul-result
+overflow_mul-result g c = record {
+  fits =
+      let row = whole_row (length c.args.numbers.now) c.args.axis.up c.loop-row.row c.loop-row-test.true in
+      omega (arith, row);
+}
+
+pub overflow_add-result : goal.overflow_add-result
+overflow_add-result g c = record {
+  fits =
+      let row = whole_row (length c.args.numbers.now) c.args.axis.up c.loop-row.row c.loop-row-test.true in
+      omega (arith, row, c.tell_row-told.ensures.few);
+}
+
+pub returns-then-told-axis-clause-few : goal.returns-then-told-axis-clause-few
+returns-then-told-axis-clause-few g c =
+    let row = whole_row (length c.args.numbers.now) c.args.axis.up c.loop-row.row c.loop-row-test.true in
+    omega (arith, row, c.tell_row-told.ensures.few)
