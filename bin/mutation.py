@@ -15,6 +15,7 @@ import hashlib
 import os
 import re
 import shutil
+import signal
 import subprocess
 import tempfile
 import threading
@@ -27,6 +28,9 @@ from bodies import bodies, names_of
 
 # What gives a check a lower priority than proofs have, which others wait for.
 LATER = ("nice", "-n", "10")
+# How often a check is tried that is killed, and the statuses that tell that it was.
+TRIES = 3
+KILLED = (-signal.SIGKILL, 128 + signal.SIGKILL)
 # Counted up when something else counts as refused, so that what was kept before is tried anew.
 FORM = 1
 
@@ -141,6 +145,7 @@ def batch_of(mutants: list[Mutant], folder: str) -> tuple[list[Mutant], dict[str
 # What the checker says of a function, and of one whose proof says nothing, where no error is told of it, since it calls one that failed.
 VERDICT = re.compile(r"^fn (\S+): (.*)$", re.M)
 HIDDEN = re.compile(r"(no proof:|not proved;) it calls ")
+ERROR = re.compile(r"note: \S+:\d+:\d+:|\S+:\d+:\d+:.*: error")
 NAMES = re.compile(r"(note: )?(\./)?proofs/.*(has no field|is not in scope|has no `|was not admitted)")
 
 
@@ -180,13 +185,43 @@ def is_within(name: str, function: str) -> bool:
     return parts[: len(wanted)] == wanted
 
 
+def linked(rt: ModuleType, kept: str, over: str) -> None:
+    """Copies a folder of kept work. Some toolchains have a quicker way."""
+    getattr(rt, "linked", shutil.copytree)(kept, over)
+
+
+def seeded(rt: ModuleType, crate: Any) -> str | None:
+    """Returns a folder with the crate's proof below seed/, where the toolchain kept it."""
+    return rt.seeded(crate, ["--jobs", "1"]) if hasattr(rt, "seeded") else None
+
+
+def store(rt: ModuleType) -> str:
+    """Returns the folder of what is kept on this machine: the toolchain's, where it has one."""
+    caches = os.environ.get("XDG_CACHE_HOME") or os.path.expanduser("~/.cache")
+    return getattr(rt, "STORE", f"{caches}/nadrizom")
+
+
+def own_sum(rt: ModuleType, crate: Any) -> str:
+    """Returns a sum of a crate's own files, of the names of what it stands on, and of the toolchain."""
+    if hasattr(rt, "own_sum"):
+        return rt.own_sum(crate)
+    parts = [f"{crate.folder}/{it}" for it in rt.rtlib.PARTS]
+    below = [*crate.of_kit, *(it.name for it in crate.deps)]
+    return repr((crate.name, below, text_of(f"{rt.rtlib.KIT}/KIT-ID"), sum_of(parts)))
+
+
 def check(rt: ModuleType, crate: Any, folder: str, words: list[str]) -> tuple[int, str]:
-    """Checks the crate's files in a folder by the checker with these words, and returns the status and what was said."""
+    """Checks the crate's files in a folder by the checker with these words, and returns the status and what was said. A check that is killed,
+    most likely for lack of memory, is tried again."""
     command = [*rt.rtlib.guarded(), *LATER, rt.rtlib.RATTLE, "check", *crate.words(["--jobs", "1"], keeps=False), *words]
-    with tempfile.TemporaryFile("w+", encoding="utf-8", errors="replace") as said:
-        status = subprocess.call(command, cwd=folder, stdin=subprocess.DEVNULL, stdout=said, stderr=subprocess.STDOUT)
-        said.seek(0)
-        return status, said.read()
+    for _ in range(TRIES):
+        with tempfile.TemporaryFile("w+", encoding="utf-8", errors="replace") as output:
+            status = subprocess.call(command, cwd=folder, stdin=subprocess.DEVNULL, stdout=output, stderr=subprocess.STDOUT)
+            output.seek(0)
+            said = output.read()
+        if status not in KILLED:
+            break
+    return status, said
 
 
 class Trial:
@@ -202,8 +237,8 @@ class Trial:
         names = [*functions]
         kept = f"{self.crate.folder}/out/incremental"
         if os.path.isdir(kept):
-            self.rt.linked(kept, self.over)
-        elif not names and (made := self.rt.seeded(self.crate, ["--jobs", "1"])):
+            linked(self.rt, kept, self.over)
+        elif not names and (made := seeded(self.rt, self.crate)):
             shutil.move(f"{made}/seed", self.over)
             shutil.rmtree(made, ignore_errors=True)
         else:
@@ -229,12 +264,34 @@ class Trial:
 
     def alone(self, mutant: Mutant) -> Told:
         """Tries one mutant by a check of the whole crate."""
+        if not hasattr(self.rt, "REFUSED"):
+            return self.alone_here(mutant)
         kind, text = self.rt.must_fail(self.crate, mutant.path, ["--jobs", "1"], self.over)
         words = text.partition(": ")[2]
         if kind == self.rt.REFUSED and "only because a proof file names" in words:
             return Told(Outcome.BY_NAMES, words)
         kinds = {self.rt.REFUSED: Outcome.REFUSED, self.rt.AT_LIMIT: Outcome.AT_LIMIT, self.rt.BAD: Outcome.BAD, self.rt.MISSED: Outcome.SURVIVED}
         return Told(kinds.get(kind, Outcome.UNKNOWN), words.removeprefix("refused, as it must be: "))
+
+    def alone_here(self, mutant: Mutant) -> Told:
+        """The same for toolchains that don't tell a refusal from a limit of the checker."""
+        texts, why = self.rt.read_edit(mutant.path, self.crate.folder)
+        if why:
+            return Told(Outcome.BAD, why)
+        status, said = self.check(texts, [])
+        lines = said.rstrip("\n").split("\n")
+        bad = next((it for it in lines if self.rt.unread(it, texts)), "")
+        if bad or self.rt.rtlib.STALE.search(said):
+            return Told(Outcome.BAD, bad or "the kept work of a library could not be used")
+        if status == 0:
+            return Told(Outcome.SURVIVED)
+        if status == 3:
+            return Told(Outcome.AT_LIMIT, lines[-1])
+        if status != 1 or not lines[-1].startswith("logic=not-proved"):
+            return Told(Outcome.BAD, lines[0])
+        told = [it for it in lines if ERROR.match(it)]
+        others = [it for it in told if not NAMES.match(it)]
+        return Told(Outcome.REFUSED, others[0] if others else "") if others or not told else Told(Outcome.BY_NAMES, told[0])
 
     def together(self, mutants: list[Mutant]) -> tuple[dict[Mutant, Told], list[Mutant]]:
         """Tries mutants of different functions by one check of these functions. Returns what came of those that it tells of, and those of which it
@@ -286,7 +343,7 @@ class Kept:
     the definitions, the proof files and the functions without their bodies, since a check reads no more of a library."""
 
     def __init__(self, rt: ModuleType) -> None:
-        self.rt, self.folder = rt, f"{rt.STORE}/mutants"
+        self.rt, self.folder = rt, f"{store(rt)}/mutants"
         self.below = functools.cache(lambda folder, rlib: sum_of([f"{folder}/specs", f"{folder}/proofs", f"{rlib}/lang/src"]))
 
     def place(self, *stands_on: object) -> str:
@@ -295,7 +352,7 @@ class Kept:
     def place_of(self, crate: Any, path: str) -> str:
         libraries = [(it.name, self.below(it.folder, it.rlib)) for it in crate.below()]
         with open(path, "rb") as it:
-            return self.place(self.rt.own_sum(crate), libraries, os.path.basename(path), it.read())
+            return self.place(own_sum(self.rt, crate), libraries, os.path.basename(path), it.read())
 
     def told(self, crate: Any, path: str) -> Told | None:
         """Returns what came of a mutant, if it passed."""
@@ -308,10 +365,10 @@ class Kept:
 
     def functions(self, crate: Any) -> list[str]:
         """Returns the checker's names of a crate's functions, if they are known."""
-        return text_of(self.place("functions", self.rt.own_sum(crate))).split()
+        return text_of(self.place("functions", own_sum(self.rt, crate))).split()
 
     def keep_functions(self, crate: Any, names: Iterable[str]) -> None:
-        self.write(self.place("functions", self.rt.own_sum(crate)), "\n".join(names))
+        self.write(self.place("functions", own_sum(self.rt, crate)), "\n".join(names))
 
     def write(self, place: str, text: str) -> None:
         """Writes a file of what is kept. Where that can't be done, the same is tried again by a later run."""

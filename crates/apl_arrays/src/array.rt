@@ -1,22 +1,16 @@
-// An array, and what is read of it.
-ghost use Rattle.std.specs.Prelude.{◌≡◌, ◌≤◌, ◌<◌, length, [], ◌∷◌, IfOk, IfErr, IsOk, IsTrue, map, cond, true};
-ghost use Rattle.std.specs.Result.{OkIff};
-ghost use Rattle.apl_arrays.specs.Index.{size_of, bound_of, indices};
+// An array, and what is read and written of it.
+ghost use Rattle.std.specs.Prelude.{◌≡◌, ◌≤◌, ◌<◌, length, [], ◌∷◌, IfOk, IsOk, IsTrue, map, cond, true};
 
-use crate::cell::{Cell, Ravel};
+use crate::cell::Cell;
 use crate::dense::Dense;
 use crate::elements::Elements;
-use crate::lent::{Lent, Place};
-use crate::shape::{MAX_ELEMENTS, MAX_RANK, is_in_bounds, lengths, place_of};
-use crate::shared_array::{SharedArray, Sharing};
+use crate::shape::{MAX_ELEMENTS, MAX_RANK, place_of};
 use apl_charset::Ch;
-use apl_faults::Fault;
-use arrayvec::ArrayVec;
-use std::alloc::{AllocError, AllocFailed, Global};
+use std::alloc::AllocError;
 use std::marker::Model;
 use std::rc::Rc;
 
-/// How an array is stored: a scalar, or a vector of at most one number, in place; any other array owned, or shared with its copies.
+/// How an array is stored: a scalar, or a vector of at most one number, in place; any other where its copies find it too.
 #[derive(Drop)]
 pub(crate) enum Kept {
     Num(i64),
@@ -25,7 +19,6 @@ pub(crate) enum Kept {
     Empty,
     /// The vector of this number.
     Single(i64),
-    Own(Dense),
     Dense(Rc<Dense>),
 }
 
@@ -37,7 +30,7 @@ fn become_number(kept: &mut Kept, number: i64)
     *kept = Kept::Num(number);
 }
 
-/// A shape, and an element for each index list within it. A scalar takes no memory.
+/// A shape, and an element for each index list within it. It is small: what has many elements lies elsewhere, and its copies share it.
 pub struct Array {
     kept: Kept,
 }
@@ -61,43 +54,14 @@ impl Model for Array {
 }
 
 impl Array {
-    ghost use Rattle.apl_arrays.specs.Cells.{cells_of, cell_at, IsArray, Numbers, Characters};
+    ghost use Rattle.apl_arrays.specs.Cells.{cells_of, cell_at, IsArray, Numbers};
+    ghost use Rattle.apl_arrays.specs.Index.{size_of, indices};
     ghost use Rattle.apl_arrays.specs.Kept.{arr_of};
-    ghost use Rattle.apl_arrays.specs.Simple.{simple, single, vector, at_most_one, number_of_scalar};
-    ghost use Rattle.apl_arrays.specs.Checks.{limited};
-    ghost use Rattle.apl_arrays.specs.Results.{ok_map};
-    ghost use Rattle.apl_arrays.specs.Ravels.{items_of};
+    ghost use Rattle.apl_arrays.specs.Kinds.{are_numbers};
     ghost use Rattle.apl_arrays.specs.Left.{listed, cells_left};
-
-    /// A number, as a scalar.
-    #[inline]
-    pub fn number(number: i64) -> Array
-        ensures { result ≡ record { shape = []; items = Numbers (number ∷ []) } }
-    {
-        Array::kept(Kept::Num(number))
-    }
-
-    /// A scalar.
-    #[inline]
-    pub fn scalar(cell: Cell) -> Array
-        ensures { result ≡ single cell }
-    {
-        Array::kept(match cell {
-            Cell::Num(number) => Kept::Num(number),
-            Cell::Char(character) => Kept::Char(character),
-        })
-    }
-
-    /// The vector of this number, or of none. It takes no memory.
-    #[inline]
-    pub fn at_most_one(number: Option<i64>) -> Array
-        ensures { result ≡ at_most_one number }
-    {
-        Array::kept(match number {
-            Some(number) => Kept::Single(number),
-            None => Kept::Empty,
-        })
-    }
+    ghost use Rattle.apl_arrays.specs.Simple.{number_of_scalar};
+    ghost use Rattle.std.specs.List.{All};
+    ghost use Rattle.apl_arrays.specs.Written.{elements_written, number_written, AreEnough};
 
     /// The array that is stored so.
     #[inline]
@@ -107,131 +71,20 @@ impl Array {
         Array { kept }
     }
 
-    /// The array of this shape with these elements in ravel order. It is a limit fault exactly where the product of the lengths, an axis of
-    /// length 0 counted as 1, is more than [`MAX_ELEMENTS`]. It takes no memory.
-    pub fn new(shape: ArrayVec<usize, MAX_RANK>, ravel: Ravel) -> Result<Array, Fault>
-        requires { length (cells_of (items_of ravel)) ≡ size_of shape.items }
-        ensures ok { OkIff result (bound_of shape.items ≤ MAX_ELEMENTS) (record { shape = shape.items; items = items_of ravel }) }
-        ensures err { IfErr result (λ fault. fault ≡ Fault.Limit) }
-    {
-        if is_in_bounds(shape.as_slice()) {
-            ravel.inspect();
-            Ok(Array::formed(shape, ravel))
-        } else {
-            Err(Fault::Limit)
-        }
-    }
-
-    /// The same by a slice of lengths. It is a limit fault too where there are more than [`MAX_RANK`].
-    pub fn from_shape(shape: &[usize], ravel: Ravel) -> Result<Array, Fault>
-        requires { length (cells_of (items_of ravel)) ≡ size_of shape.now }
-        ensures ok { OkIff result ((length shape.now ≤ MAX_RANK) × (bound_of shape.now ≤ MAX_ELEMENTS))
-            (record { shape = shape.now; items = items_of ravel }) }
-        ensures err { IfErr result (λ fault. fault ≡ Fault.Limit) }
-        // The same as one equation, for models in which a fault passes through.
-        ensures checked { result ≡ ok_map (λ s. record { shape = s; items = items_of ravel }) (limited shape.now) }
-    {
-        match ArrayVec::try_from(shape) {
-            Ok(lengths) => Array::new(lengths, ravel),
-            Err(_) => Err(Fault::Limit),
-        }
-    }
-
-    /// The array of this shape, which is within the limits, with these elements in ravel order.
-    pub fn in_shape(shape: &[usize], ravel: Ravel) -> Array
-        requires full { length (cells_of (items_of ravel)) ≡ size_of shape.now }
-        requires few { length shape.now ≤ MAX_RANK }
-        requires small { bound_of shape.now ≤ MAX_ELEMENTS }
-        ensures { result ≡ record { shape = shape.now; items = items_of ravel } }
-    {
-        ravel.inspect();
-        Array::formed(lengths(shape), ravel)
-    }
-
-    /// The array of one axis with these elements.
-    pub fn vector(ravel: Ravel) -> Array
-        requires { length (cells_of (items_of ravel)) ≤ MAX_ELEMENTS }
-        ensures { result ≡ vector (items_of ravel) }
-    {
-        let count = ravel.len();
-        Array::in_shape(&[count], ravel)
-    }
-
-    /// The array of this shape with these elements. A scalar is stored in place.
-    pub(crate) fn formed(shape: ArrayVec<usize, MAX_RANK>, ravel: Ravel) -> Array
-        requires { IsArray shape.items (items_of ravel) }
-        ensures { result ≡ record { shape = shape.items; items = items_of ravel } }
-    {
-        if shape.is_empty() {
-            return match ravel.cell(0) {
-                Some(cell) => Array::scalar(cell),
-                None => unreachable!(),
-            };
-        }
-        Array {
-            kept: Kept::Own(Dense::new(shape, ravel)),
-        }
-    }
-
-    /// One element as a scalar, any other number of elements as a vector.
-    pub fn from_ravel(ravel: Ravel) -> Array
-        requires { length (cells_of (items_of ravel)) ≤ MAX_ELEMENTS }
-        ensures { result ≡ simple (items_of ravel) }
-    {
-        let mut shape = ArrayVec::new();
-        let count = ravel.len();
-        if count != 1 {
-            shape.push(count);
-        }
-        ravel.inspect();
-        Array::formed(shape, ravel)
-    }
-
-    /// One number as a scalar, any other number of numbers as a vector.
-    pub fn from_nums(numbers: Vec<i64>) -> Array
-        requires { length numbers.items ≤ MAX_ELEMENTS }
-        ensures { result ≡ simple (Numbers numbers.items) }
-    {
-        Array::from_ravel(Ravel::Nums(numbers))
-    }
-
-    /// One character as a scalar, any other number of characters as a vector.
-    pub fn from_chars(characters: Vec<Ch>) -> Array
-        requires { length characters.items ≤ MAX_ELEMENTS }
-        ensures { result ≡ simple (Characters characters.items) }
-    {
-        Array::from_ravel(Ravel::Chars(characters))
-    }
-
-    /// The array of this one's shape with other elements.
-    pub fn with_ravel(&self, ravel: Ravel) -> Result<Array, AllocError>
-        requires { length (cells_of (items_of ravel)) ≡ size_of self.now.shape }
-        ensures { IfOk result (λ array. array ≡ record { shape = self.now.shape; items = items_of ravel }) }
-    {
-        Ok(Array::in_shape(self.shape(), ravel))
-    }
-
-    /// Its shape, and its elements where they lie.
-    #[inline]
-    pub fn lend(&self) -> Lent<'_>
-        ensures { result ≡ self.now }
-    {
-        Lent::at(match &self.kept {
-            Kept::Num(number) => Place::Num(number),
-            Kept::Char(character) => Place::Char(character),
-            Kept::Empty => Place::Empty,
-            Kept::Single(number) => Place::Single(number),
-            Kept::Own(dense) => Place::Dense(dense),
-            Kept::Dense(dense) => Place::Dense(dense),
-        })
-    }
-
     /// The number that a scalar is; none where it is a character or an array of another rank.
     #[inline]
     pub fn as_number(&self) -> Option<i64>
         ensures { result ≡ number_of_scalar self.now }
     {
-        self.lend().as_number()
+        match &self.kept {
+            Kept::Num(number) => Some(*number),
+            Kept::Char(_) | Kept::Empty | Kept::Single(_) => None,
+            // What is stored so has axes, and is no scalar.
+            Kept::Dense(dense) => {
+                let _axes = dense.shape();
+                None
+            }
+        }
     }
 
     /// The lengths of the axes.
@@ -240,7 +93,25 @@ impl Array {
         ensures value { result.now ≡ self.now.shape }
         ensures array { IsArray self.now.shape self.now.items }
     {
-        self.lend().shape()
+        match &self.kept {
+            Kept::Num(number) => {
+                // Read, since a number that is read is one of 64 bits.
+                let _number = *number;
+                &[]
+            }
+            Kept::Char(character) => {
+                // A character that is read is in the set.
+                let _code = character.code();
+                &[]
+            }
+            Kept::Empty => &[0],
+            Kept::Single(number) => {
+                // Read, since a number that is read is one of 64 bits.
+                let _number = *number;
+                &[1]
+            }
+            Kept::Dense(dense) => dense.shape(),
+        }
     }
 
     /// How many axes there are.
@@ -250,6 +121,30 @@ impl Array {
         ensures few { result ≤ MAX_RANK }
     {
         self.shape().len()
+    }
+
+    /// The elements where they lie.
+    #[inline]
+    fn elements(&self) -> Elements<'_>
+        ensures value { listed result ≡ self.now.items }
+        ensures array { IsArray self.now.shape self.now.items }
+        ensures full { length (cells_of self.now.items) ≡ size_of self.now.shape }
+        ensures small { length (cells_of self.now.items) ≤ MAX_ELEMENTS }
+    {
+        match &self.kept {
+            Kept::Num(number) | Kept::Single(number) => {
+                // Read, since a number that is read is one of 64 bits.
+                let _number = *number;
+                Elements::Nums(std::slice::from_ref(number))
+            }
+            Kept::Char(character) => {
+                // A character that is read is in the set.
+                let _code = character.code();
+                Elements::Chars(std::slice::from_ref(character))
+            }
+            Kept::Empty => Elements::Nums(&[]),
+            Kept::Dense(dense) => Elements::new(dense.ravel()),
+        }
     }
 
     /// The elements where they lie, in row-major order.
@@ -262,7 +157,7 @@ impl Array {
         // Row-major order is the lexicographic order of the index lists.
         ensures in_order { map (cell_at self.now) (indices self.now.shape) ≡ map Some (cells_of self.now.items) }
     {
-        self.lend().items()
+        self.elements()
     }
 
     /// The elements in row-major order, one after another.
@@ -279,13 +174,12 @@ impl Array {
         ensures { result ≡ cell_at self.now index.now }
     {
         match place_of(self.shape(), index) {
-            Some(place) => self.lend().items().cell(place),
+            Some(place) => self.elements().cell(place),
             None => None,
         }
     }
 
-    /// An equal array. Of a scalar it takes no memory.
-    // Nor does it of what `at_most_one` made or of a shared array. How an array is kept isn't in its model, so no clause can say this.
+    /// An equal array, which shares the elements. A scalar is always copied.
     #[inline]
     pub fn copy(&self) -> Result<Array, AllocError>
         ensures value { IfOk result (λ copied. copied ≡ self.now) }
@@ -296,11 +190,6 @@ impl Array {
             Kept::Char(character) => Kept::Char(*character),
             Kept::Empty => Kept::Empty,
             Kept::Single(number) => Kept::Single(*number),
-            Kept::Own(dense) => {
-                // What is stored so has axes, and is no scalar.
-                let _axes = dense.shape();
-                Kept::Own(dense.copy()?)
-            }
             Kept::Dense(dense) => {
                 // What is stored so has axes, and is no scalar.
                 let _axes = dense.shape();
@@ -308,63 +197,6 @@ impl Array {
             }
         };
         Ok(Array { kept })
-    }
-
-    /// The same array, whose copies share its elements. For a scalar it takes no memory. Where an allocation fails, the array comes back.
-    #[inline]
-    pub fn into_shared(self, alloc: Global) -> Result<SharedArray, AllocFailed<Array>>
-        ensures ok { IfOk result (λ array. array ≡ self) }
-        ensures err { IfErr result (λ refused. refused.value ≡ self) }
-        ensures scalar { self.shape ≡ [] → IsOk result }
-    {
-        let Array { kept } = self;
-        let dense = match kept {
-            Kept::Num(number) => return Ok(SharedArray::kept(Sharing::Num(number))),
-            Kept::Char(character) => return Ok(SharedArray::kept(Sharing::Char(character))),
-            Kept::Empty => return Ok(SharedArray::kept(Sharing::Empty)),
-            Kept::Single(number) => return Ok(SharedArray::kept(Sharing::Single(number))),
-            Kept::Dense(dense) => return Ok(SharedArray::kept(Sharing::Dense(dense))),
-            Kept::Own(dense) => dense,
-        };
-        // What is stored so has axes, and is no scalar.
-        let _axes = dense.shape();
-        match Rc::new(alloc, dense) {
-            Ok(dense) => Ok(SharedArray::kept(Sharing::Dense(dense))),
-            Err(refused) => Err(AllocFailed {
-                value: Array::kept(Kept::Own(refused.value)),
-            }),
-        }
-    }
-
-    /// An equal array whose copies share its elements. Of a scalar it takes no memory.
-    #[inline]
-    pub fn to_shared(&self, alloc: Global) -> Result<SharedArray, AllocError>
-        ensures value { IfOk result (λ shared. shared ≡ self.now) }
-        ensures scalar { self.now.shape ≡ [] → IsOk result }
-    {
-        let kept = match &self.kept {
-            Kept::Num(number) => Sharing::Num(*number),
-            Kept::Char(character) => Sharing::Char(*character),
-            Kept::Empty => Sharing::Empty,
-            Kept::Single(number) => Sharing::Single(*number),
-            Kept::Own(dense) => {
-                // What is stored so has axes, and is no scalar.
-                let _axes = dense.shape();
-                Sharing::Dense(Rc::new(alloc, dense.copy()?)?)
-            }
-            Kept::Dense(dense) => {
-                // What is stored so has axes, and is no scalar.
-                let _axes = dense.shape();
-                Sharing::Dense(dense.clone()?)
-            }
-        };
-        Ok(SharedArray::kept(kept))
-    }
-
-    /// Whether it has elements that no copy can share yet. Nothing hangs on that but what copies cost.
-    #[inline]
-    pub(crate) fn is_alone(&self) -> bool {
-        matches!(self.kept, Kept::Own(_))
     }
 
     /// Becomes a number, as a scalar. It takes no memory, and a number is written over another in place.
@@ -375,6 +207,61 @@ impl Array {
         match &mut self.kept {
             Kept::Num(kept) => *kept = number,
             kept => become_number(kept, number),
+        }
+    }
+
+    /// Writes a number over another, and says whether it did. It did not where there is no number at the place. In a scalar and in a vector of
+    /// one number it did where there is one. It takes no memory.
+    // Nor did it where a copy shares the elements of another array. That isn't in the model, so no clause can say when it did.
+    pub fn set_number(&mut self, place: usize, number: i64) -> bool
+        ensures value { self.new ≡ cond result (number_written self.old place number) self.old }
+        ensures there { IsTrue result → (are_numbers self.old.items ≡ true) × (place < length (cells_of self.old.items)) }
+        ensures scalar { self.old.shape ≡ [] → are_numbers self.old.items ≡ true → place ≡ 0 → IsTrue result }
+        ensures single { self.old.shape ≡ 1 ∷ [] → are_numbers self.old.items ≡ true → place ≡ 0 → IsTrue result }
+    {
+        match &mut self.kept {
+            Kept::Num(kept) if place == 0 => {
+                *kept = number;
+                true
+            }
+            Kept::Single(kept) if place == 0 => {
+                *kept = number;
+                true
+            }
+            // A copy may share the elements, and still has them.
+            Kept::Dense(dense) if place == 0 && dense.is_single_number() => {
+                self.kept = Kept::Single(number);
+                true
+            }
+            Kept::Dense(dense) => {
+                // What is stored so has axes, and is no scalar.
+                let _axes = dense.shape();
+                match Rc::get_mut(dense) {
+                    Some(dense) => dense.set_number(place, number),
+                    None => false,
+                }
+            }
+            _ => false,
+        }
+    }
+
+    /// Writes elements at places one after another, so that the last one for a place stands, and says whether it did. A single one serves at
+    /// each place, and elements of another type are not written.
+    // It did not where a copy shares the elements, nor where they are stored in place. That isn't in the model, so no clause can say it.
+    pub fn write(&mut self, places: &[usize], items: Elements<'_>) -> bool
+        requires within { All (λ q. q < length (cells_of self.old.items)) places.now }
+        requires enough { AreEnough (length (cells_of (listed items))) (length places.now) }
+        ensures { self.new ≡ cond result (elements_written self.old places.now (listed items.entry)) self.old }
+    {
+        let Kept::Dense(dense) = &mut self.kept else {
+            return false;
+        };
+        match Rc::get_mut(dense) {
+            Some(dense) => {
+                dense.write(places, items);
+                true
+            }
+            None => false,
         }
     }
 }

@@ -1,11 +1,10 @@
 // A shape and its elements, which arrays share.
-ghost use Rattle.std.specs.Prelude.{◌≡◌, ◌<◌, ◌↔◌, ◌∷◌, [], cond, length, true, IfOk, IsTrue};
+ghost use Rattle.std.specs.Prelude.{◌≡◌, ◌<◌, ◌↔◌, ◌∷◌, [], cond, length, true, IsTrue};
 
 use crate::cell::Ravel;
 use crate::elements::Elements;
 use crate::shape::MAX_RANK;
 use arrayvec::ArrayVec;
-use std::alloc::AllocError;
 use std::marker::Model;
 
 /// A shape of one axis or more, and an element for each index list within it.
@@ -98,15 +97,5 @@ impl Dense {
     {
         self.ravel.write(places, items);
         self.ravel.inspect();
-    }
-
-    /// An equal one.
-    pub(crate) fn copy(&self) -> Result<Dense, AllocError>
-        ensures { IfOk result (λ dense. dense ≡ self.now) }
-    {
-        Ok(Dense {
-            ravel: self.ravel.copy()?,
-            shape: self.shape.clone()?,
-        })
     }
 }

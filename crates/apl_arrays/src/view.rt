@@ -143,7 +143,7 @@ impl<'a> View<'a> {
         let shape = self.shape();
         let room = size(shape.as_slice());
         let ravel = gathered(alloc, room, self.items, self.offset, self.axes.as_slice())?;
-        Ok(Array::formed(shape, ravel))
+        Array::formed(alloc, shape, ravel)
     }
 
     /// The elements in row-major order, one after another.

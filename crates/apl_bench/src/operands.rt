@@ -96,7 +96,7 @@ impl Numbers {
             numbers.push(self.at(from.wrapping_add(place), size))?;
         }
         let length = numbers.len();
-        Ok(Array::from_shape(&[length], Ravel::Nums(numbers))?)
+        Array::from_shape(alloc, &[length], Ravel::Nums(numbers))
     }
 
     /// The numbers from a place on in a square table.
@@ -105,7 +105,7 @@ impl Numbers {
     {
         let numbers = self.vector(alloc, from, size, u64::from(side) * u64::from(side))?;
         let lengths = Vec::from_slice(alloc, &[i64::from(side), i64::from(side)])?;
-        let shape = Array::from_shape(&[2], Ravel::Nums(lengths))?;
+        let shape = Array::from_shape(alloc, &[2], Ravel::Nums(lengths))?;
         let reshape = Row::Dyadic(Function::Primitive(Primitive::Rho));
         phrase_value(
             alloc,

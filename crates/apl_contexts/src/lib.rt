@@ -16,7 +16,7 @@ mod stack;
 mod typed;
 
 pub use context::{Call, Context, Statement};
-pub use contexts::{Contexts, share_top};
+pub use contexts::Contexts;
 pub use fast::{FallBack, Path};
 pub use lines::{Lines, TextLine, bound_text_line, function_line, text_line};
 pub use moves::Move;

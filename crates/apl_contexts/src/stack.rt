@@ -2,7 +2,7 @@
 ghost use Rattle.std.specs.Prelude.{◌≡◌, [], IfNone, IfSome, drop, option_copied, option_map};
 ghost use Rattle.apl_frames.specs.Ends.{IsColumn};
 ghost use Rattle.apl_contexts.specs.Contexts.{AreStacked, Place, beneath, blamed, call_in, nearest, newest_of};
-ghost use Rattle.apl_contexts.specs.Stacks.{lent};
+ghost use Rattle.apl_contexts.specs.Stacks.{contexts_of};
 
 use crate::context::{Call, Context};
 
@@ -16,14 +16,14 @@ pub struct Stack<'a> {
 impl<'a> Stack<'a> {
     /// The newest of them.
     pub fn newest(self) -> Option<&'a Context>
-        ensures { option_copied result ≡ newest_of (lent self.entry) }
+        ensures { option_copied result ≡ newest_of (contexts_of self.entry) }
     {
         self.stand.last()
     }
 
     /// Without the newest of them.
     fn older(self) -> Stack<'a>
-        ensures { lent result ≡ drop 1 (lent self.entry) }
+        ensures { contexts_of result ≡ drop 1 (contexts_of self.entry) }
     {
         match self.stand.split_last() {
             Some((_newest, older)) => Stack { stand: older },
@@ -33,7 +33,7 @@ impl<'a> Stack<'a> {
 
     /// From the nearest statement or call on, without the texts that it executes.
     pub fn nearest(self) -> Stack<'a>
-        ensures { lent result ≡ nearest (lent self.entry) }
+        ensures { contexts_of result ≡ nearest (contexts_of self.entry) }
     {
         let mut rest = self;
         while let Some(Context::Execute(_)) = rest.newest() {
@@ -45,7 +45,7 @@ impl<'a> Stack<'a> {
     /// Those beneath the nearest statement or call.
     #[tactic(auto, using(crate::proofs::Nearest::beneath_nearest))]
     pub fn beneath(self) -> Stack<'a>
-        ensures { lent result ≡ beneath (lent self.entry) }
+        ensures { contexts_of result ≡ beneath (contexts_of self.entry) }
     {
         self.nearest().older()
     }
@@ -53,7 +53,7 @@ impl<'a> Stack<'a> {
     /// The nearest statement or call, where it is a call.
     #[tactic(auto, using(crate::proofs::Nearest::call_nearest, crate::proofs::Nearest::never_execute))]
     pub fn call(self) -> Option<&'a Call>
-        ensures { option_copied result ≡ call_in (lent self.entry) }
+        ensures { option_copied result ≡ call_in (contexts_of self.entry) }
     {
         match self.nearest().newest() {
             Some(Context::Call(call)) => Some(call),
@@ -66,11 +66,11 @@ impl<'a> Stack<'a> {
     /// contexts, nowhere.
     #[tactic(auto, using(crate::proofs::Blamed::blames_one))]
     pub fn blamed(self, column: usize) -> Option<(&'a Context, usize)>
-        requires stacked { (p : Place) × AreStacked p (lent self) }
+        requires stacked { (p : Place) × AreStacked p (contexts_of self) }
         requires column { IsColumn column }
-        ensures value { option_map (λ r. (r.0.now, r.1)) result ≡ blamed column (lent self.entry) }
+        ensures value { option_map (λ r. (r.0.now, r.1)) result ≡ blamed column (contexts_of self.entry) }
         ensures column { IfSome result (λ r. IsColumn r.1) }
-        ensures none { IfNone result (lent self.entry ≡ []) }
+        ensures none { IfNone result (contexts_of self.entry ≡ []) }
     {
         let mut stack = self;
         let mut place = column;

@@ -158,8 +158,8 @@ fn line_at(lines: &[Text], n: usize) -> Option<&Text>
     lines.get(n - 1)
 }
 
-/// The same lines again.
-fn copy_lines(alloc: Global, lines: &[Text]) -> Result<Vec<Text>, AllocError>
+/// The same lines again. It is an error where memory runs out.
+pub fn copy_lines(alloc: Global, lines: &[Text]) -> Result<Vec<Text>, AllocError>
     ensures { IfOk result (λ v. v.items ≡ lines.now) }
 {
     let mut copied = Vec::with_capacity(alloc, lines.len())?;

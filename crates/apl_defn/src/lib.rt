@@ -14,7 +14,7 @@ mod reading;
 
 pub use blanks::trimmed;
 pub use defining::{define, label_in};
-pub use definition::Definition;
+pub use definition::{Definition, copy_lines};
 pub use error::DefnError;
 pub use laws::{definitions, headers};
 pub use listing::{canonical, show};

@@ -21,7 +21,7 @@ use Rattle.apl_scalar.specs.declared.function.Dyadic.{Dyadic}
 use Rattle.apl_scalar.specs.Functions.{dyadic_of}
 use Rattle.apl_scalar.specs.Extension.{compared}
 use Rattle.apl_folds.specs.Folds.{identity, number_in, item_at, items_along, folded, folds_along}
-use Rattle.apl_folds.specs.Scans.{items_up_to, fronts_along}
+use Rattle.apl_folds.specs.Scans.{items_up_to, prefixes_along}
 use Rattle.apl_folds.specs.Lines.{fold_by, line_of, made, agree, IsLine}
 use Rattle.apl_folds.proofs.Comparisons.{folded_characters}
 use Rattle.apl_folds.proofs.Rights.{folded_numbers}
@@ -126,9 +126,9 @@ pub near_others : (p : ℕ) (xs others : List Axis) (axis : ℕ) (d : Axis) → 
 near_others p xs others axis d h eo small = rw eo (omega (arith, reach-without xs d axis p h))
 
 -- the folds of the first items are those of the lines' first items
-pub fronts_of_lines : (f : Dyadic) (zs : List ℤ) (p : ℕ) (xs : List Axis) (inner : Axis) (axis : ℕ) → axis < length xs → inner ≡ get_or xs axis inner →
-    made (λ p count. fold_by (dyadic_of f) (line_of (pos 0) zs inner p count)) p 0 (Some axis) xs ≡ fronts_along f axis (shown (Numbers zs) p xs)
-fronts_of_lines f zs p xs inner axis h ei =
+pub prefixes_of_lines : (f : Dyadic) (zs : List ℤ) (p : ℕ) (xs : List Axis) (inner : Axis) (axis : ℕ) → axis < length xs → inner ≡ get_or xs axis inner →
+    made (λ p count. fold_by (dyadic_of f) (line_of (pos 0) zs inner p count)) p 0 (Some axis) xs ≡ prefixes_along f axis (shown (Numbers zs) p xs)
+prefixes_of_lines f zs p xs inner axis h ei =
     all_ok-same (λ i. is_within (lengths xs) i ≡ true) _ (λ i. folded f (items_up_to axis (shown (Numbers zs) p xs) i))
     (λ i w.
     let r : List ℕ = without axis i in
@@ -136,16 +136,16 @@ fronts_of_lines f zs p xs inner axis h ei =
     let within : get_or i axis 0 + 1 ≤ (get_or xs axis inner).length = omega (arith, index_within (lengths xs) i axis (omega (arith, length-lengths xs)) w, get_or-lengths xs axis inner h) in
     sym (folded_line f zs inner (place_at p (without axis xs) r) (get_or i axis 0 + 1) (omega arith))
     ∙ ap (λ (a : Axis). folded f (map Num (line_of (pos 0) zs a (place_at p (without axis xs) r) (get_or i axis 0 + 1)))) ei
-    ∙ ap (folded f) (front (get_or i axis 0 + 1) (get_or xs axis inner).length (λ k. get_or zs (place_at p (without axis xs) r + step_at (get_or xs axis inner) k) (pos 0)) within)
+    ∙ ap (folded f) (prefix (get_or i axis 0 + 1) (get_or xs axis inner).length (λ k. get_or zs (place_at p (without axis xs) r + step_at (get_or xs axis inner) k) (pos 0)) within)
     ∙ ap (λ (l : List Cell). folded f (take (get_or i axis 0 + 1) l)) (sym (numbers_along zs p xs inner axis r h there)))
     (indices (lengths xs)) (all_within (lengths xs))
   where
-    front : (m n : ℕ) (g : ℕ → ℤ) → m ≤ n → map Num (map g (range_with_len 0 m)) ≡ take m (map Num (map g (range_with_len 0 n)))
-    front m n g l = map_map Num g (range_with_len 0 m) ∙ sym (take_range (λ k. Num (g k)) 0 m n l) ∙ ap (take m) (sym (map_map Num g (range_with_len 0 n)))
+    prefix : (m n : ℕ) (g : ℕ → ℤ) → m ≤ n → map Num (map g (range_with_len 0 m)) ≡ take m (map Num (map g (range_with_len 0 n)))
+    prefix m n g l = map_map Num g (range_with_len 0 m) ∙ sym (take_range (λ k. Num (g k)) 0 m n l) ∙ ap (take m) (sym (map_map Num g (range_with_len 0 n)))
 
-pub is_front : (n p : ℕ) (xs : List Axis) (inner : Axis) (axis : ℕ) → axis < length xs → inner ≡ get_or xs axis inner → AllPlaced n p xs → reach_of p xs < 2 ^ 62 →
+pub is_prefix : (n p : ℕ) (xs : List Axis) (inner : Axis) (axis : ℕ) → axis < length xs → inner ≡ get_or xs axis inner → AllPlaced n p xs → reach_of p xs < 2 ^ 62 →
     (i : List ℕ) → is_within (lengths xs) i ≡ true → IsLine n inner (place_at p (without axis xs) (without axis i)) (get_or i axis 0 + 1)
-is_front n p xs inner axis h ei placed small i w =
+is_prefix n p xs inner axis h ei placed small i w =
     let there : is_within (lengths (without axis xs)) (without axis i) ≡ true = ap (λ (s : List ℕ). is_within s (without axis i)) (lengths-without xs axis) ∙ within-without (lengths xs) i axis w in
     let long : get_or i axis 0 + 1 ≤ inner.length = omega (arith, index_within (lengths xs) i axis (omega (arith, length-lengths xs)) w, get_or-lengths xs axis inner h, ap (λ (a : Axis). a.length) ei) in
     let line : IsLine n inner (place_at p (without axis xs) (without axis i)) inner.length = is_line n p xs (without axis xs) inner axis h refl ei (omega arith) placed small (without axis i) there in

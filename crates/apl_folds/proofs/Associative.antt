@@ -8,8 +8,8 @@ use Rattle.apl_arrays.specs.Results.{and_then}
 use Rattle.apl_scalar.specs.declared.function.Dyadic.TheVariants as two
 use Rattle.apl_scalar.specs.Functions.{dyadic_of}
 use Rattle.apl_folds.specs.Chains.{IsAssociative}
-use Rattle.apl_folds.specs.declared.chains.Front.{Front}
-use Rattle.apl_folds.specs.inside.Chains.{IsFront, IsFoldOf}
+use Rattle.apl_folds.specs.declared.chains.Prefix.{Prefix}
+use Rattle.apl_folds.specs.inside.Chains.{IsPrefix, IsFoldOf}
 use Rattle.apl_folds.specs.Lines.{fold_by}
 
 -- the fold of one number more is one step from the left
@@ -23,14 +23,14 @@ fold_chain f a (x ∷ y ∷ ys) w h = ap (λ (r : Result ℤ Fault). and_then r 
     each (Err e) = refl
 
 -- what is told of one number more
-pub front_value : (f : ℤ → ℤ → Result ℤ Fault) (s : Front) (xs : List ℤ) (z x v : ℤ) → s.fold ≡ Some z → f z x ≡ Ok v → IsFront f s xs → fold_by f (xs ++ x ∷ []) ≡ Ok v
-front_value f s xs z x v is e before =
+pub prefix_value : (f : ℤ → ℤ → Result ℤ Fault) (s : Prefix) (xs : List ℤ) (z x v : ℤ) → s.fold ≡ Some z → f z x ≡ Ok v → IsPrefix f s xs → fold_by f (xs ++ x ∷ []) ≡ Ok v
+prefix_value f s xs z x v is e before =
     let P : Option ℤ → Type 0 = λ o. IsFoldOf f o xs in
     let h : (0 < length xs) × (fold_by f xs ≡ Ok z) = subst P is before.value in
     fold_chain f before.associative xs x h.0 ∙ ap (λ (r : Result ℤ Fault). and_then r (λ y. f y x)) h.1 ∙ e
 
-pub front_next : (f : ℤ → ℤ → Result ℤ Fault) (s : Front) (xs : List ℤ) (x v : ℤ) → fold_by f (xs ++ x ∷ []) ≡ Ok v → IsFront f s xs → IsFront f (record { fold = Some v }) (xs ++ x ∷ [])
-front_next f s xs x v e before = record { associative = before.associative; value = (omega (arith, length-append xs (x ∷ [])), e) }
+pub prefix_next : (f : ℤ → ℤ → Result ℤ Fault) (s : Prefix) (xs : List ℤ) (x v : ℤ) → fold_by f (xs ++ x ∷ []) ≡ Ok v → IsPrefix f s xs → IsPrefix f (record { fold = Some v }) (xs ++ x ∷ [])
+prefix_next f s xs x v e before = record { associative = before.associative; value = (omega (arith, length-append xs (x ∷ [])), e) }
 
 greater : (x y z : ℤ) → int_max (int_max x y) z ≡ int_max x (int_max y z)
 greater x y z = omega (arith, ints, clamps)

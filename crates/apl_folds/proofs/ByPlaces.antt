@@ -20,10 +20,10 @@ use Rattle.apl_arrays.proofs.Whole.{lengths-whole, place_at-whole, shown_whole}
 use Rattle.apl_scalar.specs.declared.function.Dyadic.{Dyadic}
 use Rattle.apl_scalar.specs.Functions.{dyadic_of}
 use Rattle.apl_scalar.proofs.Whole.{all_values}
-use Rattle.apl_folds.specs.inside.Fronts.{index_along, before, front_fold, front_folds, AreFronts, AreWhole}
+use Rattle.apl_folds.specs.inside.Prefixes.{index_along, before, prefix_fold, prefix_folds, ArePrefixes, AreWhole}
 use Rattle.apl_folds.specs.Lines.{fold_by, line_of, line_fold, IsLine}
-use Rattle.apl_folds.specs.Scans.{fronts_along}
-use Rattle.apl_folds.proofs.Along.{fronts_of_lines}
+use Rattle.apl_folds.specs.Scans.{prefixes_along}
+use Rattle.apl_folds.proofs.Along.{prefixes_of_lines}
 use Rattle.apl_folds.proofs.Faults.{first_fault}
 use Rattle.apl_folds.proofs.Rows.{line_more}
 use Rattle.apl_folds.proofs.Taken.{lengths-without, place_at-inserted, within-without, index_within}
@@ -82,7 +82,7 @@ index_in_row axis row q l h = ap (λ (m : ℕ). m % axis.length) (ap (λ (p : �
     there : (q x : ℕ) → x ≤ q → q ≡ x + (q - x)
     there q x l = omega arith
 
--- the line of a front is that of the front before and the number at its place
+-- the line of a prefix is that of the prefix before and the number at its place
 one_longer : (zs : List ℤ) (axis : Axis) (q : ℕ) → axis.down ≡ 0 →
     line_of (pos 0) zs axis (q - index_along axis q * axis.up) (index_along axis q) ++ get_or zs q (pos 0) ∷ [] ≡ line_of (pos 0) zs axis (q - index_along axis q * axis.up) (index_along axis q + 1)
 one_longer zs axis q d =
@@ -90,9 +90,9 @@ one_longer zs axis q d =
     let p : ℕ = q - k * axis.up in
     ap (λ (r : ℕ). line_of (pos 0) zs axis p k ++ get_or zs r (pos 0) ∷ []) (on_line axis q d) ∙ line_more (pos 0) zs axis p k
 
--- where a front is told from what was kept of the numbers before
-pub front_told : (f : ℤ → ℤ → Result ℤ Fault) (zs : List ℤ) (axis : Axis) (q : ℕ) (z : ℤ) → axis.down ≡ 0 → fold_by f (before zs axis q ++ get_or zs q (pos 0) ∷ []) ≡ Ok z → front_fold f zs axis q ≡ Ok z
-front_told f zs axis q z d e = ap (fold_by f) (sym (one_longer zs axis q d)) ∙ e
+-- where a prefix is told from what was kept of the numbers before
+pub prefix_told : (f : ℤ → ℤ → Result ℤ Fault) (zs : List ℤ) (axis : Axis) (q : ℕ) (z : ℤ) → axis.down ≡ 0 → fold_by f (before zs axis q ++ get_or zs q (pos 0) ∷ []) ≡ Ok z → prefix_fold f zs axis q ≡ Ok z
+prefix_told f zs axis q z d e = ap (fold_by f) (sym (one_longer zs axis q d)) ∙ e
 
 -- the numbers before a place are those before the place a step back, and the number there
 pub before_step : (zs : List ℤ) (axis : Axis) (p q : ℕ) → 0 < axis.length → 0 < axis.up → axis.down ≡ 0 → q ≡ p + axis.up → 0 < index_along axis q → before zs axis p ++ get_or zs p (pos 0) ∷ [] ≡ before zs axis q
@@ -331,29 +331,29 @@ line_start s i k axis h w e =
         rest q p u x m f = let g : u * x ≡ x * u = omega arith in omega arith
 
 -- the scan of an array by its places
-pub fronts_by_places : (f : Dyadic) (zs : List ℤ) (a : Arr) (k : ℕ) (axis : Axis) → k < length a.shape → a.items ≡ Numbers zs → length (cells_of a.items) ≡ size_of a.shape →
-    axis ≡ record { length = get_or a.shape k 0; up = apart k a.shape; down = 0 } → fronts_along f k a ≡ front_folds (dyadic_of f) zs axis
-fronts_by_places f zs a k axis h e full is =
-    ap (fronts_along f k) (sym (shown_whole a (whole_axes a.shape) (Numbers zs) refl (sym e) full))
-    ∙ sym (fronts_of_lines f zs 0 (whole_axes a.shape) axis k (omega (arith, length-whole a.shape)) (is ∙ sym (whole_at a.shape k axis h)))
+pub prefixes_by_places : (f : Dyadic) (zs : List ℤ) (a : Arr) (k : ℕ) (axis : Axis) → k < length a.shape → a.items ≡ Numbers zs → length (cells_of a.items) ≡ size_of a.shape →
+    axis ≡ record { length = get_or a.shape k 0; up = apart k a.shape; down = 0 } → prefixes_along f k a ≡ prefix_folds (dyadic_of f) zs axis
+prefixes_by_places f zs a k axis h e full is =
+    ap (prefixes_along f k) (sym (shown_whole a (whole_axes a.shape) (Numbers zs) refl (sym e) full))
+    ∙ sym (prefixes_of_lines f zs 0 (whole_axes a.shape) axis k (omega (arith, length-whole a.shape)) (is ∙ sym (whole_at a.shape k axis h)))
     ∙ ap (λ (s : List ℕ). all_ok (λ i. line_fold (dyadic_of f) zs axis (place_at 0 (without k (whole_axes a.shape)) (without k i)) (get_or i k 0 + 1)) (indices s)) (lengths-whole a.shape)
-    ∙ all_ok-same (λ i. is_within a.shape i ≡ true) _ (λ i. front_fold (dyadic_of f) zs axis (position_in a.shape i)) each (indices a.shape) (all_within a.shape)
-    ∙ by_places a.shape (front_fold (dyadic_of f) zs axis)
-    ∙ ap (λ (n : ℕ). all_ok (front_fold (dyadic_of f) zs axis) (range_with_len 0 n)) (sym full ∙ ap (λ (i : Items). length (cells_of i)) e ∙ length-map zs Num)
+    ∙ all_ok-same (λ i. is_within a.shape i ≡ true) _ (λ i. prefix_fold (dyadic_of f) zs axis (position_in a.shape i)) each (indices a.shape) (all_within a.shape)
+    ∙ by_places a.shape (prefix_fold (dyadic_of f) zs axis)
+    ∙ ap (λ (n : ℕ). all_ok (prefix_fold (dyadic_of f) zs axis) (range_with_len 0 n)) (sym full ∙ ap (λ (i : Items). length (cells_of i)) e ∙ length-map zs Num)
   where
     each : (i : List ℕ) → is_within a.shape i ≡ true →
-        line_fold (dyadic_of f) zs axis (place_at 0 (without k (whole_axes a.shape)) (without k i)) (get_or i k 0 + 1) ≡ front_fold (dyadic_of f) zs axis (position_in a.shape i)
+        line_fold (dyadic_of f) zs axis (place_at 0 (without k (whole_axes a.shape)) (without k i)) (get_or i k 0 + 1) ≡ prefix_fold (dyadic_of f) zs axis (position_in a.shape i)
     each i w =
         ap (λ (p : ℕ). line_fold (dyadic_of f) zs axis p (get_or i k 0 + 1)) (sym (line_start a.shape i k axis h w is))
         ∙ ap (λ (x : ℕ). line_fold (dyadic_of f) zs axis (position_in a.shape i - x * axis.up) (x + 1)) (sym (index_at a.shape i k axis h w is))
 
--- a fault is the scan's where the fronts before it are known
-pub front_fault : (f : ℤ → ℤ → Result ℤ Fault) (zs : List ℤ) (axis : Axis) (at : ℕ) (out : List ℤ) (e : Fault) → AreFronts f zs axis at out → at < length zs → front_fold f zs axis at ≡ Err e → front_folds f zs axis ≡ Err e
-front_fault f zs axis at out e h l g = first_fault (front_fold f zs axis) out e at (length zs) l h g
+-- a fault is the scan's where the prefixes before it are known
+pub prefix_fault : (f : ℤ → ℤ → Result ℤ Fault) (zs : List ℤ) (axis : Axis) (at : ℕ) (out : List ℤ) (e : Fault) → ArePrefixes f zs axis at out → at < length zs → prefix_fold f zs axis at ≡ Err e → prefix_folds f zs axis ≡ Err e
+prefix_fault f zs axis at out e h l g = first_fault (prefix_fold f zs axis) out e at (length zs) l h g
 
 -- all of them
-pub fronts_whole : (f : ℤ → ℤ → Result ℤ Fault) (zs : List ℤ) (axis : Axis) (out : List ℤ) → length out ≡ length zs → AreFronts f zs axis (length zs) out → front_folds f zs axis ≡ Ok out
-fronts_whole f zs axis out e h = all_values (front_fold f zs axis) out (length zs) e h
+pub prefixes_whole : (f : ℤ → ℤ → Result ℤ Fault) (zs : List ℤ) (axis : Axis) (out : List ℤ) → length out ≡ length zs → ArePrefixes f zs axis (length zs) out → prefix_folds f zs axis ≡ Ok out
+prefixes_whole f zs axis out e h = all_values (prefix_fold f zs axis) out (length zs) e h
 
 -- an array that has elements has whole lines along each axis
 pub lines_whole : (s : List ℕ) (k : ℕ) (zs : List ℤ) (axis : Axis) → k < length s → 0 < size_of s → length zs ≡ size_of s → bound_of s ≤ 1000000 → axis.length ≡ get_or s k 0 → axis.up ≡ apart k s → axis.down ≡ 0 → AreWhole zs axis

@@ -1,9 +1,10 @@
 -- The items of lines.
-use Rattle.std.proofs.Common.{suc, zero, ◌≡◌, ℕ, ◌+◌, ◌-◌, ◌*◌, ◌<◌, ◌≤◌, List, [], ◌∷◌, map, length, get_or, take, drop, refl, ap, sym, ◌∙◌, ◌++◌, add-one, arith}
+use Rattle.std.proofs.Common.{suc, zero, ◌≡◌, ℕ, ◌+◌, ◌-◌, ◌*◌, ◌<◌, ◌≤◌, List, [], ◌∷◌, map, length, get_or, take, drop, refl, ap, sym, ◌∙◌, ◌++◌, add-one, arith, ◌/◌, ◌^◌}
 use Rattle.std.specs.Prelude.{slice_range}
 use Rattle.std.specs.List.{range_with_len}
 use Rattle.std.proofs.lemmas.List.{length-map, length-take-le, length-drop, get_or-take, get_or-drop}
 use Rattle.std.proofs.lemmas.List.FromFn.{length-range_with_len, get_or-map-range_with_len, fill_by_all}
+use Rattle.std.proofs.Math.Nat.{div-add-mod, mul-le-mul_right}
 use Rattle.apl_arrays.specs.declared.axis.Axis.{Axis}
 use Rattle.apl_arrays.specs.Strides.{step_at}
 use Rattle.apl_folds.specs.Lines.{line_of, IsLine}
@@ -64,3 +65,20 @@ line_more {A = A} none raw axis p k =
   where
     none_before : (k : ℕ) → 0 + k ≡ k
     none_before k = omega arith
+
+-- the numbers at an index of lines that begin side by side
+pub all_placed : (n : ℕ) (a : Axis) (at lines count index : ℕ) → index < count → ((j : ℕ) → j < lines → IsLine n a (at + j) count) → (j : ℕ) → j < lines → at + j + step_at a index < n
+all_placed n a at lines count index h all j l =
+    let line = all j l in
+    line.placed index (omega (arith, line.within))
+
+pub first_near : (n : ℕ) (a : Axis) (at lines count : ℕ) → 0 < lines → ((j : ℕ) → j < lines → IsLine n a (at + j) count) → at + (a.up + a.down) * a.length < 2 ^ 63
+first_near n a at lines count some all =
+    let line = all 0 some in
+    omega (arith, line.near)
+
+-- whole rows of so many numbers
+pub whole_row : (n w row : ℕ) → row < n / w → row * w + w ≤ n
+whole_row n w row h =
+    let rows : (row + 1) * w ≤ n / w * w = mul-le-mul_right w (omega arith) in
+    omega (arith, rows, div-add-mod n w)

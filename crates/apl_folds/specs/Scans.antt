@@ -21,12 +21,12 @@ abbrev pub items_up_to : ℕ → Arr → List ℕ → List Cell
 items_up_to axis a i = take (slice_index_or i axis 0 + 1) (items_along axis a (without axis i))
 
 -- the fold of the items up to each index list, or the first fault in their order
-abbrev pub fronts_along : Dyadic → ℕ → Arr → Result (List ℤ) Fault
-fronts_along f axis a = all_ok (λ i. folded f (items_up_to axis a i)) (indices a.shape)
+abbrev pub prefixes_along : Dyadic → ℕ → Arr → Result (List ℤ) Fault
+prefixes_along f axis a = all_ok (λ i. folded f (items_up_to axis a i)) (indices a.shape)
 
 -- the same in the array's shape
-abbrev pub fronts_shaped : Dyadic → ℕ → Arr → Result Arr Fault
-fronts_shaped f axis a = ok_map (numbers_in a.shape) (fronts_along f axis a)
+abbrev pub prefixes_shaped : Dyadic → ℕ → Arr → Result Arr Fault
+prefixes_shaped f axis a = ok_map (numbers_in a.shape) (prefixes_along f axis a)
 
 -- an empty array and one that is of length 1 along the axis stay
 abbrev pub stays : ℕ → Arr → Bool
@@ -41,9 +41,9 @@ scannable a (Some axis) = demand (stays axis a || are_numbers a.items) Domain
 abbrev pub scan_checked : Along → Arr → ℕ → Result (Unit {0}) Fault
 scan_checked along a origin = and_then (axis_along along (length a.shape) origin) (scannable a)
 
--- the fronts, unless the array stays
+-- the prefixes, unless the array stays
 abbrev pub scanned_along : Dyadic → ℕ → Arr → Result Arr Fault
-scanned_along f axis a = and_then (scannable a (Some axis)) (λ u. cond (stays axis a) (Ok a) (fronts_shaped f axis a))
+scanned_along f axis a = and_then (scannable a (Some axis)) (λ u. cond (stays axis a) (Ok a) (prefixes_shaped f axis a))
 
 -- a scalar stays
 abbrev pub scanned : Dyadic → Option ℕ → Arr → Result Arr Fault

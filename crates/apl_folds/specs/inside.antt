@@ -1,6 +1,6 @@
 pub mod Chains
 pub mod Ends
-pub mod Fronts
+pub mod Prefixes
 pub mod Quarters
 pub mod Reach
 pub mod Sums

@@ -1,27 +1,27 @@
 // Folds by associative functions, each from the one before it.
 ghost use Rattle.std.specs.Prelude.{IsOk, IsSome};
 ghost use Rattle.apl_folds.specs.Chains.{IsAssociative};
-ghost use Rattle.apl_folds.specs.inside.Chains.{IsFront, value_with};
+ghost use Rattle.apl_folds.specs.inside.Chains.{IsPrefix, value_with};
 
 use crate::kept::Kept;
 use apl_scalar::Scalar;
 
 /// The fold of some numbers by an associative function, if there are any.
 #[derive(Clone, Copy)]
-pub(crate) struct Front {
+pub(crate) struct Prefix {
     fold: Option<i64>,
 }
 
-impl<F: Scalar> Kept<F> for Front {
+impl<F: Scalar> Kept<F> for Prefix {
     ghost given = { IsAssociative F.meaning };
 
-    ghost knows = { IsFront F.meaning };
+    ghost knows = { IsPrefix F.meaning };
 
     ghost tells = { λ s x. IsOk (value_with F.meaning s x) };
 
     #[inline(always)]
-    fn none() -> Front {
-        Front { fold: None }
+    fn none() -> Prefix {
+        Prefix { fold: None }
     }
 
     #[inline(always)]
@@ -36,7 +36,7 @@ impl<F: Scalar> Kept<F> for Front {
     }
 
     #[inline(always)]
-    fn next(self, _number: i64, fold: i64) -> Front {
-        Front { fold: Some(fold) }
+    fn next(self, _number: i64, fold: i64) -> Prefix {
+        Prefix { fold: Some(fold) }
     }
 }

@@ -11,7 +11,7 @@ use std::alloc::{AllocError, Global};
 /// The elements of a view in row-major order: those of the array that it shows, where it shows all of them in their order, and else copies.
 #[derive(Drop)]
 pub enum Ordered<'a> {
-    Lent(Elements<'a>),
+    Borrowed(Elements<'a>),
     Copied(Array),
 }
 
@@ -21,7 +21,7 @@ impl<'a> Ordered<'a> {
         ensures { listed result ≡ items_ordered self.now }
     {
         match self {
-            Ordered::Lent(elements) => *elements,
+            Ordered::Borrowed(elements) => *elements,
             Ordered::Copied(array) => array.items(),
         }
     }
@@ -58,7 +58,7 @@ pub fn in_order<'a>(alloc: Global, view: &'a View<'_>) -> Result<Ordered<'a>, Al
 {
     let strided = view.strided();
     if shows_all(&strided) {
-        return Ok(Ordered::Lent(strided.items));
+        return Ok(Ordered::Borrowed(strided.items));
     }
     Ok(Ordered::Copied(view.copied(alloc)?))
 }

@@ -65,15 +65,16 @@ pub(crate) fn folds(
 }
 
 /// The array of a shape that is within the limits.
-pub(crate) fn formed(shape: ArrayVec<usize, MAX_RANK>, ravel: Ravel) -> Result<Array, Stop>
+pub(crate) fn formed(
+    alloc: Global,
+    shape: ArrayVec<usize, MAX_RANK>,
+    ravel: Ravel,
+) -> Result<Array, Stop>
     requires full { length (cells_of (items_of ravel)) ≡ size_of shape.items }
     requires small { bound_of shape.items ≤ MAX_ELEMENTS }
     ensures { Answers (λ r. r) (Ok (record { shape = shape.items; items = items_of ravel })) result }
 {
-    match Array::new(shape, ravel) {
-        Ok(array) => Ok(array),
-        Err(fault) => Err(Stop::Fault(fault)),
-    }
+    Array::new(alloc, shape, ravel)
 }
 
 /// The elements of a view in the shape without an axis of length 1.
@@ -84,7 +85,11 @@ fn squeeze(alloc: Global, axis: usize, view: &View<'_>) -> Result<Array, Stop>
 {
     let mut shape = view.shape();
     shape.remove(axis);
-    formed(shape, in_order(alloc, view)?.items().to_ravel(alloc)?)
+    formed(
+        alloc,
+        shape,
+        in_order(alloc, view)?.items().to_ravel(alloc)?,
+    )
 }
 
 /// The fold of a vector of numbers that lie side by side, which is the whole of a reduction and takes no memory.
@@ -128,7 +133,7 @@ fn fold_lines(alloc: Global, function: Dyadic, axis: usize, view: &View<'_>) -> 
     shape.remove(axis);
     let room = size(shape.as_slice());
     let numbers = folds(alloc, function, axis, &view.strided(), room)?;
-    formed(shape, Ravel::Nums(numbers))
+    formed(alloc, shape, Ravel::Nums(numbers))
 }
 
 /// The same, at once for a vector in one piece.

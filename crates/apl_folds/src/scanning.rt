@@ -6,10 +6,10 @@ ghost use Rattle.apl_arrays.specs.Checks.{demand};
 ghost use Rattle.apl_arrays.specs.Kinds.{are_numbers};
 ghost use Rattle.apl_arrays.specs.Origins.{origin_number};
 ghost use Rattle.apl_arrays.specs.Index.{size_of};
-ghost use Rattle.apl_folds.specs.Scans.{fronts_along, fronts_shaped, scannable, scan_checked, scanned_along, scanning};
+ghost use Rattle.apl_folds.specs.Scans.{prefixes_along, prefixes_shaped, scannable, scan_checked, scanned_along, scanning};
 
-use crate::fronts::fronts;
 use crate::order::in_order;
+use crate::prefixes::prefixes;
 use crate::reduction::formed;
 use apl_arrays::{Along, Array, Axis, Cells, Elements, Origin, Ravel, Stop, View, size};
 use apl_faults::Fault;
@@ -17,7 +17,7 @@ use apl_scalar::Dyadic;
 use std::alloc::Global;
 
 /// The folds of the first numbers along an axis, for each index list.
-fn fronts_in_order(
+fn prefixes_in_order(
     alloc: Global,
     function: Dyadic,
     axis: usize,
@@ -26,7 +26,7 @@ fn fronts_in_order(
     requires axis { axis < length view.now.shape }
     requires some { 0 < size_of view.now.shape }
     requires numbers { are_numbers view.now.items ≡ true }
-    ensures { Answers (λ v. v.items) (fronts_along function axis view.now) result }
+    ensures { Answers (λ v. v.items) (prefixes_along function axis view.now) result }
 {
     let shape = view.shape();
     let (to_axis, after) = shape.as_slice().split_at(axis + 1);
@@ -37,7 +37,7 @@ fn fronts_in_order(
     };
     let elements = in_order(alloc, view)?;
     match elements.items() {
-        Elements::Nums(numbers) => fronts(alloc, function, numbers, inner),
+        Elements::Nums(numbers) => prefixes(alloc, function, numbers, inner),
         Elements::Chars(_) => unreachable!(),
     }
 }
@@ -51,14 +51,14 @@ fn scan_elements(
 ) -> Result<Array, Stop>
     requires axis { axis < length view.now.shape }
     requires some { 0 < size_of view.now.shape }
-    ensures value { Answers (λ r. r) (cond (are_numbers view.now.items) (fronts_shaped function axis view.now) (Err Domain)) result }
+    ensures value { Answers (λ r. r) (cond (are_numbers view.now.items) (prefixes_shaped function axis view.now) (Err Domain)) result }
     ensures at_once { FaultsFirst (demand (are_numbers view.now.items) Domain) result }
 {
     let strided = view.strided();
     match strided.items {
         Elements::Nums(_) => {
-            let folds = fronts_in_order(alloc, function, axis, view)?;
-            formed(view.shape(), Ravel::Nums(folds))
+            let folds = prefixes_in_order(alloc, function, axis, view)?;
+            formed(alloc, view.shape(), Ravel::Nums(folds))
         }
         Elements::Chars(_) => Err(Stop::Fault(Fault::Domain)),
     }

@@ -16,7 +16,7 @@ use arrayvec::ArrayVec;
 use std::alloc::{AllocError, Global};
 
 /// Characters in these axes and one more.
-fn in_shape(outer: &[usize], last: usize, characters: Vec<Ch>) -> Result<Array, Stop>
+fn in_shape(alloc: Global, outer: &[usize], last: usize, characters: Vec<Ch>) -> Result<Array, Stop>
     requires full { length characters.items ≡ size_of (outer.now ++ last ∷ []) }
     requires few_axes { length outer.now < MAX_RANK }
     ensures { Answers (λ a. a) (in_limits (record { shape = outer.now ++ last ∷ []; items = Characters characters.items })) result }
@@ -26,10 +26,7 @@ fn in_shape(outer: &[usize], last: usize, characters: Vec<Ch>) -> Result<Array, 
         shape.push(*length);
     }
     shape.push(last);
-    match Array::new(shape, Ravel::Chars(characters)) {
-        Ok(array) => Ok(array),
-        Err(fault) => Err(Stop::Fault(fault)),
-    }
+    Array::new(alloc, shape, Ravel::Chars(characters))
 }
 
 /// Numbers in one line.
@@ -39,7 +36,7 @@ fn format_line(alloc: Global, numbers: &[i64]) -> Result<Array, Stop>
     let width = line_width(numbers)?;
     let mut characters = Vec::with_capacity(alloc, width)?;
     push_numbers(&mut characters, numbers)?;
-    in_shape(&[], width, characters)
+    in_shape(alloc, &[], width, characters)
 }
 
 /// Adds rows of numbers, one directly after the other, each number right-aligned in its column.
@@ -82,7 +79,7 @@ fn format_rows(
     }
     let mut characters = Vec::with_capacity(alloc, count * width)?;
     push_rows(&mut characters, widths.as_slice(), numbers, count)?;
-    in_shape(outer, width, characters)
+    in_shape(alloc, outer, width, characters)
 }
 
 /// Numbers as the characters of their display.

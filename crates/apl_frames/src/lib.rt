@@ -4,5 +4,5 @@
 mod frame;
 mod stack;
 
-pub use frame::{Frame, FrameBuf, Stage, share_top};
+pub use frame::{Frame, FrameBuf, Stage};
 pub use stack::OperandStack;

@@ -15,7 +15,7 @@ ghost use Rattle.apl_kept.specs.declared.error.KeptError.TheVariants as refusal;
 use crate::error::KeptError;
 use crate::names::{Named, names_in, source_named};
 use crate::standing::{Told, line_told};
-use apl_arrays::SharedArray;
+use apl_arrays::Array;
 use apl_charset::{Ch, Text};
 use apl_machine::{Level, Machine, OutLine, Progress};
 use apl_session::{FeedError, Session};
@@ -200,7 +200,7 @@ impl Kept {
     }
 
     /// The value of a name, as a statement that begins now would read it, if it has one. A label has none, nor has a function.
-    pub fn value(&self, name: &Name) -> Option<&SharedArray>
+    pub fn value(&self, name: &Name) -> Option<&Array>
         ensures { option_copied result ≡ value_of self.now name.now }
     {
         self.session.machine().value(name)

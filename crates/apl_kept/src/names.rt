@@ -3,7 +3,7 @@ ghost use Rattle.std.specs.Prelude.{◌≡◌, ◌≤◌, length, option_copied,
 ghost use Rattle.apl_defn.specs.Definitions.{line_of};
 ghost use Rattle.apl_kept.specs.Names.{function_named, function_reading, names_of, reading_now, source_of, value_reading};
 
-use apl_arrays::SharedArray;
+use apl_arrays::Array;
 use apl_charset::{Ch, Text};
 use apl_defn::{Definition, canonical};
 use apl_machine::Machine;
@@ -55,7 +55,7 @@ pub struct Named {
 }
 
 /// What is read under a name that has this value, if it has one.
-fn value_reading(alloc: Global, value: Option<&SharedArray>) -> Result<Reading, AllocError>
+fn value_reading(alloc: Global, value: Option<&Array>) -> Result<Reading, AllocError>
     ensures { IfOk result (λ r. r ≡ value_reading (option_copied value.entry)) }
 {
     let Some(array) = value else {

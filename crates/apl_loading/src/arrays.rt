@@ -50,13 +50,9 @@ impl Field for ArrayField {
         if ravel.len() != size(shape) {
             return Err(LoadFault::Array);
         }
-        match Array::from_shape(shape, ravel) {
-            Ok(array) => {
-                // A clause of the call says that this is an array within the limits.
-                let _shape = array.shape();
-                Ok(array)
-            }
-            Err(_) => unreachable!(),
-        }
+        let array = Array::in_shape(alloc, shape, ravel)?;
+        // A clause of the call says that this is an array within the limits.
+        let _shape = array.shape();
+        Ok(array)
     }
 }

@@ -10,8 +10,10 @@ ghost use Rattle.apl_operands.specs.Operands.{Offers, fetched_from};
 ghost use Rattle.apl_frames.specs.Ends.{IsColumn};
 ghost use Rattle.apl_contexts.specs.Contexts.{AreSound, AreStacked, Newest, dressed, line_in, lines_in, standing};
 ghost use Rattle.apl_machine.specs.Changes.{ComesToPhrase, IsChange};
+ghost use Rattle.apl_machine.specs.inside.Next.{CallsNone};
 ghost use Rattle.apl_machine.specs.inside.Reduced.{Reduces};
 ghost use Rattle.apl_machine.specs.Worlds.{settings};
+ghost use Rattle.apl_phrases.specs.Calling.{CallsByName};
 ghost use Rattle.apl_phrases.specs.Effects.{acted, seen};
 
 use crate::departure::failing;
@@ -20,7 +22,7 @@ use apl_charset::Text;
 use apl_code::Instr;
 use apl_contexts::Contexts;
 use apl_machine_state::{Operand, OutLine, Watch};
-use apl_names::{DefinedFunction, Names};
+use apl_names::Names;
 use apl_operands::{Given, Operands, last_operand, left};
 use apl_phrases::{Deed, Effect, Scene, perform};
 use apl_symbols::Name;
@@ -35,8 +37,6 @@ pub enum Change {
     /// A phrase asks the stop or trace vector of a function, which is replaced where there is a new
     /// one, with so many operands left.
     Asks(Watch, Name, Option<Vec<usize>>, usize),
-    /// A phrase calls a function with these arguments, with so many operands left.
-    Calls(DefinedFunction, Option<Array>, Option<Array>, usize),
     /// A phrase executes a text, of these tokens, with so many operands left.
     Executes(Text, Vec<Token>, usize),
     /// A fault abandons the line, and these lines report it.
@@ -50,10 +50,10 @@ fn line_counter(alloc: Global, contexts: &Contexts) -> Result<Array, AllocError>
     ensures { IfOk result (λ array. array ≡ vector (Numbers (lines_in contexts.now))) }
 {
     let numbers = contexts.line_numbers(alloc)?;
-    Ok(Array::vector(Ravel::Nums(numbers)))
+    Array::vector(alloc, Ravel::Nums(numbers))
 }
 
-/// What a phrase makes of a machine.
+/// What a phrase makes of a machine, which calls no function by its name.
 fn reduce(
     alloc: Global,
     scene: Scene<'_>,
@@ -62,6 +62,7 @@ fn reduce(
     operands: Operands<'_>,
 ) -> Result<Change, AllocError>
     requires there { Offers operands instr.now.arguments }
+    requires other { ¬ CallsByName instr.now.action }
     requires placed { IsColumn instr.now.at }
     requires stacked { AreStacked Newest contexts.now }
     requires few { standing contexts.now ≤ 256 }
@@ -83,10 +84,6 @@ fn reduce(
             let given = Given::New(Operand::Value(numbers));
             Ok(Change::Goes(given, left, Deed::Nothing))
         }
-        Effect::Calls(function, first, second) => {
-            let left = left(sources, operands.stack);
-            Ok(Change::Calls(function, first, second, left))
-        }
         Effect::Asks(which, name, lines) => {
             let left = left(sources, operands.stack);
             Ok(Change::Asks(which, name, lines, left))
@@ -102,7 +99,7 @@ fn reduce(
     }
 }
 
-/// What the next step makes of a machine whose newest context comes to a phrase. It changes nothing yet.
+/// What the next step makes of a machine whose newest context comes to a phrase, which calls no function by its name. It changes nothing yet.
 pub fn change_of(
     alloc: Global,
     names: &Names,
@@ -113,6 +110,7 @@ pub fn change_of(
     requires few { standing contexts.now ≤ 256 }
     requires runs { IsSome (line_in contexts.now) }
     requires phrase { ComesToPhrase contexts.now }
+    requires other { CallsNone contexts.now }
     ensures { IfOk result (λ change. (stops traces : Vectors) → IsChange change names.now (settings stops traces (origin_number io)) contexts.now) }
 {
     let Some(line) = contexts.line() else {

@@ -8,17 +8,14 @@ ghost use Rattle.apl_names.specs.Owned.{Owns};
 ghost use Rattle.apl_contexts.specs.Contexts.{line_in, suspended};
 ghost use Rattle.apl_contexts.specs.Moves.{CanMove};
 ghost use Rattle.apl_vectors.specs.Vectors.{has_line};
-ghost use Rattle.apl_machine.specs.Spaces.{HasComeIn, HasEntered, IsSound, called_in, nothing_in, state_of, stopped_in};
+ghost use Rattle.apl_machine.specs.Spaces.{HasComeIn, HasEntered, IsSound, nothing_in, state_of, stopped_in};
 
-use crate::locals::{open_scope, origin_for};
 use crate::reports::context_fault;
 use crate::traces::stop_report;
 use crate::workspace::Workspace;
-use apl_arrays::Array;
 use apl_contexts::{Call, Context, Move, function_line};
 use apl_faults::Fault;
 use apl_names::DefinedFunction;
-use apl_phrases::Scene;
 use std::alloc::AllocError;
 
 impl Workspace {
@@ -95,7 +92,7 @@ impl Workspace {
         let Some(line) = self.contexts.line() else {
             unreachable!()
         };
-        let frame = line.lend();
+        let frame = line.frame();
         let Some(instr) = frame.code.instr(frame.done) else {
             unreachable!()
         };
@@ -138,45 +135,5 @@ impl Workspace {
                 Err(AllocError)
             }
         }
-    }
-
-    /// A function is called from the newest line with these arguments: the call begins its first
-    /// line, stops before it, or returns where there is none. Tells whether it stopped. After an
-    /// error nothing has changed.
-    pub(crate) fn enter(
-        &mut self,
-        function: DefinedFunction,
-        arguments: (Option<Array>, Option<Array>),
-        left: usize,
-    ) -> Result<bool, AllocError>
-        requires sound { IsSound self.old }
-        requires can { IfSome (line_in self.old.contexts) (λ f. CanMove (Move.Awaits left) f) }
-        requires placed { IfSome (line_in self.old.contexts) (λ f. (i : Instr) × (slice_get f.code f.done ≡ Some i) × IsColumn i.at) }
-        requires runs { IsSome (line_in self.old.contexts) }
-        ensures sound { IsSound self.new }
-        ensures ok { OnOk result (state_of self.new ≡ (called_in self.old function arguments.0 arguments.1 left).state) }
-        ensures stopped { IfOk result (λ stopped. stopped ≡ (called_in self.old function arguments.0 arguments.1 left).stopped) }
-        ensures err { OnErr result (self.new ≡ self.old) }
-    {
-        if function.definition().len() == 0 {
-            self.call_nothing(left)?;
-            return Ok(false);
-        }
-        let scene = Scene {
-            names: &self.names,
-            io: self.io,
-            standing: self.contexts.standing(),
-        };
-        let locals = function.definition().header().locals.as_slice();
-        let origin = origin_for(scene, locals);
-        open_scope(
-            &mut self.names,
-            origin,
-            function.definition(),
-            arguments.0.as_ref(),
-            arguments.1.as_ref(),
-        )?;
-        let stopped = self.come_into(function, left)?;
-        Ok(stopped)
     }
 }

@@ -7,7 +7,7 @@ ghost use Rattle.apl_names.specs.declared.binding.Binding.TheVariants.{Unset};
 ghost use Rattle.apl_phrases.specs.Effects.{seen};
 ghost use Rattle.apl_machine.specs.inside.Locals.{alone, names_with};
 
-use apl_arrays::{Array, Origin, SharedArray};
+use apl_arrays::{Array, Origin};
 use apl_defn::Definition;
 use apl_names::{Binding, DefinedFunction, Names};
 use apl_parts::bind_labels;
@@ -34,7 +34,7 @@ fn local_of(origin: Origin, name: &Name) -> Binding
     ensures { (name.now, result) ≡ local_of (alone (origin_number origin)) name.now }
 {
     if *name == origin_name() {
-        Binding::Value(SharedArray::number(origin.number() as i64))
+        Binding::Value(Array::number(origin.number() as i64))
     } else {
         Binding::Unset
     }

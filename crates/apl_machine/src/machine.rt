@@ -20,7 +20,7 @@ use crate::objects::{clear, define, erase, function_in, is_variable};
 use crate::reports::{token_fault, typed_fault};
 use crate::stepping::{abandon, make_many};
 use crate::workspace::Workspace;
-use apl_arrays::{Origin, SharedArray};
+use apl_arrays::{Array, Origin};
 use apl_charset::{Ch, Text};
 use apl_contexts::{Contexts, Lines, TextLine, text_line};
 use apl_defn::Definition;
@@ -270,7 +270,7 @@ impl Machine {
 
     /// The value of a name, as a statement that begins now would read it, if it has one. A label has
     /// none, nor has a function.
-    pub fn value(&self, name: &Name) -> Option<&SharedArray>
+    pub fn value(&self, name: &Name) -> Option<&Array>
         ensures { option_copied result ≡ value_of self.now name.now }
     {
         self.workspace.names.lookup(name)
@@ -371,6 +371,6 @@ impl Machine {
         let Some(line) = context.line() else {
             return None;
         };
-        Some(line.lend())
+        Some(line.frame())
     }
 }

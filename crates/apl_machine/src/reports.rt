@@ -6,7 +6,7 @@ ghost use Rattle.apl_tokens.specs.Tokens.{IsPlaced};
 ghost use Rattle.apl_machine_state.specs.Beginning.{token_fault};
 ghost use Rattle.apl_frames.specs.Ends.{IsColumn};
 ghost use Rattle.apl_contexts.specs.Contexts.{AreStacked, Place, dressed};
-ghost use Rattle.apl_contexts.specs.Stacks.{lent};
+ghost use Rattle.apl_contexts.specs.Stacks.{contexts_of};
 
 use apl_charset::{Ch, Text};
 use apl_contexts::{Context, Stack};
@@ -65,9 +65,9 @@ pub fn context_fault(
     contexts: Stack<'_>,
     column: usize,
 ) -> Result<Vec<OutLine>, AllocError>
-    requires stacked { (p : Place) × AreStacked p (lent contexts) }
+    requires stacked { (p : Place) × AreStacked p (contexts_of contexts) }
     requires column { IsColumn column }
-    ensures { IfOk result (λ lines. (ms : List Map) → lines.items ≡ fault_lines fault column (dressed ms (lent contexts.entry))) }
+    ensures { IfOk result (λ lines. (ms : List Map) → lines.items ≡ fault_lines fault column (dressed ms (contexts_of contexts.entry))) }
 {
     let Some((context, place)) = contexts.blamed(column) else {
         return Ok(Vec::new(alloc));

@@ -4,7 +4,7 @@ ghost use Rattle.apl_names.specs.Maps.{first_map, said, value_in};
 ghost use Rattle.apl_machine_state.specs.Calls.{result_of};
 ghost use Rattle.apl_frames.specs.Flat.{Stands};
 ghost use Rattle.apl_contexts.specs.Contexts.{AreStacked, Place, line_in};
-ghost use Rattle.apl_contexts.specs.Stacks.{lent};
+ghost use Rattle.apl_contexts.specs.Stacks.{contexts_of};
 ghost use Rattle.apl_machine.specs.Spaces.{IsPendent, IsReturn};
 
 use crate::reports::context_fault;
@@ -41,7 +41,7 @@ fn answering(names: &Names, call: &Call) -> Option<Name>
 
 /// What the newest of these contexts is doing.
 fn newest_line(contexts: Stack<'_>) -> Option<&FrameBuf>
-    ensures { option_copied result ≡ line_in (lent contexts.entry) }
+    ensures { option_copied result ≡ line_in (contexts_of contexts.entry) }
 {
     match contexts.newest() {
         Some(context) => context.line(),
@@ -57,16 +57,16 @@ pub(crate) fn returning(
     call: &Call,
     caller: Stack<'_>,
 ) -> Result<(Return, Vec<OutLine>), AllocError>
-    requires pendent { IsPendent (lent caller) }
-    requires stacked { (p : Place) × AreStacked p (lent caller) }
-    ensures is { IfOk result (λ r. IsReturn r.0 r.1.items names.now call.now (lent caller.entry)) }
-    ensures stands { IfOk result (λ r. IfSome (line_in (lent caller.entry)) (λ f. Stands f)) }
+    requires pendent { IsPendent (contexts_of caller) }
+    requires stacked { (p : Place) × AreStacked p (contexts_of caller) }
+    ensures is { IfOk result (λ r. IsReturn r.0 r.1.items names.now call.now (contexts_of caller.entry)) }
+    ensures stands { IfOk result (λ r. IfSome (line_in (contexts_of caller.entry)) (λ f. Stands f)) }
 {
     let Some(line) = newest_line(caller) else {
         unreachable!()
     };
     // A line that stands is as its code says.
-    let _lent = line.lend();
+    let _frame = line.frame();
     if let Some(name) = answering(names, call) {
         return Ok((Return::Answers(name), Vec::new(alloc)));
     }

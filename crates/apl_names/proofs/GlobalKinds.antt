@@ -31,7 +31,7 @@ kinds_with n b (e ∷ es) = by (name_cmp n e.0) (kinds_with n b es)
     by Equal h = refl
     by Greater h = ap (λ (l : List (Text × Bool)). (e.0, is_function e.1) ∷ l) h
 
--- what is lent of an entry
+-- what is borrowed of an entry
 lent_some : (n x : Text) (b : Binding) (o : Content) → Some (x, b) ≡ option_map {U = Text × Binding} (λ b. (n, b)) o → (x ≡ n) × (o ≡ Some b)
 lent_some n x b None h = absurd cc
 lent_some n x b (Some c) h =
@@ -45,13 +45,13 @@ one_more ks s i some le =
     let e : suc (i - 1) ≡ i = omega arith in
     ap (λ (l : List Text). listed l s) (drop-cons ks (i - 1) [] (omega arith) ∙ ap (λ (k : ℕ). name_at ks (i - 1) ∷ drop k ks) e)
 
--- the slot before is added, where the global scope has its name, and its name is lent as x with b
+-- the slot before is added, where the global scope has its name, and its name is borrowed as x with b
 pub one_added : (ks : List Text) (s : Scope) (i : ℕ) → 0 < i → i ≤ length ks → (es : List (Text × Bool)) → es ≡ kinds_in (listed (drop i ks) s)
     → (x : Text) (b : Binding) → Some (x, b) ≡ option_map {U = Text × Binding} (λ b. (name_at ks (i - 1), b)) (s (name_at ks (i - 1)))
     → insert_entry name_cmp es x (is_function b) ≡ kinds_in (listed (drop (i - 1) ks) s)
-one_added ks s i some le es so_far x b lent =
+one_added ks s i some le es so_far x b borrowed =
     let n = name_at ks (i - 1) in
-    let is = lent_some n x b (s n) lent in
+    let is = lent_some n x b (s n) borrowed in
     ap (λ (l : List (Text × Bool)). insert_entry name_cmp l x (is_function b)) so_far
     ∙ ap (λ (y : Text). insert_entry name_cmp (kinds_in (listed (drop i ks) s)) y (is_function b)) is.0
     ∙ kinds_with n b (listed (drop i ks) s)

@@ -6,7 +6,7 @@ ghost use Rattle.apl_names.specs.declared.binding.Binding.TheVariants.{Label};
 ghost use Rattle.apl_names.specs.Maps.{value_in, number_in, class_in, is_function, set_value, takes_value, with_value};
 
 use crate::function::DefinedFunction;
-use apl_arrays::{Array, SharedArray};
+use apl_arrays::Array;
 use apl_symbols::Class;
 use std::mem;
 
@@ -18,14 +18,14 @@ pub enum Binding {
     /// A label: the number of its line.
     Label(u16),
     /// A variable.
-    Value(SharedArray),
+    Value(Array),
     /// A defined function.
     Function(DefinedFunction),
 }
 
 impl Binding {
     /// Its value, if it has one.
-    pub(crate) fn value(&self) -> Option<&SharedArray>
+    pub(crate) fn value(&self) -> Option<&Array>
         ensures { option_copied result ≡ value_in (Some self.now) }
     {
         match self {
@@ -63,7 +63,7 @@ impl Binding {
         ensures { result ≡ value_in (Some self) }
     {
         match self {
-            Binding::Value(value) => Some(value.into_array()),
+            Binding::Value(value) => Some(value),
             Binding::Unset => None,
             Binding::Label(_) => None,
             Binding::Function(_) => None,
@@ -71,7 +71,7 @@ impl Binding {
     }
 
     /// Swaps its value, if it has one, with another, and says whether it has one.
-    pub(crate) fn swap(&mut self, value: &mut SharedArray) -> bool
+    pub(crate) fn swap(&mut self, value: &mut Array) -> bool
         ensures told { result ≡ is_some (value_in (Some self.old)) }
         ensures taken { value.new ≡ unwrap_or (value_in (Some self.old)) value.old }
         ensures put { Some self.new ≡ with_value value.old (Some self.old) }
@@ -96,7 +96,7 @@ impl Binding {
                 true
             }
             Binding::Unset => {
-                *self = Binding::Value(SharedArray::number(number));
+                *self = Binding::Value(Array::number(number));
                 true
             }
             _ => false,

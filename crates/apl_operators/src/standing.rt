@@ -12,7 +12,7 @@ use std::alloc::{AllocError, Global};
 /// Numbers of an array, or made.
 #[derive(Drop)]
 pub(crate) enum Held<'a> {
-    Lent(&'a [i64]),
+    Borrowed(&'a [i64]),
     Made(Vec<i64>),
 }
 
@@ -21,7 +21,7 @@ impl<'a> Held<'a> {
         ensures { result.now ≡ held self.now }
     {
         match self {
-            Held::Lent(numbers) => numbers,
+            Held::Borrowed(numbers) => numbers,
             Held::Made(numbers) => numbers.as_slice(),
         }
     }
@@ -93,8 +93,8 @@ fn beside_numbers<'a>(
 {
     match b {
         Elements::Nums(b) => Ok(Some(StandIns {
-            left: Held::Lent(a),
-            right: Held::Lent(b),
+            left: Held::Borrowed(a),
+            right: Held::Borrowed(b),
         })),
         Elements::Chars(b) => {
             if takes_characters(function) {

@@ -116,7 +116,7 @@ fn bound_to(alloc: Global, value: Option<Array>) -> Result<Binding, AllocError>
     ensures { IfOk result (λ binding. binding ≡ bound_to value) }
 {
     match value {
-        Some(array) => Ok(Binding::Value(array.into_shared(alloc)?)),
+        Some(array) => Ok(Binding::Value(array)),
         None => Ok(Binding::Unset),
     }
 }

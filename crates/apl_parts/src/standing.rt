@@ -87,7 +87,7 @@ fn rest_part(alloc: Global, line: &FrameBuf) -> Result<RestPart, AllocError>
     ensures { IfOk result (λ r. r ≡ waiting_of (flat_rest line.now)) }
 {
     let classes = classes_of(alloc, line.bound().items())?;
-    let frame = line.lend();
+    let frame = line.frame();
     let operands = operands_again(alloc, frame.operands)?;
     Ok(RestPart::new(classes, frame.done, operands))
 }
@@ -111,7 +111,7 @@ fn push_local(
     ensures { OnOk result (locals.new.items ≡ locals.old.items ++ (name.now, value_in (said (first_map (drop scope names.now)) name.now)) ∷ []) }
 {
     let value = match names.in_scope(scope, name) {
-        Some(Binding::Value(array)) => Some(array.to_array()?),
+        Some(Binding::Value(array)) => Some(array.copy()?),
         _ => None,
     };
     locals.push((*name, value))?;

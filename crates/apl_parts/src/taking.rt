@@ -61,7 +61,7 @@ fn push_variable(
     ensures { OnOk result (variables.new.items ≡ variables.old.items ++ variable_at name.now (said (last_map names.now) name.now)) }
 {
     if let Some(Binding::Value(array)) = names.global(name) {
-        variables.push((*name, array.to_array()?))?;
+        variables.push((*name, array.copy()?))?;
     }
     Ok(())
 }

@@ -1,5 +1,6 @@
 pub mod Becoming
-mod NoCalls
+mod Entering
+mod NoValues
 mod NoNumbers
 mod NumbersRead
 mod Elsewhere

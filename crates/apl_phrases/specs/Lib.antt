@@ -1,3 +1,4 @@
 pub mod Effects
+pub mod Calling
 pub mod Frequent
 pub mod inside

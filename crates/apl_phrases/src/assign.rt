@@ -42,7 +42,7 @@ fn read_name(scene: Scene<'_>, name: &Name) -> Result<Effect, AllocError>
     ensures { IfOk result (ComesTo (read_by (found scene.entry.names.now name.now))) }
 {
     match scene.names.binding(name) {
-        Some(Binding::Value(array)) => Ok(Effect::Gives(Operand::Value(array.to_array()?))),
+        Some(Binding::Value(array)) => Ok(Effect::Gives(Operand::Value(array.copy()?))),
         Some(Binding::Label(line)) => Ok(Effect::Gives(Operand::Value(number(*line)))),
         Some(Binding::Function(_)) => Ok(Effect::Fails(Fault::Syntax)),
         Some(Binding::Unset) => Ok(Effect::Fails(Fault::Value)),
@@ -160,7 +160,7 @@ fn assign_slots_of_name(
 {
     match scene.names.binding(&name) {
         Some(Binding::Value(v)) => {
-            let v = v.to_array()?;
+            let v = v.copy()?;
             assigned_result(name, index_assign(alloc, &v, slots, b, scene.origin()))
         }
         Some(Binding::Label(_)) => Ok(Effect::Fails(Fault::Syntax)),

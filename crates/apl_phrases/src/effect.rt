@@ -17,7 +17,6 @@ use apl_charset::Text;
 use apl_code::{Function, Row};
 use apl_faults::Fault;
 use apl_machine_state::{Operand, OutLine, Watch};
-use apl_names::DefinedFunction;
 use apl_primitives::{Arguments, phrase_value};
 use apl_symbols::{Name, Primitive};
 use apl_tokens::Token;
@@ -32,8 +31,6 @@ pub enum Effect {
     Passes(Deed),
     /// It gives the line numbers of the standing calls.
     GivesLineNumbers,
-    /// It calls a function with these arguments.
-    Calls(DefinedFunction, Option<Array>, Option<Array>),
     /// It gives the stop or trace vector that a function has, which is replaced where there is a new one.
     Asks(Watch, Name, Option<Vec<usize>>),
     /// It executes a text, of these tokens.

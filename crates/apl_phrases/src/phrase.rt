@@ -3,6 +3,7 @@ ghost use Rattle.std.specs.Prelude.{◌≡◌, IfNone, IfOk, IfSome, map, false,
 ghost use Rattle.apl_arrays.specs.Cells.{Arr};
 ghost use Rattle.apl_arrays.specs.declared.cell.Cell.TheVariants.{Num};
 ghost use Rattle.apl_arrays.specs.Simple.{single};
+ghost use Rattle.apl_code.specs.declared.instr.Action.TheVariants.{Phrase};
 ghost use Rattle.apl_code.specs.declared.instr.Source.{Source};
 ghost use Rattle.apl_machine_state.specs.declared.operand.Operand.{Operand};
 ghost use Rattle.apl_code.specs.declared.row.Row.TheVariants.{Group};
@@ -13,6 +14,7 @@ ghost use Rattle.apl_primitives.specs.Taken.{as_taken};
 ghost use Rattle.apl_primitives.specs.Values.{phrase_value};
 ghost use Rattle.apl_operands.specs.Operands.{Offers, fetched_from, one_value};
 ghost use Rattle.apl_phrases.specs.Effects.{ComesOf, ComesWith, DoesTo, FetchesSlot, MakesSlots, PassesWriting, acted};
+ghost use Rattle.apl_phrases.specs.Calling.{CallsByName};
 ghost use Rattle.apl_phrases.specs.Frequent.{IsPassing};
 
 use crate::assign::{assign, assign_indexed, read};
@@ -216,7 +218,7 @@ pub fn slot_given(
     lone_number(sources, operands)
 }
 
-/// What a phrase of this row does.
+/// What a phrase of this row does, which calls no function by its name.
 fn perform_row(
     alloc: Global,
     scene: Scene<'_>,
@@ -225,13 +227,14 @@ fn perform_row(
     operands: Operands<'_>,
 ) -> Result<Effect, AllocError>
     requires there { Offers operands sources.now }
+    requires other { ¬ CallsByName (Phrase row.now) }
     ensures { IfOk result (DoesTo (fetched_from operands.entry sources.now) scene.entry (λ s. outcome s row.now (fetched_from operands.entry sources.now))) }
 {
     match row {
         Row::Index(_) => index_list(alloc, sources, operands),
         Row::Group => Ok(group(arguments(sources, operands))),
         Row::Read(variable) => read(scene, variable),
-        Row::Call(variable) => call(scene, variable),
+        Row::Call(variable) => Ok(call(variable)),
         Row::Monadic(function) => {
             monadic(alloc, scene, row, function, arguments(sources, operands))
         }
@@ -245,7 +248,7 @@ fn perform_row(
     }
 }
 
-/// What a phrase's instruction does.
+/// What a phrase's instruction does, which calls no function by its name.
 pub fn perform(
     alloc: Global,
     scene: Scene<'_>,
@@ -254,6 +257,7 @@ pub fn perform(
     operands: Operands<'_>,
 ) -> Result<Effect, AllocError>
     requires there { Offers operands sources.now }
+    requires other { ¬ CallsByName action.now }
     ensures { IfOk result (DoesTo (fetched_from operands.entry sources.now) scene.entry (λ s. acted s action.now (fetched_from operands.entry sources.now))) }
 {
     match action {

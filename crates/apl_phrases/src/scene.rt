@@ -4,7 +4,7 @@ ghost use Rattle.apl_arrays.specs.Origins.{origin_number};
 ghost use Rattle.apl_machine_state.specs.Environment.{origin_by, origin_in, origin_name};
 ghost use Rattle.apl_names.specs.Maps.{found};
 
-use apl_arrays::{Elements, Origin, SharedArray};
+use apl_arrays::{Array, Elements, Origin};
 use apl_charset::Ch;
 use apl_names::{Binding, Names};
 use apl_symbols::Name;
@@ -36,7 +36,7 @@ pub fn origin_name() -> Name
 }
 
 /// The origin that an array stands for, which holds 0 or 1.
-fn origin_in(array: &SharedArray) -> Origin
+fn origin_in(array: &Array) -> Origin
     ensures { origin_number result ≡ origin_in array.now.items }
 {
     match array.items() {

@@ -31,7 +31,7 @@ fn left_of_scalar(alloc: Global, counts: &[i64], b: &Array) -> Result<Array, All
     let axes = ones(counts.len());
     let lengths = asked_of_each(Asked::Left, axes.as_slice(), counts);
     let left = ravel_round(alloc, b.items(), size(lengths.as_slice()))?;
-    Ok(Array::in_shape(lengths.as_slice(), left))
+    Ok(Array::in_shape(alloc, lengths.as_slice(), left)?)
 }
 
 /// What is left of an array, where a scalar gets as many axes as there are counts.

@@ -78,7 +78,7 @@ fn join_with(
     let x = block_of(a.shape(), axis, s);
     let y = block_of(b.shape(), axis, t);
     let ravel = ravel_joined(alloc, room, rows_before(axis, s), pair, x, y)?;
-    Ok(Array::in_shape(shape.as_slice(), ravel))
+    Ok(Array::in_shape(alloc, shape.as_slice(), ravel)?)
 }
 
 /// Two arrays joined along an axis.

@@ -34,7 +34,7 @@ pub fn shape(alloc: Global, b: &Array) -> Result<Array, Stop>
     ensures { Answers (λ r. r) (Ok (shape_of b.now)) result }
 {
     let lengths = length_numbers(alloc, b.shape())?;
-    Ok(Array::vector(Ravel::Nums(lengths)))
+    Ok(Array::vector(alloc, Ravel::Nums(lengths))?)
 }
 
 /// The elements in ravel order, as a vector. A vector stays.
@@ -44,7 +44,7 @@ pub fn ravel(alloc: Global, b: &Array) -> Result<Array, Stop>
     if b.shape().len() == 1 {
         return Ok(b.copy()?);
     }
-    Ok(Array::vector(b.items().to_ravel(alloc)?))
+    Ok(Array::vector(alloc, b.items().to_ravel(alloc)?)?)
 }
 
 /// The elements of B in ravel order, taken round, in the shape that A names.
@@ -59,5 +59,5 @@ pub fn reshape(alloc: Global, a: &Array, b: &Array) -> Result<Array, Stop>
     let lengths = shape_named_by(a)?;
     let count = size(lengths.as_slice());
     let round = ravel_round(alloc, b.items(), count)?;
-    Ok(Array::in_shape(lengths.as_slice(), round))
+    Ok(Array::in_shape(alloc, lengths.as_slice(), round)?)
 }

@@ -219,5 +219,5 @@ pub fn take_items(alloc: Global, a: &Array, b: &Array) -> Result<Array, Stop>
     }
     let shape = axes_of(counts.len(), own);
     let ravel = ravel_taken(alloc, b.items(), shape.as_slice(), counts, wanted)?;
-    Ok(Array::in_shape(wanted, ravel))
+    Ok(Array::in_shape(alloc, wanted, ravel)?)
 }

@@ -47,5 +47,5 @@ pub(crate) fn join_vectors(alloc: Global, a: &Array, b: &Array) -> Result<Array,
     let shape = [first.len() + second.len()];
     within_limits(&shape)?;
     let ravel = ravel_appended(alloc, shape[0], pair)?;
-    Ok(Array::in_shape(&shape, ravel))
+    Ok(Array::in_shape(alloc, &shape, ravel)?)
 }

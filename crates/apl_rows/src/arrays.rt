@@ -66,7 +66,7 @@ fn write_empty(page: &mut Page, text: &str) {
     let mut shape = ArrayVec::new();
     shape.push(0);
     shape.push(count(text));
-    match Array::new(shape, Ravel::Chars(Vec::new(page.alloc))) {
+    match Array::new(page.alloc, shape, Ravel::Chars(Vec::new(page.alloc))) {
         Ok(array) => write_value(page, Some(&array)),
         Err(fault) => page.refuse(&fault),
     }

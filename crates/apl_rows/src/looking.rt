@@ -3,7 +3,7 @@
 use crate::codes::{bound_line, write_code};
 use crate::page::Page;
 use crate::words::count;
-use crate::writing::{write_class, write_lent, write_objects, write_operands};
+use crate::writing::{write_class, write_objects, write_operands, write_value};
 use apl_debug::{state_indicator, stops, traces};
 use apl_machine::{Level, Machine};
 use apl_symbols::Name;
@@ -99,7 +99,7 @@ fn write_loaded(page: &mut Page, text: &str) {
 /// Looks at what a name stands for.
 fn look(page: &mut Page, machine: &Machine, word: &str, name: &Name) {
     match word {
-        "value" => write_lent(page, machine.value(name).map(|value| value.lend())),
+        "value" => write_value(page, machine.value(name)),
         "class" => write_class_of(page, machine, name),
         "watched" => {
             write_vector(page, "stops: ", stops(machine, name));

@@ -7,7 +7,7 @@
 use crate::functions::definition_of;
 use crate::page::Page;
 use crate::words::{count, element, next_word};
-use crate::writing::{write_class, write_lent, write_objects, write_value};
+use crate::writing::{write_class, write_objects, write_value};
 use apl_arrays::Array;
 use apl_names::{Binding, DefinedFunction, Names};
 use apl_symbols::Name;
@@ -20,7 +20,7 @@ fn write_binding(page: &mut Page, binding: Option<&Binding>) {
             page.put("label ");
             page.count(line, "");
         }
-        Some(Binding::Value(value)) => write_lent(page, Some(value.lend())),
+        Some(Binding::Value(value)) => write_value(page, Some(value)),
         Some(Binding::Function(function)) => {
             page.put("function of ");
             page.count(&function.definition().len(), " lines");
@@ -34,7 +34,7 @@ fn write_looked_up(page: &mut Page, names: &Names, name: &Name) {
     write_binding(page, names.binding(name));
     write_class(page, names.class_of(name));
     page.put(", ");
-    write_lent(page, names.lookup(name).map(|value| value.lend()));
+    write_value(page, names.lookup(name));
 }
 
 /// The function of a header and lines.

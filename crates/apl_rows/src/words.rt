@@ -4,6 +4,7 @@ use crate::page::Page;
 use apl_arrays::{Array, Ravel, is_in_bounds, size};
 use apl_charset::{Ch, Text};
 use apl_symbols::{Class, Name};
+use std::alloc::Global;
 
 /// The first word, and what stands behind the blank after it.
 pub fn next_word(text: &str) -> (&str, &str) {
@@ -64,9 +65,9 @@ fn byte(digits: &[u8]) -> u8 {
 }
 
 /// The array of a shape and elements, where they fit and are within the limits.
-fn shaped(shape: &[usize], ravel: Ravel) -> Option<Array> {
+fn shaped(alloc: Global, shape: &[usize], ravel: Ravel) -> Option<Array> {
     if is_in_bounds(shape) && size(shape) == ravel.len() {
-        Array::from_shape(shape, ravel).ok()
+        Array::from_shape(alloc, shape, ravel).ok()
     } else {
         None
     }
@@ -185,7 +186,7 @@ impl Page {
         let (shape, text) = text.split_once(':').unwrap_or(("", text));
         let ravel = self.ravel(text);
         let shape = self.counts(shape);
-        let array = shaped(&shape, ravel);
+        let array = shaped(self.alloc, &shape, ravel);
         if array.is_none() {
             self.unknown();
         }

@@ -1,7 +1,7 @@
 //! Arrays, operands, classes and lines of output, as they are written.
 
 use crate::page::Page;
-use apl_arrays::{Array, Cell, Elements, Lent, Stop};
+use apl_arrays::{Array, Cell, Elements, Stop};
 use apl_machine::{LineKind, Operand, OutLine, Slots};
 use apl_symbols::{Class, Name};
 
@@ -43,7 +43,7 @@ pub fn write_cells(page: &mut Page, cells: &[Cell]) {
 }
 
 /// Writes an array as rows do: `2 3:1 2 3 4 5 6`, or `2:'AB` for characters.
-fn write_array(page: &mut Page, array: &Lent<'_>) {
+fn write_array(page: &mut Page, array: &Array) {
     page.numbers(array.shape());
     page.mark(':');
     match array.items() {
@@ -57,13 +57,8 @@ fn write_array(page: &mut Page, array: &Lent<'_>) {
 
 /// Writes an array, if there is one, as a line.
 pub fn write_value(page: &mut Page, value: Option<&Array>) {
-    write_lent(page, value.map(|array| array.lend()));
-}
-
-/// Writes an array that is borrowed, if there is one, as a line.
-pub fn write_lent(page: &mut Page, value: Option<Lent<'_>>) {
     match value {
-        Some(array) => write_array(page, &array),
+        Some(array) => write_array(page, array),
         None => page.put("no value"),
     }
     page.end();
@@ -83,7 +78,7 @@ fn write_slots(page: &mut Page, slots: &Slots) {
     for slot in slots.as_slice() {
         page.mark(' ');
         match slot {
-            Some(array) => write_array(page, &array.lend()),
+            Some(array) => write_array(page, array),
             None => page.mark('-'),
         }
     }
@@ -94,7 +89,7 @@ pub fn write_operands(page: &mut Page, operands: &[Operand]) {
     for operand in operands {
         page.put("operand ");
         match operand {
-            Operand::Value(array) => write_array(page, &array.lend()),
+            Operand::Value(array) => write_array(page, array),
             Operand::Slots(slots) => write_slots(page, slots),
         }
         page.end();

@@ -210,7 +210,7 @@ fn shaped(
     ensures { Answers (λ r. r) (ok_map (numbers_in like.now.shape) (values_in function a.now b.now like.now.shape)) result }
 {
     let numbers = dyadic_values(alloc, function, like, a, b)?;
-    Ok(like.with_ravel(Ravel::Nums(numbers))?)
+    Ok(like.with_ravel(alloc, Ravel::Nums(numbers))?)
 }
 
 /// A scalar function of one array, element by element.
@@ -219,7 +219,7 @@ fn monadic_array(alloc: Global, function: Monadic, b: &Array) -> Result<Array, S
     ensures { Answers (λ r. r) (monadic function b.now) result }
 {
     let numbers = monadic_values(alloc, function, b)?;
-    Ok(b.with_ravel(Ravel::Nums(numbers))?)
+    Ok(b.with_ravel(alloc, Ravel::Nums(numbers))?)
 }
 
 /// A scalar function of one array.

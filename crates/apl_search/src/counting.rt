@@ -60,5 +60,5 @@ pub fn iota(alloc: Global, b: &Array, origin: Origin) -> Result<Array, Stop>
     let count = count_in(b)?;
     within_limits(&[count])?;
     let numbers = numbers_from(alloc, origin.number(), count)?;
-    Ok(Array::vector(Ravel::Nums(numbers)))
+    Ok(Array::vector(alloc, Ravel::Nums(numbers))?)
 }

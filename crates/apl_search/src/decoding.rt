@@ -175,5 +175,5 @@ pub fn decode(alloc: Global, a: &Array, b: &Array) -> Result<Array, Stop>
         size(shape),
         count,
     )?;
-    Ok(Array::in_shape(shape, Ravel::Nums(values)))
+    Ok(Array::in_shape(alloc, shape, Ravel::Nums(values))?)
 }

@@ -85,5 +85,5 @@ pub fn encode(alloc: Global, a: &Array, b: &Array) -> Result<Array, Stop>
     let shape = joined.as_slice();
     within_limits(shape)?;
     let digits = digits_of(alloc, bases, numbers)?;
-    Ok(Array::in_shape(shape, Ravel::Nums(digits)))
+    Ok(Array::in_shape(alloc, shape, Ravel::Nums(digits))?)
 }

@@ -77,5 +77,5 @@ pub fn member(alloc: Global, a: &Array, b: &Array) -> Result<Array, Stop>
     ensures { Answers (λ r. r) (Ok (membership a.now b.now)) result }
 {
     let verdicts = standing_in(alloc, a.items(), b.items())?;
-    Ok(a.with_ravel(Ravel::Nums(verdicts))?)
+    Ok(a.with_ravel(alloc, Ravel::Nums(verdicts))?)
 }

@@ -104,5 +104,5 @@ pub fn index_of(alloc: Global, a: &Array, b: &Array, origin: Origin) -> Result<A
 {
     one_axis(a)?;
     let places = places_in(alloc, b.items(), a.items(), origin)?;
-    Ok(b.with_ravel(Ravel::Nums(places))?)
+    Ok(b.with_ravel(alloc, Ravel::Nums(places))?)
 }

@@ -18,16 +18,14 @@ use crate::fitting::{fits_over, of_one_type};
 use crate::reach::places_led;
 use crate::single::{fault_of_numbers, place_picked};
 use crate::slots::{Picked, joined_shape, picks_of};
-use apl_arrays::{
-    Array, Elements, Lent, MAX_ELEMENTS, Origin, SharedArray, Stop, size, within_limits,
-};
+use apl_arrays::{Array, Elements, MAX_ELEMENTS, Origin, Stop, size, within_limits};
 use apl_faults::Fault;
 use std::alloc::{AllocError, Global};
 
 /// The places to which index lists within what is joined lead, where `b` fits the joined shape: its shape is asked first and then its type.
 fn places_at(
     alloc: Global,
-    v: &Lent<'_>,
+    v: &Array,
     picks: &[Picked],
     shape: &[usize],
     b: &Array,
@@ -48,7 +46,7 @@ fn places_at(
 /// The places that an indexed assignment writes one after another, where everything fits.
 fn places_assigned(
     alloc: Global,
-    v: &Lent<'_>,
+    v: &Array,
     slots: &[Option<Array>],
     b: &Array,
     origin: usize,
@@ -65,19 +63,14 @@ fn places_assigned(
 }
 
 /// The array `v` with the elements of `b`, which are enough, written to places one after another.
-fn overwritten(
-    alloc: Global,
-    v: &Lent<'_>,
-    b: &Array,
-    places: &[usize],
-) -> Result<Array, AllocError>
+fn overwritten(alloc: Global, v: &Array, b: &Array, places: &[usize]) -> Result<Array, AllocError>
     requires within { All (λ q. q < count_of v.now) places.now }
     requires enough { AreEnough (count_of b.now) (length places.now) }
     ensures { IfOk result (λ array. array ≡ overwritten v.now b.now places.now) }
 {
     let mut ravel = v.items().to_ravel(alloc)?;
     ravel.write(places, b.items());
-    Ok(Array::in_shape(v.shape(), ravel))
+    Ok(Array::in_shape(alloc, v.shape(), ravel)?)
 }
 
 /// The number, where there is just one element and it is a number.
@@ -95,7 +88,7 @@ fn lone_number(items: Elements<'_>) -> Option<i64>
 /// a slot holds anything but one number. Slots of one number each that pick no place are at fault. It takes no memory.
 #[inline]
 fn number_assigned(
-    array: &mut SharedArray,
+    array: &mut Array,
     slots: &[Option<Array>],
     value: &Array,
     origin: usize,
@@ -103,8 +96,8 @@ fn number_assigned(
     ensures value { IsTried result (assigned array.old slots.now value.now origin) array.old array.new }
     ensures single { (z : ℤ) → array.old ≡ at_most_one (Some z) → AreNumbers slots.now → IsSome (lone_number value.now.items) → IfOk result (λ done. IsTrue done) }
 {
-    let Some(place) = place_picked(&array.lend(), slots, origin) else {
-        return match fault_of_numbers(&array.lend(), slots) {
+    let Some(place) = place_picked(array, slots, origin) else {
+        return match fault_of_numbers(array, slots) {
             Some(fault) => Err(fault),
             None => Ok(false),
         };
@@ -118,7 +111,7 @@ fn number_assigned(
 /// Changes the array itself, element by element. After each error it is as it was.
 fn elements_assigned(
     alloc: Global,
-    array: &mut SharedArray,
+    array: &mut Array,
     slots: &[Option<Array>],
     value: &Array,
     origin: usize,
@@ -127,12 +120,11 @@ fn elements_assigned(
     ensures at_once { FaultsFirst (slots_fit array.old slots.now) result }
     ensures err { OnErr result (array.new ≡ array.old) }
 {
-    let places = places_assigned(alloc, &array.lend(), slots, value, origin)?;
+    let places = places_assigned(alloc, array, slots, value, origin)?;
     if array.write(places.as_slice(), value.items()) {
         return Ok(());
     }
-    let changed = overwritten(alloc, &array.lend(), value, places.as_slice())?;
-    *array = changed.into_shared(alloc)?;
+    *array = overwritten(alloc, array, value, places.as_slice())?;
     Ok(())
 }
 
@@ -154,18 +146,18 @@ pub fn index_assign(
     ensures value { Answers (λ r. r) (assigned v.now slots.now b.now (origin_number origin)) result }
     ensures at_once { FaultsFirst (slots_fit v.now slots.now) result }
 {
-    let places = places_assigned(alloc, &v.lend(), slots, b, origin.number())?;
-    Ok(overwritten(alloc, &v.lend(), b, places.as_slice())?)
+    let places = places_assigned(alloc, v, slots, b, origin.number())?;
+    Ok(overwritten(alloc, v, b, places.as_slice())?)
 }
 
 /// Changes the array itself so. After each error it is as it was.
 ///
 /// One number over that of a vector of one number takes no memory, where slots of one number each count places or not.
 // Where no copy shares the elements they are written in place, one number for slots of one number each without an allocation. Whether a copy
-// shares them isn't in the model of a `SharedArray`, nor in that of the `Rc` below it, so no clause can say this.
+// shares them isn't in the model of a `Array`, nor in that of the `Rc` below it, so no clause can say this.
 pub fn index_assign_into(
     alloc: Global,
-    array: &mut SharedArray,
+    array: &mut Array,
     slots: &[Option<Array>],
     value: &Array,
     origin: Origin,

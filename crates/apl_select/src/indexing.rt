@@ -46,7 +46,7 @@ fn read_items(
 fn element_picked(b: &Array, slots: &[Option<Array>], origin: usize) -> Option<Cell>
     ensures { MatchOption result (AreNumbers slots.now → indexed b.now slots.now origin ≡ Err (fault_of_numbers b.now slots.now)) (λ cell. indexed b.now slots.now origin ≡ Ok (single cell)) }
 {
-    let place = place_picked(&b.lend(), slots, origin)?;
+    let place = place_picked(b, slots, origin)?;
     b.items().cell(place)
 }
 
@@ -61,12 +61,12 @@ fn elements_led_to(
     ensures value { Answers (λ r. r) (indexed b.now slots.now origin) result }
     ensures at_once { FaultsFirst (slots_fit b.now slots.now) result }
 {
-    let picks = picks_of(alloc, &b.lend(), slots, origin)?;
+    let picks = picks_of(alloc, b, slots, origin)?;
     let shape = joined_shape(alloc, picks.as_slice())?;
     within_limits(shape.as_slice())?;
     let room = size(shape.as_slice());
     let ravel = read_items(alloc, room, b.items(), b.shape(), picks.as_slice())?;
-    Ok(Array::in_shape(shape.as_slice(), ravel))
+    Ok(Array::in_shape(alloc, shape.as_slice(), ravel)?)
 }
 
 /// The elements that slots pick. Those of a vector are read in one pass over the numbers. Where that meets a fault it falls back on the
@@ -115,7 +115,7 @@ pub fn index(
     if let Some(cell) = element_picked(b, slots, first) {
         return Ok(Array::scalar(cell));
     }
-    if let Some(fault) = fault_of_numbers(&b.lend(), slots) {
+    if let Some(fault) = fault_of_numbers(b, slots) {
         return Err(Stop::Fault(fault));
     }
     elements_picked(alloc, b, slots, first)

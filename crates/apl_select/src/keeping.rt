@@ -67,5 +67,5 @@ pub(crate) fn kept_of_vector(
     requires few { length bits.now ≤ MAX_ELEMENTS }
     ensures { IfOk result (λ array. laid_within 0 (kept bits.now (length bits.now) (length bits.now)) (record { shape = length bits.now ∷ []; items = listed items.entry }) ≡ Ok array) }
 {
-    Ok(Array::vector(kept_elements(alloc, bits, items)?))
+    Ok(Array::vector(alloc, kept_elements(alloc, bits, items)?)?)
 }

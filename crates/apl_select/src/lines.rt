@@ -111,5 +111,5 @@ pub(crate) fn laid(
     within_limits(lengths.as_slice())?;
     let room = size(lengths.as_slice());
     let ravel = lay_items(alloc, room, items, shape, axis, places)?;
-    Ok(Array::in_shape(lengths.as_slice(), ravel))
+    Ok(Array::in_shape(alloc, lengths.as_slice(), ravel)?)
 }

@@ -7,7 +7,7 @@ ghost use Rattle.apl_select.specs.Indexing.{AreNumbers};
 ghost use Rattle.apl_select.specs.inside.Single.{counted_by, fault_of_numbers, holds_number, placed, PicksNone, PicksPlace};
 
 use crate::slots::numbered;
-use apl_arrays::{Array, Lent, MAX_ELEMENTS};
+use apl_arrays::{Array, MAX_ELEMENTS};
 use apl_faults::Fault;
 
 /// The place on an axis that a slot of one number counts.
@@ -39,11 +39,7 @@ fn place_named(shape: &[usize], slots: &[Option<Array>], origin: usize) -> Optio
 
 /// The place that slots pick, where each is one number that counts a place of its axis. It takes no memory.
 #[inline]
-pub(crate) fn place_picked(
-    array: &Lent<'_>,
-    slots: &[Option<Array>],
-    origin: usize,
-) -> Option<usize>
+pub(crate) fn place_picked(array: &Array, slots: &[Option<Array>], origin: usize) -> Option<usize>
     ensures place { MatchOption result (PicksNone array.now origin slots.now) (PicksPlace array.now origin slots.now) }
     ensures array { IsArray array.now.shape array.now.items }
 {
@@ -72,7 +68,7 @@ fn all_hold_numbers(slots: &[Option<Array>]) -> bool
 }
 
 /// The fault of slots of one number each, which pick no place; none where a slot holds anything else. It takes no memory.
-pub(crate) fn fault_of_numbers(array: &Lent<'_>, slots: &[Option<Array>]) -> Option<Fault>
+pub(crate) fn fault_of_numbers(array: &Array, slots: &[Option<Array>]) -> Option<Fault>
     ensures { MatchOption result (AreNumbers slots.now → ⊥) (λ fault. AreNumbers slots.now × (fault ≡ fault_of_numbers array.now slots.now)) }
 {
     if !all_hold_numbers(slots) {

@@ -7,7 +7,7 @@ ghost use Rattle.apl_arrays.specs.Results.{all_ok};
 ghost use Rattle.apl_select.specs.Indexing.{all_picked, joined_shape, picked_by, place_numbered, slots_fit, slots_of};
 ghost use Rattle.apl_select.specs.inside.Reached.{AreOnAxes};
 
-use apl_arrays::{Array, Lent, Stop, numbers_in};
+use apl_arrays::{Array, Stop, numbers_in};
 use apl_faults::Fault;
 use std::alloc::{AllocError, Global};
 use std::marker::Model;
@@ -149,7 +149,7 @@ fn pick_all(
 /// domain fault, but where there are none, and a number that counts no place is an index fault.
 pub(crate) fn picks_of(
     alloc: Global,
-    array: &Lent<'_>,
+    array: &Array,
     slots: &[Option<Array>],
     origin: usize,
 ) -> Result<Vec<Picked>, Stop>

@@ -91,7 +91,7 @@ pub(crate) fn vector_picked(
         return Ok(None);
     };
     match items_numbered(alloc, items, numbers, origin)? {
-        Some(ravel) => Ok(Some(Array::in_shape(a.shape(), ravel))),
+        Some(ravel) => Ok(Some(Array::in_shape(alloc, a.shape(), ravel)?)),
         None => Ok(None),
     }
 }

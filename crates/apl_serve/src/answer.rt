@@ -6,7 +6,7 @@ ghost use Rattle.apl_workspace_file.specs.Trees.{list_tree};
 ghost use Rattle.apl_serve.specs.Trees.{answer_tree, array_tree, line_of};
 
 use crate::shown::{Shown, show_list};
-use apl_arrays::SharedArray;
+use apl_arrays::Array;
 use apl_session::Bytes;
 use serde_json::{Value, json};
 use std::alloc::{AllocError, Global};
@@ -51,11 +51,7 @@ pub(crate) fn answer_list<T: Shown>(
 }
 
 /// An answer of one member: an array.
-pub(crate) fn answer_array(
-    alloc: Global,
-    key: &str,
-    array: &SharedArray,
-) -> Result<Bytes, AllocError>
+pub(crate) fn answer_array(alloc: Global, key: &str, array: &Array) -> Result<Bytes, AllocError>
     ensures { IfOk result (λ b. b ≡ line_of (answer_tree key.now (array_tree array.now))) }
 {
     let tree = array.show(alloc)?;

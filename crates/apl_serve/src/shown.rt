@@ -7,7 +7,7 @@ ghost use Rattle.apl_workspace_file.specs.Trees.{whole_tree, number_tree, list_t
 ghost use Rattle.apl_arrays.specs.Left.{listed};
 ghost use Rattle.apl_serve.specs.Trees.{text_tree, kind_word, line_tree, level_tree, named_tree, array_tree, items_tree, word_of};
 
-use apl_arrays::{Elements, SharedArray};
+use apl_arrays::{Array, Elements};
 use apl_charset::{Ch, Text};
 use apl_kept::{Named, Reading, Told};
 use apl_machine::{Level, LineKind, OutLine};
@@ -149,7 +149,7 @@ fn show_items(alloc: Global, shape: &[usize], items: Elements<'_>) -> Result<Val
     }
 }
 
-impl Shown for SharedArray {
+impl Shown for Array {
     ghost tree = { array_tree };
 
     fn show(&self, alloc: Global) -> Result<Value, AllocError> {

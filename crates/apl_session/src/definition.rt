@@ -8,7 +8,7 @@ ghost use Rattle.apl_defn.specs.Defining.{defined_of};
 ghost use Rattle.apl_session.specs.Defining as model;
 
 use apl_charset::{Ch, Text};
-use apl_defn::{DefnError, define, header, show, trimmed};
+use apl_defn::{DefnError, copy_lines, define, header, show, trimmed};
 use apl_faults::{Fault, fault_line};
 use apl_machine::{LineKind, Machine};
 use apl_symbols::Name;
@@ -208,17 +208,6 @@ pub fn show_or_open(
     Ok(None)
 }
 
-/// The same lines again.
-fn copied_lines(alloc: Global, lines: &[Text]) -> Result<Vec<Text>, AllocError>
-    ensures { IfOk result (λ copied. copied.items ≡ lines.now) }
-{
-    let mut copied = Vec::with_capacity(alloc, lines.len())?;
-    for line in lines {
-        copied.push(line.copy(alloc)?)?;
-    }
-    Ok(copied)
-}
-
 /// Defines the function of these lines, or reports that they define none.
 pub fn close(alloc: Global, machine: &mut Machine, lines: &[Text]) -> Result<(), AllocError>
     requires { is_idle machine.old ≡ true }
@@ -226,7 +215,7 @@ pub fn close(alloc: Global, machine: &mut Machine, lines: &[Text]) -> Result<(),
     ensures err { OnErr result (machine.new ≡ machine.old) }
 {
     // The lines stay with the session, in case memory runs out.
-    match define(alloc, copied_lines(alloc, lines)?) {
+    match define(alloc, copy_lines(alloc, lines)?) {
         Ok(definition) => {
             if !machine.is_variable(&definition.header().name) {
                 return machine.define(definition);

@@ -253,14 +253,7 @@ fn items_of(alloc: Global, tokens: &[Token], classes: &[Class]) -> Result<Vec<Pl
     Ok(items)
 }
 
-/// The same array, whose copies share its elements.
-fn shared(alloc: Global, array: Array) -> Result<Array, AllocError>
-    ensures { IfOk result (λ shared. shared ≡ array) }
-{
-    Ok(array.into_shared(alloc)?.into_array())
-}
-
-/// The arrays of the constants and texts, shared, so that a phrase copies no elements of them.
+/// The arrays of the constants and texts.
 fn constants_of(alloc: Global, tokens: &[Token]) -> Result<Vec<Array>, AllocError>
     requires { All (λ t. elements_in t.kind ≤ 1000000) tokens.now }
     ensures { IfOk result (λ v. v.items ≡ flat_map (λ t. constant_in t.kind) tokens.now) }
@@ -270,11 +263,11 @@ fn constants_of(alloc: Global, tokens: &[Token]) -> Result<Vec<Array>, AllocErro
         match &token.kind {
             Kind::Constant(numbers) => {
                 let numbers = Vec::from_slice(alloc, numbers.as_slice())?;
-                constants.push(shared(alloc, Array::from_nums(numbers))?)?;
+                constants.push(Array::from_nums(alloc, numbers)?)?;
             }
             Kind::Text(text) => {
                 let characters = Vec::from_slice(alloc, text.as_slice())?;
-                constants.push(shared(alloc, Array::from_chars(characters))?)?;
+                constants.push(Array::from_chars(alloc, characters)?)?;
             }
             _ => {}
         }

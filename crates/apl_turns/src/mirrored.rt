@@ -142,5 +142,5 @@ pub(crate) fn reverse_last(alloc: Global, b: &Array, axis: usize) -> Result<Arra
 {
     let extent = extent_along(b.shape(), axis);
     let turned = mirrored_items(alloc, b.items(), extent.planes, extent.rows)?;
-    Ok(Array::in_shape(b.shape(), turned))
+    Ok(Array::in_shape(alloc, b.shape(), turned)?)
 }

@@ -73,7 +73,7 @@ fn turn_array(alloc: Global, b: &Array, numbers: &[i64], axis: usize) -> Result<
     let extent = extent_along(b.shape(), axis);
     let shifts = shifts_of(alloc, numbers, extent.rows)?;
     let turned = turned_items(alloc, items, extent, shifts.as_slice())?;
-    b.with_ravel(turned)
+    b.with_ravel(alloc, turned)
 }
 
 /// The length of an axis beside one that is taken out.

@@ -153,9 +153,9 @@ fn serve<'a>(alloc: Global) -> Result<Arg<'a>, AllocError>
         .conflicts_with("desk")
 }
 
-/// The day of the newest changes that CHANGELOG.md tells of, and the kit that the program is proved
-/// with.
-const VERSION: &str = "2026-11-29 (rattle-kit-13f logic dac8208d650f15bf)";
+/// The day of the newest changes that CHANGELOG.md tells of, and the program logic in which the program
+/// is proved, which several kits of the toolchain share.
+const VERSION: &str = "2026-11-30 (logic dac8208d650f15bf)";
 
 /// An example of each word.
 const EXAMPLES: &str = "Examples:

@@ -9,7 +9,7 @@ use Rattle.apl_scalar.specs.Functions.{dyadic_of}
 use Rattle.apl_operators.specs.Places.{cells_met}
 use Rattle.apl_operators.specs.declared.standing.StandIns.{StandIns}
 use Rattle.apl_operators.specs.declared.standing.Held.{Held}
-use Rattle.apl_operators.specs.declared.standing.Held.TheVariants.{Lent, Made}
+use Rattle.apl_operators.specs.declared.standing.Held.TheVariants.{Borrowed, Made}
 
 -- a function of characters is that of their codes
 abbrev pub TakesCodes : Dyadic → Type 0
@@ -21,7 +21,7 @@ RefusesCharacters g = (same : Bool) → compared g same ≡ Err Domain
 
 -- the numbers that are held
 abbrev pub held : Held → List ℤ
-held (Lent zs) = zs.now
+held (Borrowed zs) = zs.now
 held (Made v) = v.items
 
 -- a function of two elements is the same function of the numbers at their places

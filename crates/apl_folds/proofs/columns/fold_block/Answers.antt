@@ -1,9 +1,9 @@
-use Rattle.std.proofs.Common.{rules, arith, ◌≤ℤ◌, ◌<◌, ◌-◌, ◌+◌, ℤ, List, pos, length, get_or, Ok, ap, sym, ◌∙◌, w64}
+use Rattle.std.proofs.Common.{rules, arith, ◌≤ℤ◌, ◌<◌, ◌-◌, ◌+◌, ℤ, List, pos, length, get_or, Ok, ap, sym, ◌∙◌, w64, ℕ}
 use Rattle.std.proofs.lemmas.Int.{to_z-of_z}
 use mir.Val.{SFits}
 use Rattle.apl_folds.specs.Lines.{line_of}
 use Rattle.apl_folds.proofs.Rights.{fold_last, fold_before}
-use Rattle.apl_folds.proofs.Rows.{length-line, line_at}
+use Rattle.apl_folds.proofs.Rows.{length-line, line_at, all_placed, first_near}
 use Rattle.apl_folds.proofs.columns.fold_block.Goals as goal
 
 pub fold_fours-flags-requires-clause-last : goal.fold_fours-flags-requires-clause-last
@@ -46,3 +46,23 @@ loop-k-preserved g c =
     ∙ ap (λ (x : ℤ). g.F.Scalar.meaning x (get_or c.loop-k.folds j (pos 0)))
     (line_at (pos 0) c.args.numbers.now c.args.axis.now (c.args.at + j) c.args.count (c.loop-k.k - 1) (omega arith) ∙ sym (c.beside-in-loop-k.ensures.numbers j here))
     ∙ c.take_row-flag.ensures fresh j here
+
+count_before : (count : ℕ) → 0 < count → count - 1 < count
+count_before count h = omega arith
+
+pub beside-requires-clause-placed : goal.beside-requires-clause-placed
+beside-requires-clause-placed g c =
+    let first = c.requires.lines 0 c.requires.some in
+    all_placed (length c.args.numbers.now) c.args.axis.now c.args.at (length c.args.folds.now) c.args.count (c.args.count - 1) (count_before c.args.count first.some) c.requires.lines
+
+pub beside-requires-clause-near : goal.beside-requires-clause-near
+beside-requires-clause-near g c = first_near (length c.args.numbers.now) c.args.axis.now c.args.at (length c.args.folds.now) c.args.count c.requires.some c.requires.lines
+
+pub beside-requires-in-loop-k-clause-near : goal.beside-requires-in-loop-k-clause-near
+beside-requires-in-loop-k-clause-near g c = first_near (length c.args.numbers.now) c.args.axis.now c.args.at (length c.args.folds.now) c.args.count c.requires.some c.requires.lines
+
+pub fold_fours-flags-requires-clause-lines : goal.fold_fours-flags-requires-clause-lines
+fold_fours-flags-requires-clause-lines g c =
+    λ j h.
+    let within : j < length c.args.folds.now = search rules in
+    c.requires.lines j within

@@ -1,9 +1,9 @@
-use Rattle.std.proofs.Common.{rules, arith, ◌≡◌, ◌≤ℤ◌, ◌<◌, ◌-◌, ◌+◌, ℕ, ℤ, List, pos, length, get_or, drop, ap, sym, ◌∙◌, w64}
+use Rattle.std.proofs.Common.{rules, arith, ◌≡◌, ◌≤ℤ◌, ◌<◌, ◌-◌, ◌+◌, ℕ, ℤ, List, pos, length, get_or, drop, ap, sym, ◌∙◌, w64, ◌≤◌}
 use Rattle.std.proofs.lemmas.Int.{to_z-of_z}
 use mir.Val.{SFits}
 use Rattle.apl_folds.specs.Lines.{fold_by, line_of}
 use Rattle.apl_folds.proofs.Rights.{four_before}
-use Rattle.apl_folds.proofs.Rows.{length-line, line_at}
+use Rattle.apl_folds.proofs.Rows.{length-line, line_at, all_placed, first_near}
 use Rattle.apl_folds.proofs.columns.fold_fours.Goals as goal
 
 pub loop-left-preserved : goal.loop-left-preserved
@@ -31,3 +31,33 @@ loop-left-preserved g c =
           (ap (λ (m : ℕ). fold_by g.F.Scalar.meaning (drop m line)) back ∙ c.loop-left.invariant.so_far both.0 j here)
           (c.take_four-flag.ensures fresh j here);
     }
+
+few_rows : (left count i : ℕ) → 4 ≤ left → left < count → i ≤ 3 → left - 4 + i < count
+few_rows left count i h l m = omega arith
+
+few_first : (left count : ℕ) → left < count → left - 4 < count
+few_first left count l = omega arith
+
+pub beside-requires-clause-placed : goal.beside-requires-clause-placed
+beside-requires-clause-placed g c = all_placed (length c.args.numbers.now) c.args.axis.now c.args.at (length c.args.folds.now) c.args.count (c.loop-left.left - 4) (few_first c.loop-left.left c.args.count c.loop-left.invariant.few) c.requires.lines
+
+pub beside-requires-clause-near : goal.beside-requires-clause-near
+beside-requires-clause-near g c = first_near (length c.args.numbers.now) c.args.axis.now c.args.at (length c.args.folds.now) c.args.count c.requires.some c.requires.lines
+
+pub beside-requires-in-loop-left-clause-placed : goal.beside-requires-in-loop-left-clause-placed
+beside-requires-in-loop-left-clause-placed g c = all_placed (length c.args.numbers.now) c.args.axis.now c.args.at (length c.args.folds.now) c.args.count (c.loop-left.left - 4 + 1) (few_rows c.loop-left.left c.args.count 1 c.loop-left-test.true c.loop-left.invariant.few (omega arith)) c.requires.lines
+
+pub beside-requires-in-loop-left-clause-near : goal.beside-requires-in-loop-left-clause-near
+beside-requires-in-loop-left-clause-near g c = first_near (length c.args.numbers.now) c.args.axis.now c.args.at (length c.args.folds.now) c.args.count c.requires.some c.requires.lines
+
+pub beside-requires-in-loop-left-2-clause-placed : goal.beside-requires-in-loop-left-2-clause-placed
+beside-requires-in-loop-left-2-clause-placed g c = all_placed (length c.args.numbers.now) c.args.axis.now c.args.at (length c.args.folds.now) c.args.count (c.loop-left.left - 4 + 2) (few_rows c.loop-left.left c.args.count 2 c.loop-left-test.true c.loop-left.invariant.few (omega arith)) c.requires.lines
+
+pub beside-requires-in-loop-left-2-clause-near : goal.beside-requires-in-loop-left-2-clause-near
+beside-requires-in-loop-left-2-clause-near g c = first_near (length c.args.numbers.now) c.args.axis.now c.args.at (length c.args.folds.now) c.args.count c.requires.some c.requires.lines
+
+pub beside-requires-in-loop-left-3-clause-placed : goal.beside-requires-in-loop-left-3-clause-placed
+beside-requires-in-loop-left-3-clause-placed g c = all_placed (length c.args.numbers.now) c.args.axis.now c.args.at (length c.args.folds.now) c.args.count (c.loop-left.left - 4 + 3) (few_rows c.loop-left.left c.args.count 3 c.loop-left-test.true c.loop-left.invariant.few (omega arith)) c.requires.lines
+
+pub beside-requires-in-loop-left-3-clause-near : goal.beside-requires-in-loop-left-3-clause-near
+beside-requires-in-loop-left-3-clause-near g c = first_near (length c.args.numbers.now) c.args.axis.now c.args.at (length c.args.folds.now) c.args.count c.requires.some c.requires.lines

@@ -1,4 +1,4 @@
-use Rattle.std.proofs.Common.{◌≡◌, ◌-◌, length, take, pos, Ok, ap, sym, ◌∙◌, rules, arith, refl}
+use Rattle.std.proofs.Common.{◌≡◌, ◌-◌, length, take, pos, Ok, ap, sym, ◌∙◌, rules, arith, refl, ℕ, ◌+◌, ◌<◌, ◌≤◌}
 use Rattle.apl_arrays.proofs.InTurn.{turns_whole}
 use Rattle.apl_scalar.proofs.Rooms.{room_size, written_over}
 use Rattle.apl_folds.specs.Lines.{fold_by, line_of}
@@ -15,3 +15,27 @@ returns-then-fold_block g c =
     ∙ ap (λ l. Ok l)
     (sym (written_over c.args.out.now.items c.grow.new.out.items c.split_at_mut-folds.result.0.now c.fold_block.new.folds (pos 0) (c.args.till - c.args.from) c.in_ok-before.before c.grow.new.out.len
     c.in_ok-before.ensures.grown c.in_ok-before.ensures.place (c.split_at_mut-folds.ensures.front ∙ ap (λ l. take c.in_ok-before.before l) c.as_mut_slice.ensures.value) size (search rules)))
+
+onward : (from till m j : ℕ) → m ≡ till - from → j < m → (from ≤ from + j) × (from + j < till)
+onward from till m j e h = (omega arith, omega arith)
+
+some_left : (from till m : ℕ) → m ≡ till - from → from < till → 0 < m
+some_left from till m e h = omega arith
+
+pub fold_block-requires-clause-lines : goal.fold_block-requires-clause-lines
+fold_block-requires-clause-lines g c =
+    λ j h.
+    let size : length c.split_at_mut-folds.result.1.now ≡ c.args.till - c.args.from =
+    room_size c.args.out.now.items c.grow.new.out.items c.as_mut_slice.result.now c.split_at_mut-folds.result.1.now c.split_at_mut-folds.result.1.now (pos 0) (c.args.till - c.args.from) c.in_ok-before.before
+    c.in_ok-before.ensures.grown c.in_ok-before.ensures.place c.as_mut_slice.ensures.value c.split_at_mut-folds.ensures.back_len refl
+    in
+    let there = onward c.args.from c.args.till (length c.split_at_mut-folds.result.1.now) j size h in
+    c.requires.lines (c.args.from + j) there.0 there.1
+
+pub fold_block-requires-clause-some : goal.fold_block-requires-clause-some
+fold_block-requires-clause-some g c =
+    let size : length c.split_at_mut-folds.result.1.now ≡ c.args.till - c.args.from =
+    room_size c.args.out.now.items c.grow.new.out.items c.as_mut_slice.result.now c.split_at_mut-folds.result.1.now c.split_at_mut-folds.result.1.now (pos 0) (c.args.till - c.args.from) c.in_ok-before.before
+    c.in_ok-before.ensures.grown c.in_ok-before.ensures.place c.as_mut_slice.ensures.value c.split_at_mut-folds.ensures.back_len refl
+    in
+    some_left c.args.from c.args.till (length c.split_at_mut-folds.result.1.now) size c.requires.order

@@ -32,3 +32,6 @@ returns-in_err-push_block g c =
 pub returns : goal.returns
 returns g c =
     sym c.loop-from.invariant.so_far ∙ turns_end (λ p. fold_by g.F.Scalar.meaning (line_of (pos 0) c.args.numbers.now c.args.axis.now p c.args.count)) c.loop-from.out.items c.loop-from.from c.args.till (omega arith)
+
+pub push_block-requires-clause-lines : goal.push_block-requires-clause-lines
+push_block-requires-clause-lines g c = λ p above below. c.requires.lines p (omega (arith, above)) (omega (arith, below))

@@ -15,7 +15,7 @@ use Rattle.apl_arrays.proofs.Exits.{answers_along, answers_err, first_passes, ok
 use Rattle.apl_arrays.proofs.InTurn.{length-all_ok}
 use Rattle.apl_arrays.proofs.Order.{length-indices}
 use Rattle.apl_scalar.specs.Extension.{numbers_in}
-use Rattle.apl_folds.specs.Scans.{fronts_along, fronts_shaped}
+use Rattle.apl_folds.specs.Scans.{prefixes_along, prefixes_shaped}
 use Rattle.apl_folds.proofs.Shapes.{same_array}
 use Rattle.apl_folds.proofs.scanning.scan_elements.Goals as goal
 
@@ -25,10 +25,10 @@ returns-in_err-folds-in-Nums-clause-value c =
     let numeric : are_numbers c.args.view.now.items ≡ true =
     ap are_numbers c.strided-strided.ensures.items ∙ ap (λ (e : Elements). are_numbers (seen (listed e) c.strided-strided.result.offset c.strided-strided.result.axes.now)) c.in-Nums.is in
     rw (p.1, p.2)
-    (answers_err {B = Arr} {D = Arr} (λ (v : Vec ℤ Global). v.items) (λ r. r) (fronts_along c.args.function c.args.axis c.args.view.now)
-    (cond (are_numbers c.args.view.now.items) (fronts_shaped c.args.function c.args.axis c.args.view.now) (Err Domain)) c.in_err-folds-in-Nums.field-0.0
-    (λ e h. ap (λ (b : Bool). cond b (fronts_shaped c.args.function c.args.axis c.args.view.now) (Err Domain)) numeric
-    ∙ ok_map_err (numbers_in c.args.view.now.shape) (fronts_along c.args.function c.args.axis c.args.view.now) e h)
+    (answers_err {B = Arr} {D = Arr} (λ (v : Vec ℤ Global). v.items) (λ r. r) (prefixes_along c.args.function c.args.axis c.args.view.now)
+    (cond (are_numbers c.args.view.now.items) (prefixes_shaped c.args.function c.args.axis c.args.view.now) (Err Domain)) c.in_err-folds-in-Nums.field-0.0
+    (λ e h. ap (λ (b : Bool). cond b (prefixes_shaped c.args.function c.args.axis c.args.view.now) (Err Domain)) numeric
+    ∙ ok_map_err (numbers_in c.args.view.now.shape) (prefixes_along c.args.function c.args.axis c.args.view.now) e h)
     c.in_err-folds-in-Nums.ensures)
 
 pub formed-requires-clause-full : goal.formed-requires-clause-full
@@ -43,7 +43,7 @@ returns-in_ok-folds-in-Nums-clause-value c =
     let numeric : are_numbers c.args.view.now.items ≡ true =
     ap are_numbers c.strided-strided.ensures.items ∙ ap (λ (e : Elements). are_numbers (seen (listed e) c.strided-strided.result.offset c.strided-strided.result.axes.now)) c.in-Nums.is in
     answers_along (λ (r : Arr). r) _ _ c.formed.result
-    (ap (λ (b : Bool). cond b (fronts_shaped c.args.function c.args.axis c.args.view.now) (Err Domain)) numeric
+    (ap (λ (b : Bool). cond b (prefixes_shaped c.args.function c.args.axis c.args.view.now) (Err Domain)) numeric
     ∙ ap (ok_map (numbers_in c.args.view.now.shape)) c.in_ok-folds-in-Nums.ensures
     ∙ same_array c.args.view.now.shape c.shape.result.items (Numbers c.in_ok-folds-in-Nums.folds.items) (Numbers c.in_ok-folds-in-Nums.folds.items) (sym c.shape.ensures.value) refl)
     c.formed.ensures

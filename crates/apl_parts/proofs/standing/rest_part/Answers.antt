@@ -6,6 +6,6 @@ use Rattle.apl_parts.proofs.standing.rest_part.Goals as goal
 
 pub returns : goal.returns
 returns c =
-    let frame = c.lend-frame.ensures in
+    let frame = c.frame-frame.ensures in
     let classes = c.in_ok-classes.ensures ∙ ap classes_of c.items.ensures.value ∙ ap (λ (line : Line). classes_of line.items) c.bound.ensures in
-    rest_is c.args.line.now c.new.result c.in_ok-classes.classes.items c.lend-frame.result.done c.in_ok-operands.operands.items frame.stands c.new.ensures classes frame.done (c.in_ok-operands.ensures ∙ frame.operands)
+    rest_is c.args.line.now c.new.result c.in_ok-classes.classes.items c.frame-frame.result.done c.in_ok-operands.operands.items frame.stands c.new.ensures classes frame.done (c.in_ok-operands.ensures ∙ frame.operands)

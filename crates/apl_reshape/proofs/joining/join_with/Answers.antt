@@ -33,10 +33,10 @@ in_shape-requires-clause-full c =
 
 pub returns-clause-value : goal.returns-clause-value
 returns-clause-value c =
-    joined_answer c.args.axis c.args.s.now c.args.t.now c.as_slice.result.now c.as_slice-3.result.now c.args.a.now c.args.b.now c.in_shape.result
+    joined_answer c.args.axis c.args.s.now c.args.t.now c.as_slice.result.now c.as_slice-3.result.now c.args.a.now c.args.b.now c.in_ok-in_shape.field-0
     (listed c.items.result) (listed c.items-2.result) (items_of c.in_ok-ravel.ravel) (both_of c.in_ok-pair.pair)
     c.in_ok-pair.ensures c.items.ensures.value c.items-2.ensures.value c.in_ok-within_limits.ensures (c.as_slice.ensures.value ∙ c.joined_lengths-shape.ensures) (c.as_slice-3.ensures.value ∙ c.joined_lengths-shape.ensures)
     (made_items c.args.axis c.rows_before.result c.args.a.now.shape c.args.b.now.shape c.args.s.now c.args.t.now (both_of c.in_ok-pair.pair) c.block_of-x.result c.block_of-y.result (items_of c.in_ok-ravel.ravel)
     c.requires.within c.requires.lengths c.requires.agree (c.block_of-x.ensures.is_scalar ∙ ap is_scalar_shape c.shape.ensures.value) c.block_of-x.ensures.len
     (c.block_of-y.ensures.is_scalar ∙ ap is_scalar_shape c.shape-2.ensures.value) c.block_of-y.ensures.len c.rows_before.ensures c.in_ok-ravel.ensures)
-    c.in_shape.ensures
+    c.in_ok-in_shape.ensures

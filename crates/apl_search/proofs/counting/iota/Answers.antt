@@ -38,4 +38,4 @@ returns-clause-value c =
     counted c.args.b.now origin n (sym c.in_ok-count.ensures) c.in_ok-within_limits.ensures
     ∙ ap (λ (l : List ℤ). let a : Arr = record { shape = n ∷ []; items = Numbers l } in let r : Result Arr Fault = Ok a in r) (sym numbers)
     ∙ ap (λ (k : ℕ). let a : Arr = record { shape = k ∷ []; items = Numbers c.in_ok-numbers.numbers.items } in let r : Result Arr Fault = Ok a in r) (sym many)
-    ∙ ap (λ (a : Arr). let r : Result Arr Fault = Ok a in r) (sym c.vector.ensures)
+    ∙ ap (λ (a : Arr). let r : Result Arr Fault = Ok a in r) (sym c.in_ok-vector.ensures)

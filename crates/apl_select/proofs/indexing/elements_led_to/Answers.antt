@@ -36,13 +36,12 @@ returns-clause-value c =
     ∙ ap (λ (t : Items). items_led_to t c.args.b.now.shape c.in_ok-picks.picks.items) c.items.ensures.value in
     let fits : limited c.as_slice-5.result.now ≡ Ok c.as_slice-5.result.now = ap limited (c.as_slice-5.ensures.value ∙ sym c.as_slice-2.ensures.value) ∙ c.in_ok-within_limits.ensures ∙ ap (λ (s : List ℕ). Ok s) (c.as_slice-2.ensures.value ∙ sym c.as_slice-5.ensures.value) in
     ap (λ (m : Result (List Places) Fault). and_then m (λ ps. ok_map (λ s. selected c.args.b.now s (led_to ps)) (limited (joined_shape ps))))
-    (ap (λ (a : Arr). slots_of a c.args.origin c.args.slots.now) (sym c.lend.ensures) ∙ c.in_ok-picks.ensures.value)
-    ∙ index_shaped c.args.b.now c.in_ok-picks.picks.items c.as_slice-5.result.now (items_of c.in_ok-ravel.ravel) c.in_shape.result shape items fits c.in_shape.ensures
+    c.in_ok-picks.ensures.value
+    ∙ index_shaped c.args.b.now c.in_ok-picks.picks.items c.as_slice-5.result.now (items_of c.in_ok-ravel.ravel) c.in_ok-in_shape.field-0 shape items fits c.in_ok-in_shape.ensures
 
 pub returns-clause-at_once : goal.returns-clause-at_once
 returns-clause-at_once c =
-    let P : Arr → Type 0 = λ a. FaultsFirst (slots_fit a c.args.slots.now) c.picks_of.result in
-    fault_or_not (slots_fit c.args.b.now c.args.slots.now) c.picks_of.result c.in_ok-picks.picks c.in_shape.result c.in_ok-picks.was (subst P c.lend.ensures c.picks_of.ensures.at_once)
+    fault_or_not (slots_fit c.args.b.now c.args.slots.now) c.picks_of.result c.in_ok-picks.picks c.in_ok-in_shape.field-0 c.in_ok-picks.was c.picks_of.ensures.at_once
 
 pub read_items-requires-clause-full : goal.read_items-requires-clause-full
 read_items-requires-clause-full c = ap (λ (t : Items). length (cells_of t)) c.items.ensures.value ∙ c.items.ensures.full ∙ sym (ap size_of c.shape.ensures.value)

@@ -17,5 +17,5 @@ vector-requires c =
 
 pub returns : goal.returns
 returns c =
-    vector_within (listed c.args.items) (length c.args.bits.now) (kept c.args.bits.now (length c.args.bits.now) (length c.args.bits.now)) _ c.vector.result (length-kept c.args.bits.now (length c.args.bits.now)) c.requires.few
-    c.in_ok-kept_elements.ensures c.vector.ensures
+    vector_within (listed c.args.items) (length c.args.bits.now) (kept c.args.bits.now (length c.args.bits.now) (length c.args.bits.now)) _ c.in_ok-vector.field-0 (length-kept c.args.bits.now (length c.args.bits.now)) c.requires.few
+    c.in_ok-kept_elements.ensures c.in_ok-vector.ensures

@@ -18,10 +18,10 @@ in_shape-requires-clause-full c =
     ∙ ap (λ (t : Items). length (cells_of t)) c.items.ensures.value ∙ c.items.ensures.full
     ∙ sym (ap size_of c.shape.ensures.value)
 
-pub returns-in-Some : goal.returns-in-Some
-returns-in-Some c =
-    vector_indexed c.args.b.now c.args.a.now c.args.origin c.in-Ok.numbers.now (items_of c.in-Some.ravel) c.in_shape.result c.requires.vector c.items-items.ensures.full c.items.ensures.full
+pub returns-in_ok-in_shape-in-Some : goal.returns-in_ok-in_shape-in-Some
+returns-in_ok-in_shape-in-Some c =
+    vector_indexed c.args.b.now c.args.a.now c.args.origin c.in-Ok.numbers.now (items_of c.in-Some.ravel) c.in_ok-in_shape-in-Some.field-0 c.requires.vector c.items-items.ensures.full c.items.ensures.full
     c.shape.ensures.array.few_axes c.shape.ensures.array.small
     (sym (ap numbers_of c.items.ensures.value) ∙ c.in-Ok.ensures)
     (ap (λ (t : Items). ok_map (at_places t) (all_ok (place_numbered (length (cells_of t)) c.args.origin) c.in-Ok.numbers.now)) (sym c.items-items.ensures.value) ∙ (rw c.in-Some.is at c.in_ok-ravel.ensures))
-    (c.in_shape.ensures ∙ ap (λ (s : List ℕ). record { shape = s; items = items_of c.in-Some.ravel }) c.shape.ensures.value)
+    (c.in_ok-in_shape-in-Some.ensures ∙ ap (λ (s : List ℕ). record { shape = s; items = items_of c.in-Some.ravel }) c.shape.ensures.value)

@@ -20,10 +20,10 @@ returns-clause-some c =
     let f = c.in-Some-line.line.now in
     let at = rest_reads c.self.inside.workspace c.args.self.now c.args.k (Some c.in-Some.context.now) c.self.view_is (sym (ap option_copied c.in-Some.is) ∙ c.get.ensures ∙ ap (λ m. slice_get m.workspace.contexts c.args.k) c.self-inside.view_is)
     ∙ ap (option_map flat_rest) (sym c.line.ensures ∙ ap option_copied c.in-Some-line.is) in
-    let frame = is_frame f c.lend.ensures.stands in (
+    let frame = is_frame f c.frame.ensures.stands in (
       flat_rest f,
       at,
-      subst (λ x. IsFrame (flat_rest f) x c.lend.result.done c.lend.result.operands.now) (sym c.lend.ensures.code)
-          (subst (λ x. IsFrame (flat_rest f) f.code x c.lend.result.operands.now) (sym c.lend.ensures.done)
-          (subst (λ x. IsFrame (flat_rest f) f.code f.done x) (sym c.lend.ensures.operands) frame)),
+      subst (λ x. IsFrame (flat_rest f) x c.frame.result.done c.frame.result.operands.now) (sym c.frame.ensures.code)
+          (subst (λ x. IsFrame (flat_rest f) f.code x c.frame.result.operands.now) (sym c.frame.ensures.done)
+          (subst (λ x. IsFrame (flat_rest f) f.code f.done x) (sym c.frame.ensures.operands) frame)),
     )

@@ -49,7 +49,7 @@ returns-in-Some-value-clause-ok c =
     let waits = subst (FitsRest Beneath) does (below_waits s.contexts k c.requires.sound.contexts.stacked c.requires.executes get) in
     ap (λ (l : List Context). state_at c.self.inside.names (settings c.self.inside.stops c.self.inside.traces (origin_number c.self.inside.io)) l c.self.inside.output.items) (c.change.ensures ∙ ap (moved_newest (IsAnswered a)) c.pop.ensures.left)
     ∙ ap (λ (x : Space). state_at x.maps x.kept (moved_newest (IsAnswered a) (drop 1 x.contexts)) x.output) c.self.view_is
-    ∙ value_is s.maps s.kept s.output k f does s.contexts a c.requires.executes get c.lend-lent.ensures.stands waits
+    ∙ value_is s.maps s.kept s.output k f does s.contexts a c.requires.executes get c.frame-frame.ensures.stands waits
     ∙ ap (answered_in s) (sym c.in-Some-value.is)
 
 pub returns-clause-sound : goal.returns-clause-sound

@@ -19,7 +19,7 @@ begin_executed-requires-clause-can c =
     let sound : IsSound s = subst IsSound (sym c.self.view_is) c.requires in
     let text = c.in-Some-executed.text.now in
     let t : IsTyped s.maps text c.in-Bare.line.value.bound = subst (λ (r : TextLine). IsRead s.maps text r) c.in-Bare.is c.in_ok-read.ensures in
-    let done = executes_done s c.in-Some.instr.now c.in-Some.operands.constants.now c.in-Some.operands.stack.now c.standing.result c.as_slice-sources.result.now text t.0 c.left_of-left.result sound c.in-Some.ensures c.standing.ensures c.as_slice-sources.ensures (λ lines. c.in-Some-executed.ensures.is lines t.0 t.1.0 t.1.1) t.1.0 t.1.1 c.left_of-left.ensures.within c.left_of-left.ensures.left in
+    let done = executes_done s c.in-Some.instr.now c.in-Some.operands.constants.now c.in-Some.operands.stack.now c.standing.result c.as_slice-sources.result.now text t.0 c.left_of-left.result sound c.in-Some.ensures.is c.standing.ensures c.as_slice-sources.ensures (λ lines. c.in-Some-executed.ensures.is lines t.0 t.1.0 t.1.1) t.1.0 t.1.1 c.left_of-left.ensures.within c.left_of-left.ensures.left in
     done.can
 
 pub returns-clause-made : goal.returns-clause-made
@@ -28,7 +28,7 @@ returns-clause-made c made =
     let sound : IsSound s = subst IsSound (sym c.self.view_is) c.requires in
     let text = c.in-Some-executed.text.now in
     let t : IsTyped s.maps text c.in-Bare.line.value.bound = subst (λ (r : TextLine). IsRead s.maps text r) c.in-Bare.is c.in_ok-read.ensures in
-    let done = executes_done s c.in-Some.instr.now c.in-Some.operands.constants.now c.in-Some.operands.stack.now c.standing.result c.as_slice-sources.result.now text t.0 c.left_of-left.result sound c.in-Some.ensures c.standing.ensures c.as_slice-sources.ensures (λ lines. c.in-Some-executed.ensures.is lines t.0 t.1.0 t.1.1) t.1.0 t.1.1 c.left_of-left.ensures.within c.left_of-left.ensures.left in
+    let done = executes_done s c.in-Some.instr.now c.in-Some.operands.constants.now c.in-Some.operands.stack.now c.standing.result c.as_slice-sources.result.now text t.0 c.left_of-left.result sound c.in-Some.ensures.is c.standing.ensures c.as_slice-sources.ensures (λ lines. c.in-Some-executed.ensures.is lines t.0 t.1.0 t.1.1) t.1.0 t.1.1 c.left_of-left.ensures.within c.left_of-left.ensures.left in
     let same : c.new-text.result ≡ text = c.new-text.ensures ∙ c.in_ok-from_slice.ensures.items in
     let read = ap tokens_of same ∙ t.1.0 in
     record {

@@ -1,0 +1,266 @@
+// Scans along any axis of numbers in row-major order, each prefix from what is kept of the numbers before it.
+ghost use Rattle.std.specs.Prelude.{◌≡◌, ◌<◌, ◌≤◌, ◌+◌, ◌*◌, ◌%◌, ◌∷◌, ◌++◌, [], ℕ, pos, length, slice_index_or, IfOk, MatchResult};
+ghost use Rattle.apl_arrays.specs.Answers.{Answers};
+ghost use Rattle.apl_scalar.specs.Functions.{dyadic_of};
+ghost use Rattle.apl_folds.specs.inside.Prefixes.{before, prefix_fold, prefix_folds, index_along, ArePrefixes, AreWhole};
+
+use crate::chains::Prefix;
+use crate::ends::Ends;
+use crate::kept::Kept;
+use crate::line::fold_strided;
+use crate::scale::Scale;
+use crate::swing::Swing;
+use apl_arrays::{Axis, Stop};
+use apl_faults::Fault;
+use apl_scalar::{ByFunction, Difference, Dyadic, Maximum, Minimum, Product, Scalar, Sum, grow};
+use std::alloc::{AllocError, Global};
+
+/// Writes the prefixes of a line of numbers that lie side by side, while they are told, and answers how many.
+fn tell_line<F: Scalar, K: Kept<F>>(
+    numbers: &[i64],
+    axis: Axis,
+    from: usize,
+    out: &mut [i64],
+) -> usize
+    requires given { K.given }
+    requires whole { AreWhole numbers.now axis }
+    requires beside { axis.up ≡ 1 }
+    requires line { index_along axis from ≡ 0 }
+    requires within { from + axis.length ≤ length numbers.now }
+    requires size { length out.old ≡ length numbers.now }
+    requires so_far { ArePrefixes F.meaning numbers.now axis from out.old }
+    ensures few { result ≤ axis.length }
+    ensures size { length out.new ≡ length out.old }
+    ensures prefixes { ArePrefixes F.meaning numbers.now axis (from + result) out.new }
+{
+    let mut kept = K::none();
+    for k in 0..axis.length {
+        let number = numbers[from + k];
+        let Some(fold) = kept.told(number) else {
+            return k;
+        };
+        out[from + k] = fold;
+        kept = kept.next(number, fold);
+    }
+    axis.length
+}
+
+/// The same line by line.
+fn tell_lines<F: Scalar, K: Kept<F>>(numbers: &[i64], axis: Axis, out: &mut [i64]) -> usize
+    requires given { K.given }
+    requires whole { AreWhole numbers.now axis }
+    requires beside { axis.up ≡ 1 }
+    requires size { length out.old ≡ length numbers.now }
+    ensures few { result ≤ length numbers.now }
+    ensures size { length out.new ≡ length out.old }
+    ensures prefixes { ArePrefixes F.meaning numbers.now axis result out.new }
+{
+    for line in 0..numbers.len() / axis.length {
+        let from = line * axis.length;
+        let told = tell_line::<F, K>(numbers, axis, from, out);
+        if told < axis.length {
+            return from + told;
+        }
+    }
+    numbers.len()
+}
+
+/// What is kept before the number at an index along the axis.
+#[inline(always)]
+fn kept_at<F: Scalar, K: Kept<F>>(index: usize, kept: K) -> K
+    requires { K.given }
+    ensures first { index ≡ 0 → K.knows result [] }
+    ensures later { 0 < index → result ≡ kept }
+{
+    if index == 0 { K::none() } else { kept }
+}
+
+/// Writes the prefixes of a row of numbers, which all have the same index along the axis, each from what is kept of those before it there,
+/// while they are told, and answers how many.
+fn tell_row<F: Scalar, K: Kept<F>>(
+    numbers: &[i64],
+    axis: Axis,
+    row: usize,
+    all: &mut [K],
+    out: &mut [i64],
+) -> usize
+    requires given { K.given }
+    requires whole { AreWhole numbers.now axis }
+    requires columns { length all.old ≡ axis.up }
+    requires within { (row + 1) * axis.up ≤ length numbers.now }
+    requires size { length out.old ≡ length numbers.now }
+    requires kept { 0 < row % axis.length → (j : ℕ) (d : K) → j < length all.old → K.knows (slice_index_or all.old j d) (before numbers.now axis (row * axis.up + j)) }
+    requires so_far { ArePrefixes F.meaning numbers.now axis (row * axis.up) out.old }
+    ensures few { result ≤ axis.up }
+    ensures columns { length all.new ≡ length all.old }
+    ensures size { length out.new ≡ length out.old }
+    ensures kept { result ≡ axis.up → (j : ℕ) (d : K) → j < length all.new → K.knows (slice_index_or all.new j d) (before numbers.now axis (row * axis.up + j) ++ slice_index_or numbers.now (row * axis.up + j) (pos 0) ∷ []) }
+    ensures prefixes { ArePrefixes F.meaning numbers.now axis (row * axis.up + result) out.new }
+{
+    let index = row % axis.length;
+    let from = row * axis.up;
+    for j in 0..all.len() {
+        let number = numbers[from + j];
+        let kept = kept_at::<F, K>(index, all[j]);
+        let Some(fold) = kept.told(number) else {
+            return j;
+        };
+        out[from + j] = fold;
+        all[j] = kept.next(number, fold);
+    }
+    all.len()
+}
+
+/// The same row by row.
+fn tell_rows<F: Scalar, K: Kept<F>>(
+    numbers: &[i64],
+    axis: Axis,
+    all: &mut [K],
+    out: &mut [i64],
+) -> usize
+    requires given { K.given }
+    requires whole { AreWhole numbers.now axis }
+    requires columns { length all.old ≡ axis.up }
+    requires size { length out.old ≡ length numbers.now }
+    ensures few { result ≤ length numbers.now }
+    ensures size { length out.new ≡ length out.old }
+    ensures prefixes { ArePrefixes F.meaning numbers.now axis result out.new }
+{
+    for row in 0..numbers.len() / axis.up {
+        let told = tell_row::<F, K>(numbers, axis, row, all, out);
+        if told < axis.up {
+            return row * axis.up + told;
+        }
+    }
+    numbers.len()
+}
+
+/// Room for what is kept of so many columns.
+fn columns<F: Scalar, K: Kept<F>>(alloc: Global, count: usize) -> Result<Vec<K>, AllocError>
+    requires { K.given }
+    ensures { IfOk result (λ all. length all.items ≡ count) }
+{
+    let mut all = Vec::with_capacity(alloc, count)?;
+    while all.len() < count {
+        all.push(K::none())?;
+    }
+    Ok(all)
+}
+
+/// Writes the first prefixes, while they are told, and answers how many.
+fn tell<F: Scalar, K: Kept<F>>(
+    alloc: Global,
+    numbers: &[i64],
+    axis: Axis,
+    out: &mut [i64],
+) -> Result<usize, AllocError>
+    requires given { K.given }
+    requires whole { AreWhole numbers.now axis }
+    requires size { length out.old ≡ length numbers.now }
+    ensures few { IfOk result (λ told. told ≤ length numbers.now) }
+    ensures size { length out.new ≡ length out.old }
+    ensures prefixes { IfOk result (λ told. ArePrefixes F.meaning numbers.now axis told out.new) }
+{
+    if axis.up == 1 {
+        return Ok(tell_lines::<F, K>(numbers, axis, out));
+    }
+    let mut all = columns::<F, K>(alloc, axis.up)?;
+    Ok(tell_rows::<F, K>(numbers, axis, all.as_mut_slice(), out))
+}
+
+/// The fold of the numbers along the axis up to the one at a place.
+fn prefix<F: Scalar>(numbers: &[i64], axis: Axis, at: usize) -> Result<i64, Fault>
+    requires whole { AreWhole numbers.now axis }
+    requires within { at < length numbers.now }
+    ensures { result ≡ prefix_fold F.meaning numbers.now axis at }
+{
+    let index = at / axis.up % axis.length;
+    fold_strided::<F>(numbers, &axis, at - index * axis.up, index + 1)
+}
+
+/// Folds each prefix behind so many anew, up to the first fault.
+fn fold_rest<F: Scalar>(
+    numbers: &[i64],
+    axis: Axis,
+    told: usize,
+    out: &mut [i64],
+) -> Result<(), Fault>
+    requires whole { AreWhole numbers.now axis }
+    requires size { length out.old ≡ length numbers.now }
+    requires few { told ≤ length numbers.now }
+    requires so_far { ArePrefixes F.meaning numbers.now axis told out.old }
+    ensures size { length out.new ≡ length out.old }
+    ensures prefixes { MatchResult result (λ u. ArePrefixes F.meaning numbers.now axis (length numbers.now) out.new) (λ e. prefix_folds F.meaning numbers.now axis ≡ Err e) }
+{
+    for at in told..numbers.len() {
+        match prefix::<F>(numbers, axis, at) {
+            Ok(value) => out[at] = value,
+            Err(fault) => return Err(fault),
+        }
+    }
+    Ok(())
+}
+
+/// All prefixes, or the first fault.
+fn prefixes_by<F: Scalar, K: Kept<F>>(
+    alloc: Global,
+    numbers: &[i64],
+    axis: Axis,
+) -> Result<Vec<i64>, Stop>
+    requires given { K.given }
+    requires whole { AreWhole numbers.now axis }
+    ensures { Answers (λ v. v.items) (prefix_folds F.meaning numbers.now axis) result }
+{
+    let mut out = Vec::new(alloc);
+    grow(&mut out, numbers.len())?;
+    let told = tell::<F, K>(alloc, numbers, axis, out.as_mut_slice())?;
+    match fold_rest::<F>(numbers, axis, told, out.as_mut_slice()) {
+        Ok(()) => Ok(out),
+        Err(fault) => Err(Stop::Fault(fault)),
+    }
+}
+
+/// Numbers in row-major order, to be scanned along an axis.
+#[derive(Clone, Copy)]
+struct Scan<'a> {
+    alloc: Global,
+    numbers: &'a [i64],
+    axis: Axis,
+}
+
+impl<'a> ByFunction for Scan<'a> {
+    type Output = Result<Vec<i64>, Stop>;
+
+    ghost can = { λ s f. AreWhole s.numbers.now s.axis };
+
+    ghost gives = { λ s f result. Answers (λ v. v.items) (prefix_folds f s.numbers.now s.axis) result };
+
+    fn with<F: Scalar>(self) -> Result<Vec<i64>, Stop> {
+        prefixes_by::<F, Ends>(self.alloc, self.numbers, self.axis)
+    }
+}
+
+/// The scan along an axis of numbers in row-major order, or the first fault. It takes time in proportion to the numbers, but for functions of
+/// which a prefix is neither told from what is kept nor a fault: each such prefix is folded anew.
+pub(crate) fn prefixes(
+    alloc: Global,
+    function: Dyadic,
+    numbers: &[i64],
+    axis: Axis,
+) -> Result<Vec<i64>, Stop>
+    requires { AreWhole numbers.now axis }
+    ensures { Answers (λ v. v.items) (prefix_folds (dyadic_of function) numbers.now axis) result }
+{
+    match function {
+        Dyadic::Plus => prefixes_by::<Sum, Swing>(alloc, numbers, axis),
+        Dyadic::Minus => prefixes_by::<Difference, Swing>(alloc, numbers, axis),
+        Dyadic::Times => prefixes_by::<Product, Scale>(alloc, numbers, axis),
+        Dyadic::Maximum => prefixes_by::<Maximum, Prefix>(alloc, numbers, axis),
+        Dyadic::Minimum => prefixes_by::<Minimum, Prefix>(alloc, numbers, axis),
+        _ => function.apply(Scan {
+            alloc,
+            numbers,
+            axis,
+        }),
+    }
+}
