@@ -1,5 +1,5 @@
 // Arrays that are made of what they have.
-ghost use Rattle.std.specs.Prelude.{◌≡◌, ◌≤◌, length, [], ◌∷◌, IfOk};
+ghost use Rattle.std.specs.Prelude.{◌≡◌, ◌≤◌, length, [], ◌∷◌, IfOk, IsOk};
 ghost use Rattle.apl_arrays.specs.Answers.{Answers, FaultsFirst};
 ghost use Rattle.apl_arrays.specs.Cells.{cells_of, IsArray, Numbers, Characters};
 ghost use Rattle.apl_arrays.specs.Checks.{is_bounded, limited};
@@ -51,11 +51,13 @@ impl Array {
     }
 
     /// The array of this shape with these elements in ravel order. It is a limit fault exactly where the product of the lengths, an axis of
-    /// length 0 counted as 1, is more than [`MAX_ELEMENTS`], before memory is asked for.
+    /// length 0 counted as 1, is more than [`MAX_ELEMENTS`], before memory is asked for. A scalar
+    /// takes no memory.
     pub fn new(alloc: Global, shape: ArrayVec<usize, MAX_RANK>, ravel: Ravel) -> Result<Array, Stop>
         requires { length (cells_of (items_of ravel)) ≡ size_of shape.items }
         ensures value { Answers (λ a. a) (ok_map (λ u. record { shape = shape.items; items = items_of ravel }) (is_bounded shape.items)) result }
         ensures at_once { FaultsFirst (is_bounded shape.items) result }
+        ensures scalar { shape.items ≡ [] → IsOk result }
     {
         if is_in_bounds(shape.as_slice()) {
             ravel.inspect();
@@ -70,6 +72,7 @@ impl Array {
         requires { length (cells_of (items_of ravel)) ≡ size_of shape.now }
         ensures value { Answers (λ a. a) (ok_map (λ s. record { shape = s; items = items_of ravel }) (limited shape.now)) result }
         ensures at_once { FaultsFirst (limited shape.now) result }
+        ensures scalar { shape.now ≡ [] → IsOk result }
     {
         match ArrayVec::try_from(shape) {
             Ok(lengths) => Array::new(alloc, lengths, ravel),
@@ -77,12 +80,13 @@ impl Array {
         }
     }
 
-    /// The array of this shape, which is within the limits, with these elements in ravel order.
+    /// The array of this shape, which is within the limits, with these elements in ravel order. A scalar takes no memory.
     pub fn in_shape(alloc: Global, shape: &[usize], ravel: Ravel) -> Result<Array, AllocError>
         requires full { length (cells_of (items_of ravel)) ≡ size_of shape.now }
         requires few { length shape.now ≤ MAX_RANK }
         requires small { bound_of shape.now ≤ MAX_ELEMENTS }
-        ensures { IfOk result (λ array. array ≡ record { shape = shape.now; items = items_of ravel }) }
+        ensures value { IfOk result (λ array. array ≡ record { shape = shape.now; items = items_of ravel }) }
+        ensures scalar { shape.now ≡ [] → IsOk result }
     {
         ravel.inspect();
         Array::formed(alloc, lengths(shape), ravel)
@@ -97,14 +101,15 @@ impl Array {
         Array::in_shape(alloc, &[count], ravel)
     }
 
-    /// The array of this shape with these elements. A scalar is stored in place.
+    /// The array of this shape with these elements. A scalar is stored in place, and takes no memory.
     pub(crate) fn formed(
         alloc: Global,
         shape: ArrayVec<usize, MAX_RANK>,
         ravel: Ravel,
     ) -> Result<Array, AllocError>
         requires { IsArray shape.items (items_of ravel) }
-        ensures { IfOk result (λ array. array ≡ record { shape = shape.items; items = items_of ravel }) }
+        ensures value { IfOk result (λ array. array ≡ record { shape = shape.items; items = items_of ravel }) }
+        ensures scalar { shape.items ≡ [] → IsOk result }
     {
         if shape.is_empty() {
             return match ravel.cell(0) {
@@ -116,10 +121,11 @@ impl Array {
         Ok(Array::kept(Kept::Dense(dense)))
     }
 
-    /// One element as a scalar, any other number of elements as a vector.
+    /// One element as a scalar, which takes no memory, any other number of elements as a vector.
     pub fn from_ravel(alloc: Global, ravel: Ravel) -> Result<Array, AllocError>
         requires { length (cells_of (items_of ravel)) ≤ MAX_ELEMENTS }
-        ensures { IfOk result (λ array. array ≡ simple (items_of ravel)) }
+        ensures value { IfOk result (λ array. array ≡ simple (items_of ravel)) }
+        ensures scalar { length (cells_of (items_of ravel)) ≡ 1 → IsOk result }
     {
         let mut shape = ArrayVec::new();
         let count = ravel.len();
@@ -130,26 +136,29 @@ impl Array {
         Array::formed(alloc, shape, ravel)
     }
 
-    /// One number as a scalar, any other number of numbers as a vector.
+    /// One number as a scalar, which takes no memory, any other number of numbers as a vector.
     pub fn from_nums(alloc: Global, numbers: Vec<i64>) -> Result<Array, AllocError>
         requires { length numbers.items ≤ MAX_ELEMENTS }
-        ensures { IfOk result (λ array. array ≡ simple (Numbers numbers.items)) }
+        ensures value { IfOk result (λ array. array ≡ simple (Numbers numbers.items)) }
+        ensures scalar { length numbers.items ≡ 1 → IsOk result }
     {
         Array::from_ravel(alloc, Ravel::Nums(numbers))
     }
 
-    /// One character as a scalar, any other number of characters as a vector.
+    /// One character as a scalar, which takes no memory, any other number of characters as a vector.
     pub fn from_chars(alloc: Global, characters: Vec<Ch>) -> Result<Array, AllocError>
         requires { length characters.items ≤ MAX_ELEMENTS }
-        ensures { IfOk result (λ array. array ≡ simple (Characters characters.items)) }
+        ensures value { IfOk result (λ array. array ≡ simple (Characters characters.items)) }
+        ensures scalar { length characters.items ≡ 1 → IsOk result }
     {
         Array::from_ravel(alloc, Ravel::Chars(characters))
     }
 
-    /// The array of this one's shape with other elements.
+    /// The array of this one's shape with other elements. A scalar takes no memory.
     pub fn with_ravel(&self, alloc: Global, ravel: Ravel) -> Result<Array, AllocError>
         requires { length (cells_of (items_of ravel)) ≡ size_of self.now.shape }
-        ensures { IfOk result (λ array. array ≡ record { shape = self.now.shape; items = items_of ravel }) }
+        ensures value { IfOk result (λ array. array ≡ record { shape = self.now.shape; items = items_of ravel }) }
+        ensures scalar { self.now.shape ≡ [] → IsOk result }
     {
         Array::in_shape(alloc, self.shape(), ravel)
     }

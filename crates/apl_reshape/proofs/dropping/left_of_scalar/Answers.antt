@@ -44,6 +44,6 @@ returns c =
     let left : c.as_slice-3.result.now ≡ each_axis left_length (replicate (length c.args.counts.now) 1) c.args.counts.now =
     c.as_slice-3.ensures.value ∙ c.asked_of_each-lengths.ensures ∙ ap (λ s. each_axis left_length s c.args.counts.now) (c.as_slice.ensures.value ∙ c.ones-axes.ensures) in
     let count : c.size.result ≡ size_of c.as_slice-3.result.now = c.size.ensures ∙ ap size_of (c.as_slice-2.ensures.value ∙ sym c.as_slice-3.ensures.value) in
-    c.in_ok-in_shape.ensures
+    c.in_ok-in_shape.ensures.value
     ∙ ap (λ (i : Items). record { shape = c.as_slice-3.result.now; items = i }) (c.in_ok-left.ensures ∙ ap (λ n. taken_round n (listed c.items.result)) count ∙ ap (taken_round (size_of c.as_slice-3.result.now)) c.items.ensures.value)
     ∙ left_of_one c.args.b.now c.args.counts.now c.as_slice-3.result.now (length c.args.counts.now) refl c.requires.scalar c.items.ensures.full left

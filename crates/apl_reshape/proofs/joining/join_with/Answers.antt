@@ -39,4 +39,4 @@ returns-clause-value c =
     (made_items c.args.axis c.rows_before.result c.args.a.now.shape c.args.b.now.shape c.args.s.now c.args.t.now (both_of c.in_ok-pair.pair) c.block_of-x.result c.block_of-y.result (items_of c.in_ok-ravel.ravel)
     c.requires.within c.requires.lengths c.requires.agree (c.block_of-x.ensures.is_scalar ∙ ap is_scalar_shape c.shape.ensures.value) c.block_of-x.ensures.len
     (c.block_of-y.ensures.is_scalar ∙ ap is_scalar_shape c.shape-2.ensures.value) c.block_of-y.ensures.len c.rows_before.ensures c.in_ok-ravel.ensures)
-    c.in_ok-in_shape.ensures
+    c.in_ok-in_shape.ensures.value

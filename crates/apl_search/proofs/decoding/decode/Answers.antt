@@ -59,4 +59,4 @@ returns-clause-value c =
     decode_ok c.args.a.now c.args.b.now c.in_ok-bases.bases.now c.in_ok-bases.digits.now c.in_ok-bases.count c.length_along.result c.size.result c.behind-shape.result.now c.in_ok-bases.ensures
     behind (c.length_along.ensures ∙ ap first_length c.shape-2.ensures.value) (c.size.ensures ∙ ap size_of behind)
     ∙ ap (ok_map made) c.in_ok-values.ensures
-    ∙ ap (λ (a : Arr). let r : Result Arr Fault = Ok a in r) (sym c.in_ok-in_shape.ensures)
+    ∙ ap (λ (a : Arr). let r : Result Arr Fault = Ok a in r) (sym c.in_ok-in_shape.ensures.value)

@@ -57,4 +57,4 @@ returns-clause-value c =
     let made : List ℤ → Arr = λ digits. record { shape = c.as_slice-shape.result.now; items = Numbers digits } in
     encode_ok c.args.a.now c.args.b.now c.in_ok-bases.bases.now c.in_ok-bases.numbers.now c.as_slice-shape.result.now c.in_ok-bases.ensures joined c.in_ok-within_limits.ensures
     ∙ ap (ok_map made) c.in_ok-digits.ensures
-    ∙ ap (λ (a : Arr). let r : Result Arr Fault = Ok a in r) (sym c.in_ok-in_shape.ensures)
+    ∙ ap (λ (a : Arr). let r : Result Arr Fault = Ok a in r) (sym c.in_ok-in_shape.ensures.value)

@@ -17,4 +17,4 @@ returns-clause-value c =
     ∙ ap (λ (t : Items). found c.args.a.now.items t) c.items.ensures.value in
     ap (ok_map (λ u. made (found c.args.a.now.items c.args.b.now.items))) (sym c.in_ok-one_axis.ensures)
     ∙ ap (λ (l : List ℤ). let r : Result Arr Fault = Ok (made l) in r) (sym places)
-    ∙ ap (λ (a : Arr). let r : Result Arr Fault = Ok a in r) (sym c.in_ok-with_ravel.ensures)
+    ∙ ap (λ (a : Arr). let r : Result Arr Fault = Ok a in r) (sym c.in_ok-with_ravel.ensures.value)

@@ -13,7 +13,7 @@ in_shape-requires-clause-full c =
 
 pub returns : goal.returns
 returns c =
-    c.in_ok-in_shape.ensures
+    c.in_ok-in_shape.ensures.value
     ∙ ap (λ (s : List ℕ). record { shape = s; items = items_of c.write.new.self }) c.shape.ensures.value
     ∙ ap (λ (t : Items). record { shape = c.args.v.now.shape; items = t })
     (put_along c.args.v.now.items c.args.b.now.items _ _ (items_of c.write.new.self) c.args.places.now c.requires.within c.requires.enough (c.in_ok-ravel.ensures ∙ c.items.ensures.value) c.items-2.ensures.value c.write.ensures)

@@ -37,7 +37,7 @@ returns-clause-value c =
     let fits : limited c.as_slice-5.result.now ≡ Ok c.as_slice-5.result.now = ap limited (c.as_slice-5.ensures.value ∙ sym c.as_slice-2.ensures.value) ∙ c.in_ok-within_limits.ensures ∙ ap (λ (s : List ℕ). Ok s) (c.as_slice-2.ensures.value ∙ sym c.as_slice-5.ensures.value) in
     ap (λ (m : Result (List Places) Fault). and_then m (λ ps. ok_map (λ s. selected c.args.b.now s (led_to ps)) (limited (joined_shape ps))))
     c.in_ok-picks.ensures.value
-    ∙ index_shaped c.args.b.now c.in_ok-picks.picks.items c.as_slice-5.result.now (items_of c.in_ok-ravel.ravel) c.in_ok-in_shape.field-0 shape items fits c.in_ok-in_shape.ensures
+    ∙ index_shaped c.args.b.now c.in_ok-picks.picks.items c.as_slice-5.result.now (items_of c.in_ok-ravel.ravel) c.in_ok-in_shape.field-0 shape items fits c.in_ok-in_shape.ensures.value
 
 pub returns-clause-at_once : goal.returns-clause-at_once
 returns-clause-at_once c =

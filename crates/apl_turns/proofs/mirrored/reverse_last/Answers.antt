@@ -25,6 +25,6 @@ pub returns : goal.returns
 returns c =
     ap (λ (a : Arr). Ok a)
     (sym
-    (c.in_ok-in_shape.ensures ∙ ap (λ (s : List ℕ). record { shape = s; items = items_of c.in_ok-turned.turned }) c.shape-2.ensures.value
+    (c.in_ok-in_shape.ensures.value ∙ ap (λ (s : List ℕ). record { shape = s; items = items_of c.in_ok-turned.turned }) c.shape-2.ensures.value
     ∙ ap (λ (t : Items). record { shape = c.args.b.now.shape; items = t }) (c.in_ok-turned.ensures ∙ ap (mirrored c.extent_along-extent.result.rows) c.items.ensures.value)
     ∙ reversed_last c.args.b.now c.args.axis c.extent_along-extent.result.rows c.requires c.items.ensures.full (c.extent_along-extent.ensures.rows ∙ ap (λ (s : List ℕ). get_or s c.args.axis 0) c.shape.ensures.value)))
