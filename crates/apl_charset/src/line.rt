@@ -74,13 +74,13 @@ fn decode_text(alloc: Global, text: &str) -> Result<Vec<Ch>, CharFault>
 }
 
 /// The fault of a line that is UTF-8 up to `at` and no further.
-fn decode_front(alloc: Global, line: &[u8], at: usize) -> Result<Vec<Ch>, CharFault>
+fn decode_prefix(alloc: Global, line: &[u8], at: usize) -> Result<Vec<Ch>, CharFault>
     requires { IsValidUpTo line.now at }
     ensures fails { IsErr result }
     ensures fault { IfErr result (λ e. IsFault line.now e) }
 {
     match str::from_utf8(&line[..at]) {
-        Ok(front) => match decode_text(alloc, front) {
+        Ok(prefix) => match decode_text(alloc, prefix) {
             Ok(_) => return Err(CharFault::NotUtf8 { at }),
             Err(fault) => return Err(fault),
         },
@@ -102,7 +102,7 @@ pub fn decode_line(alloc: Global, line: &[u8]) -> Result<Vec<Ch>, CharFault>
 {
     match str::from_utf8(line) {
         Ok(text) => decode_text(alloc, text),
-        Err(fault) => decode_front(alloc, line, fault.valid_up_to()),
+        Err(fault) => decode_prefix(alloc, line, fault.valid_up_to()),
     }
 }
 
