@@ -224,12 +224,37 @@ def check(rt: ModuleType, crate: Any, folder: str, words: list[str]) -> tuple[in
     return status, said
 
 
+# The checker's name of a function that the crate's text has, and no derive and no closure.
+PLAIN = re.compile(r"[a-z]\w*(::\w+)*")
+# A proof that is left open, of what a function promises.
+OPEN = """use Rattle.{crate}.proofs.{path}.Statement.{{statement}}
+
+pub {name}_spec : {{M : Type 1}} → statement M
+{name}_spec = ?
+"""
+
+
+def leave_open(folder: str, crate: str, function: str) -> None:
+    """Replaces the proof of a function, in a copy of a crate, by one that is left open: the proofs of those that call it are then looked at
+    without it."""
+    parts = function.split("::")
+    at = f"{folder}/proofs/{'/'.join(parts)}"
+    os.makedirs(at, exist_ok=True)
+    for name in ("Answers.antt", "Invariants.antt"):
+        if os.path.exists(f"{at}/{name}"):
+            os.remove(f"{at}/{name}")
+    with open(f"{at}/Proof.antt", "w", encoding="utf-8") as to:
+        to.write(OPEN.format(crate=crate, path=".".join(parts), name=parts[-1]))
+
+
 class Trial:
     """The mutants of one crate, tried one check after another over what the earlier ones proved of it, and over what was kept of its proof."""
 
     def __init__(self, rt: ModuleType, crate: Any, room: str) -> None:
         self.rt, self.crate, self.room = rt, crate, room
         self.over = f"{room}/over"
+
+        self.functions: list[str] = []
 
     def begin(self, functions: Iterable[str]) -> list[str]:
         """Copies what checks in the crate's folder kept, if they kept anything, and returns the checker's names of the crate's functions: those
@@ -243,7 +268,8 @@ class Trial:
             shutil.rmtree(made, ignore_errors=True)
         else:
             os.mkdir(self.over)
-        return names or self.known()
+        self.functions = names or self.known()
+        return self.functions
 
     def known(self) -> list[str]:
         """Returns the checker's names of the functions that were proved in the kept work."""
@@ -251,8 +277,9 @@ class Trial:
         files = glob.glob(f"{glob.escape(self.over)}/*/{start}*{end}")
         return [os.path.basename(it)[len(start) : -len(end)].replace(".", "::") for it in files]
 
-    def check(self, texts: dict[str, str], words: list[str]) -> tuple[int, str]:
-        """Checks a copy of the crate with these texts, and returns the status and what was said."""
+    def check(self, texts: dict[str, str], words: list[str], open_ones: Iterable[str] = ()) -> tuple[int, str]:
+        """Checks a copy of the crate with these texts, in which the proofs of some functions are left open, and returns the status and what was
+        said."""
         with tempfile.TemporaryDirectory(dir=self.room) as room:
             for part in self.rt.rtlib.PARTS:
                 if os.path.isdir(f"{self.crate.folder}/{part}"):
@@ -260,6 +287,8 @@ class Trial:
             for file, text in texts.items():
                 with open(f"{room}/{file}", "w", encoding="utf-8") as to:
                     to.write(text)
+            for function in open_ones:
+                leave_open(room, self.crate.name, function)
             return check(self.rt, self.crate, room, ["--incremental", self.over, *words])
 
     def alone(self, mutant: Mutant) -> Told:
@@ -298,7 +327,10 @@ class Trial:
         says nothing."""
         chosen, texts = batch_of(mutants, self.crate.folder)
         functions = sorted({it for mutant in chosen for it in mutant.functions})
-        status, said = self.check(texts, [word for it in functions for word in ("--only", f"{self.crate.name}::{it}")])
+        # what the others promise is all that the proofs of these need
+        others = [it for it in self.functions if it not in functions and PLAIN.fullmatch(it)]
+        words = [word for it in functions for word in ("--only", f"{self.crate.name}::{it}")]
+        status, said = self.check(texts, ["--allow-holes", *words], others)
         told = verdicts(said, self.crate.name) if status in (0, 1, 3) else {}
         found = {mutant: judged(mutant, told, said) for mutant in chosen}
         return {it: what for it, what in found.items() if what}, [it for it in chosen if not found[it]]
