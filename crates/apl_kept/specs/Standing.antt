@@ -9,7 +9,7 @@ use Rattle.apl_kept.specs.declared.standing.Told.TheVariants as told
 
 -- what a line of a kind tells where it is the last
 abbrev pub kind_told : LineKind → Told
-kind_told (kind.Report fault) = told.Fault fault
+kind_told (kind.Report fault blame) = told.Fault fault
 kind_told kind.Stop = told.Stopped
 kind_told k = told.Idle
 

@@ -23,7 +23,7 @@ fn kind_told(kind: LineKind) -> Told
     ensures { result ≡ kind_told kind }
 {
     match kind {
-        LineKind::Report(fault) => Told::Fault(fault),
+        LineKind::Report(fault, _) => Told::Fault(fault),
         LineKind::Stop => Told::Stopped,
         LineKind::Shown | LineKind::Trace | LineKind::Answer => Told::Idle,
     }

@@ -16,6 +16,7 @@ use Rattle.apl_defn.specs.Defining.{defined_of}
 use Rattle.apl_defn.specs.Reading.{header_of}
 use Rattle.apl_vectors.specs.Vectors.{after_asking, has_line, vector_of}
 use Rattle.apl_names.specs.Maps.{Map}
+use Rattle.apl_machine_state.specs.declared.output.Blame.TheVariants as blame
 use Rattle.apl_machine_state.specs.declared.output.LineKind.TheVariants.{Report}
 use Rattle.apl_machine_state.specs.declared.output.OutLine.{OutLine}
 use Rattle.apl_machine_state.specs.Beginning.{begun_by, started, token_fault}
@@ -50,7 +51,7 @@ says : (before : List OutLine) (s : State) (lines : List OutLine) → Follows be
 says before s lines = record { is = ap (writing s) (append_assoc before s.output lines) }
 
 refuses : (before : List OutLine) (s : State) (fault : Fault) → Follows before (refused s fault) (refused (behind before s) fault)
-refuses before s fault = says before s (lines_of (Report fault) (name_of fault ∷ []))
+refuses before s fault = says before s (lines_of (Report fault blame.Nothing) (name_of fault ∷ []))
 
 -- what writes nothing
 stays : (before : List OutLine) (s : State) → Follows before s (behind before s)

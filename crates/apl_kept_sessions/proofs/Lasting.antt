@@ -12,6 +12,7 @@ use Rattle.apl_defn.specs.Defining.{IsDefined, defined_of}
 use Rattle.apl_defn.specs.Listing.{listed}
 use Rattle.apl_defn.specs.Reading.{header_of}
 use Rattle.apl_defn.proofs.Limits.{defined_made}
+use Rattle.apl_machine_state.specs.declared.output.Blame.TheVariants as blame
 use Rattle.apl_machine_state.specs.declared.output.LineKind.TheVariants.{Answer, Report}
 use Rattle.apl_machine_state.specs.declared.output.OutLine.{OutLine}
 use Rattle.apl_machine_state.specs.Beginning.{begun}
@@ -48,7 +49,7 @@ module _ (P : State → Type 0) (k : IsLasting P) where
   either false s t h g = g
 
   refuses : (s : State) (fault : Fault) → P s → P (refused s fault)
-  refuses s fault h = k.told s (lines_of (Report fault) (name_of fault ∷ [])) h
+  refuses s fault h = k.told s (lines_of (Report fault blame.Nothing) (name_of fault ∷ [])) h
 
   -- ---- definitions
 

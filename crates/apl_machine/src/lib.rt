@@ -22,6 +22,6 @@ mod traces;
 mod workspace;
 
 pub use apl_frames::Frame;
-pub use apl_machine_state::{Level, LineKind, Operand, OutLine, Progress, Slots};
+pub use apl_machine_state::{Blame, Level, LineKind, Operand, OutLine, Progress, Slots};
 pub use apl_parts::{CallPart, ContextPart, FunctionPart, Parts, RestPart, StatementPart};
 pub use machine::{BeginError, Machine};

@@ -11,7 +11,7 @@ ghost use Rattle.apl_contexts.specs.Stacks.{contexts_of};
 use apl_charset::{Ch, Text};
 use apl_contexts::{Context, Stack};
 use apl_faults::{Call, Fault, report};
-use apl_machine_state::{LineKind, OutLine};
+use apl_machine_state::{Blame, LineKind, OutLine};
 use apl_phrases::said;
 use apl_tokens::TokenError;
 use std::alloc::{AllocError, Global};
@@ -27,7 +27,7 @@ pub fn typed_fault(
     ensures { IfOk result (λ lines. lines.items ≡ report_lines fault None text.now column) }
 {
     let texts = report(alloc, fault, None, text, column)?;
-    said(alloc, LineKind::Report(fault), texts)
+    said(alloc, LineKind::Report(fault, Blame::Typed(column)), texts)
 }
 
 /// The report of a fault in the line of a context alone.
@@ -52,7 +52,7 @@ fn line_fault(
                 line: call.at(),
             };
             let texts = report(alloc, fault, Some(place), call.text(), column)?;
-            said(alloc, LineKind::Report(fault), texts)
+            said(alloc, LineKind::Report(fault, Blame::Call(column)), texts)
         }
     }
 }

@@ -2,6 +2,8 @@
 use Rattle.std.specs.Prelude.{ℕ, List, [], ◌∷◌, map, Option, Some, None}
 use Rattle.apl_faults.specs.declared.fault.Fault.{Fault}
 use Rattle.apl_faults.specs.Report.{report}
+use Rattle.apl_machine_state.specs.declared.output.Blame.{Blame}
+use Rattle.apl_machine_state.specs.declared.output.Blame.TheVariants as blame
 use Rattle.apl_machine_state.specs.declared.output.LineKind.{LineKind}
 use Rattle.apl_machine_state.specs.declared.output.LineKind.TheVariants.{Report}
 use Rattle.apl_machine_state.specs.declared.output.OutLine.{OutLine}
@@ -13,9 +15,14 @@ use Rattle.apl_machine_state.specs.Environment.{Context, Statement, Call, Execut
 abbrev pub lines_of : LineKind → List Text → List OutLine
 lines_of kind texts = map {A = Text} (λ text. record { text = text; kind = kind }) texts
 
+-- a fault at a column of a typed text, or of the line of a call, is blamed on that
+abbrev pub blame_of : Option (Text × ℕ) → ℕ → Blame
+blame_of None at = blame.Typed at
+blame_of (Some call) at = blame.Call at
+
 -- each line of a fault's report is of that fault
 abbrev pub report_lines : Fault → Option (Text × ℕ) → Text → ℕ → List OutLine
-report_lines fault call text at = lines_of (Report fault) (report fault call text at)
+report_lines fault call text at = lines_of (Report fault (blame_of call at)) (report fault call text at)
 
 -- the column of the hole of a line
 abbrev pub hole_of : Option Rest → ℕ

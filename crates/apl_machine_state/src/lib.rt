@@ -10,6 +10,6 @@ mod watch;
 
 pub use level::Level;
 pub use operand::{Operand, Slots, Small};
-pub use output::{LineKind, OutLine, Progress};
+pub use output::{Blame, LineKind, OutLine, Progress};
 pub use texts::colon_of;
 pub use watch::Watch;

@@ -3,6 +3,17 @@
 use apl_charset::Text;
 use apl_faults::Fault;
 
+/// What a fault is blamed on. Columns count from 1.
+#[derive(Clone, Copy, PartialEq, Eq, Debug)]
+pub enum Blame {
+    /// Nothing: the report is the fault's name alone.
+    Nothing,
+    /// A column of the typed text.
+    Typed(usize),
+    /// A column of the line at which the newest call is suspended.
+    Call(usize),
+}
+
 /// What a line of output is.
 #[derive(Clone, Copy, PartialEq, Eq, Debug)]
 pub enum LineKind {
@@ -14,8 +25,8 @@ pub enum LineKind {
     Stop,
     /// An answer to a command, or to a line of a definition.
     Answer,
-    /// A line of the report of a fault.
-    Report(Fault),
+    /// A line of the report of a fault, and what that is blamed on.
+    Report(Fault, Blame),
 }
 
 /// A line of output, and what it is.

@@ -16,6 +16,7 @@ use Rattle.apl_defn.specs.Definitions.{Text, is_line, line_of}
 use Rattle.apl_vectors.specs.Vectors.{has_line}
 use Rattle.apl_machine_state.specs.declared.operand.Operand.{Operand}
 use Rattle.apl_machine_state.specs.declared.operand.Operand.TheVariants.{Value}
+use Rattle.apl_machine_state.specs.declared.output.Blame.TheVariants as blame
 use Rattle.apl_machine_state.specs.declared.output.LineKind.TheVariants as line_kind
 use Rattle.apl_machine_state.specs.declared.output.OutLine.{OutLine}
 use Rattle.apl_machine_state.specs.Items.{Item, Rest, answered, cells, column, kinds}
@@ -41,8 +42,8 @@ choose P false c e h g = g
 -- the report of a fault
 pub fault-plain : (fault : Fault) (at : ℕ) (contexts : List Context) → IsPlain (fault_lines fault at contexts)
 fault-plain fault at [] = refl
-fault-plain fault at (Statement text rest ∷ below) = plain-of (line_kind.Report fault) (faults.report fault None text at) refl
-fault-plain fault at (Call d n locals rest ∷ below) = plain-of (line_kind.Report fault) (faults.report fault (Some (d.header.name, n)) (line_of d n) at) refl
+fault-plain fault at (Statement text rest ∷ below) = plain-of (line_kind.Report fault (blame.Typed at)) (faults.report fault None text at) refl
+fault-plain fault at (Call d n locals rest ∷ below) = plain-of (line_kind.Report fault (blame.Call at)) (faults.report fault (Some (d.header.name, n)) (line_of d n) at) refl
 fault-plain fault at (Execute text rest ∷ below) = fault-plain fault (hole_in below) below
 
 -- what a traced line writes

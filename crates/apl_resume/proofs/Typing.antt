@@ -16,6 +16,7 @@ use Rattle.apl_tokens.specs.declared.token.Token.{Token}
 use Rattle.apl_tokens.specs.declared.line.TokenError.{TokenError}
 use Rattle.apl_tokens.specs.Tokens.{tokens_of}
 use Rattle.apl_vectors.specs.Vectors.{without_vector}
+use Rattle.apl_machine_state.specs.declared.output.Blame.TheVariants as blame
 use Rattle.apl_machine_state.specs.declared.output.LineKind.TheVariants.{Answer, Report}
 use Rattle.apl_machine_state.specs.declared.output.OutLine.{OutLine}
 use Rattle.apl_machine_state.specs.Reports.{lines_of, report_lines}
@@ -53,11 +54,11 @@ answers : (x : State) (texts : List Text) → is_idle x ≡ true → IsDone x (a
 answers x texts idle = says x (lines_of Answer texts) (plain-of Answer texts refl) idle
 
 refuses : (x : State) (fault : Fault) → is_idle x ≡ true → IsDone x (refused x fault) (refused (free x) fault)
-refuses x fault idle = says x (lines_of (Report fault) (name_of fault ∷ [])) (plain-of (Report fault) (name_of fault ∷ []) refl) idle
+refuses x fault idle = says x (lines_of (Report fault blame.Nothing) (name_of fault ∷ [])) (plain-of (Report fault blame.Nothing) (name_of fault ∷ []) refl) idle
 
 refuses_closed : (x : State) (fault : Fault) → is_idle x ≡ true → IsDone x (refused (closed x) fault) (refused (closed (free x)) fault)
 refuses_closed x fault idle = record {
-  freed = ap (with_output (closed x)) (plain-more x.output (lines_of (Report fault) (name_of fault ∷ [])) (plain-of (Report fault) (name_of fault ∷ []) refl));
+  freed = ap (with_output (closed x)) (plain-more x.output (lines_of (Report fault blame.Nothing) (name_of fault ∷ [])) (plain-of (Report fault blame.Nothing) (name_of fault ∷ []) refl));
   idle = idle;
   emptied = λ e. e;
 }
@@ -185,11 +186,11 @@ done_line : (x : State) {t u : State} → IsDone x t u → IsLine x t u
 done_line x done = record { freed = done.freed; settled = inr done.idle; emptied = done.emptied }
 
 token-plain : (fault : Fault) (text : Text) (at : Option ℕ) → IsPlain (reported fault text at)
-token-plain fault text (Some at) = plain-of (Report fault) (report fault None text at) refl
+token-plain fault text (Some at) = plain-of (Report fault (blame.Typed at)) (report fault None text at) refl
 token-plain fault text None = refl
 
 started_line : (x : State) (text : Text) (tokens : List Token) (colon : Option ℕ) → is_idle x ≡ true → x.definition ≡ None → IsLine x (started x text tokens colon) (started (free x) text tokens colon)
-started_line x text tokens (Some at) idle none = done_line x (says x (report_lines Syntax None text at) (plain-of (Report Syntax) (report Syntax None text at) refl) idle)
+started_line x text tokens (Some at) idle none = done_line x (says x (report_lines Syntax None text at) (plain-of (Report Syntax (blame.Typed at)) (report Syntax None text at) refl) idle)
 started_line x text tokens None idle none = record { freed = refl; settled = inl (none, refl); emptied = λ e. e }
 
 begun_line : (x : State) (text : Text) (tokens : Result (List Token) TokenError) → is_idle x ≡ true → x.definition ≡ None → IsLine x (begun_by x text tokens) (begun_by (free x) text tokens)

@@ -16,6 +16,7 @@ use Rattle.apl_defn.specs.Listing.{listed}
 use Rattle.apl_names.specs.Maps.{Map}
 use Rattle.apl_machine_state.specs.Environment.{World, Context, Call}
 use Rattle.apl_machine_state.specs.Calls.{begun_line, returned}
+use Rattle.apl_machine_state.specs.declared.output.Blame.TheVariants as blame
 use Rattle.apl_machine_state.specs.declared.output.LineKind.TheVariants.{Answer, Report}
 use Rattle.apl_machine_state.specs.Reports.{lines_of}
 use Rattle.apl_machine_state.specs.declared.watch.Watch.TheVariants.{Stop, Trace}
@@ -51,7 +52,7 @@ lines-behind : (front : List OutLine) (s : State) (lines : List OutLine) → wit
 lines-behind front s lines = ap (λ (o : List OutLine). record s { output = o }) (append_assoc front s.output lines)
 
 refused-behind : (front : List OutLine) (s : State) (fault : Fault) → refused (behind front s) fault ≡ behind front (refused s fault)
-refused-behind front s fault = lines-behind front s (lines_of (Report fault) (name_of fault ∷ []))
+refused-behind front s fault = lines-behind front s (lines_of (Report fault blame.Nothing) (name_of fault ∷ []))
 
 comes-behind : (front : List OutLine) (stops : Bool) (s : State) (w : World) (d : Definition) (n : ℕ) (locals : Map) (below : List Context) (lines : List OutLine) (ended : Bool) →
     (comes_to stops (behind front s) w d n locals below lines ended).state ≡ behind front (comes_to stops s w d n locals below lines ended).state

@@ -30,7 +30,7 @@ kind_word Shown = codes "shown"
 kind_word Trace = codes "trace"
 kind_word Stop = codes "stop"
 kind_word Answer = codes "answer"
-kind_word (Report fault) = codes "report"
+kind_word (Report fault blame) = codes "report"
 
 abbrev pub line_tree : OutLine → Data
 line_tree line = object (member (codes "kind") (string (kind_word line.kind)) (member (codes "text") (text_tree line.text) no_members))

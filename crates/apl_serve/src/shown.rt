@@ -86,7 +86,7 @@ fn kind_word(kind: LineKind) -> &'static str
         LineKind::Trace => "trace",
         LineKind::Stop => "stop",
         LineKind::Answer => "answer",
-        LineKind::Report(_) => "report",
+        LineKind::Report(..) => "report",
     }
 }
 

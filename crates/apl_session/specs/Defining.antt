@@ -12,13 +12,14 @@ use Rattle.apl_defn.specs.Blanks.{trimmed}
 use Rattle.apl_defn.specs.Reading.{header_of}
 use Rattle.apl_defn.specs.Defining.{defined_of}
 use Rattle.apl_defn.specs.Listing.{listed}
+use Rattle.apl_machine_state.specs.declared.output.Blame.TheVariants as blame
 use Rattle.apl_machine_state.specs.declared.output.LineKind.TheVariants.{Answer, Report}
 use Rattle.apl_machine_state.specs.Reports.{lines_of}
 use Rattle.apl_machine_state.specs.State.{State, definition_of, is_global_variable, with_function, with_lines}
 
 -- a fault is reported by its name alone
 abbrev pub refused : State → Fault → State
-refused s fault = with_lines (lines_of (Report fault) (name_of fault ∷ [])) s
+refused s fault = with_lines (lines_of (Report fault blame.Nothing) (name_of fault ∷ [])) s
 
 -- a command or a line of a definition is answered
 abbrev pub answered : List Text → State → State

@@ -10,7 +10,7 @@ ghost use Rattle.apl_session.specs.Defining as model;
 use apl_charset::{Ch, Text};
 use apl_defn::{DefnError, copy_lines, define, header, show, trimmed};
 use apl_faults::{Fault, fault_line};
-use apl_machine::{LineKind, Machine};
+use apl_machine::{Blame, LineKind, Machine};
 use apl_symbols::Name;
 use std::alloc::{AllocError, Global};
 use std::marker::Model;
@@ -152,7 +152,7 @@ pub fn refuse(alloc: Global, machine: &mut Machine, fault: Fault) -> Result<(), 
     ensures err { OnErr result (machine.new ≡ machine.old) }
 {
     let line = fault_line(alloc, fault)?;
-    machine.say(LineKind::Report(fault), line)
+    machine.say(LineKind::Report(fault, Blame::Nothing), line)
 }
 
 /// Shows the function of a name, or reports that there is none.
