@@ -236,9 +236,11 @@ pub {name}_spec : {{M : Type 1}} → statement M
 
 def leave_open(folder: str, crate: str, function: str) -> None:
     """Replaces the proof of a function, in a copy of a crate, by one that is left open: the proofs of those that call it are then looked at
-    without it."""
+    without it. One that calls itself keeps its own, since it has a form of its own."""
     parts = function.split("::")
     at = f"{folder}/proofs/{'/'.join(parts)}"
+    if os.path.isdir(f"{os.path.dirname(at)}/+{parts[-1]}"):
+        return
     os.makedirs(at, exist_ok=True)
     for name in ("Answers.antt", "Invariants.antt"):
         if os.path.exists(f"{at}/{name}"):

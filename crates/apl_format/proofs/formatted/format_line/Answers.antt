@@ -23,4 +23,4 @@ unfolding vector_line
 returns c =
     answers_along (λ a. a) _ _ c.in_shape.result
     (line_made c.args.numbers.now c.in_ok-width.ensures.sum (c.in_ok-push_numbers.ensures ∙ ap (λ t. t ++ joined 32 (map number_text c.args.numbers.now)) c.in_ok-characters.ensures.items))
-    c.in_shape.ensures.value
+    c.in_shape.ensures

@@ -55,4 +55,4 @@ returns c =
     (rows_made c.args.outer.now c.args.columns c.args.numbers.now
     (made c.args.outer.now c.args.columns c.args.numbers.now c.size-count.ensures c.in_ok-widths.ensures.value c.in_ok-widths.ensures.wide c.as_slice.ensures.value c.in_ok-width.ensures.sum
     c.as_slice-2.ensures.value c.in_ok-characters.ensures.items c.in_ok-push_rows.ensures))
-    c.in_shape.ensures.value
+    c.in_shape.ensures

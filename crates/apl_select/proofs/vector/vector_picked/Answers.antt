@@ -24,4 +24,4 @@ returns-in_ok-in_shape-in-Some c =
     c.shape.ensures.array.few_axes c.shape.ensures.array.small
     (sym (ap numbers_of c.items.ensures.value) ∙ c.in-Ok.ensures)
     (ap (λ (t : Items). ok_map (at_places t) (all_ok (place_numbered (length (cells_of t)) c.args.origin) c.in-Ok.numbers.now)) (sym c.items-items.ensures.value) ∙ (rw c.in-Some.is at c.in_ok-ravel.ensures))
-    (c.in_ok-in_shape-in-Some.ensures ∙ ap (λ (s : List ℕ). record { shape = s; items = items_of c.in-Some.ravel }) c.shape.ensures.value)
+    (c.in_ok-in_shape-in-Some.ensures.value ∙ ap (λ (s : List ℕ). record { shape = s; items = items_of c.in-Some.ravel }) c.shape.ensures.value)
