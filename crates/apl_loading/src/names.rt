@@ -6,8 +6,7 @@ ghost use Rattle.apl_loading.specs.Numbers.{Refuses};
 ghost use Rattle.apl_loading.specs.declared.error.LoadFault.TheVariants as fault;
 
 use crate::error::LoadFault;
-use crate::texts::{are_same, read_text};
-use apl_charset::{CharFault, decode_line};
+use crate::texts::{are_same, read_text, text_of};
 use apl_defn::name_of;
 use apl_symbols::Name;
 use apl_workspace_file::TextField;
@@ -34,9 +33,8 @@ pub(crate) fn is_named(alloc: Global, field: &TextField, name: &Name) -> Result<
     ensures same { IfOk result (λ b. IsTrue b ↔ IsLine field.now name.now) }
     ensures memory { IfErr result (λ e. e ≡ fault.Memory) }
 {
-    match decode_line(alloc, field.as_str().as_bytes()) {
-        Ok(text) => Ok(are_same(text.as_slice(), name.as_slice())),
-        Err(CharFault::Memory) => Err(LoadFault::Memory),
-        Err(_) => Ok(false),
+    match text_of(alloc, field.as_str())? {
+        Some(text) => Ok(are_same(text.as_slice(), name.as_slice())),
+        None => Ok(false),
     }
 }
