@@ -10,15 +10,15 @@ ghost use Rattle.apl_operands.specs.Operands.{Offers, fetched_from};
 ghost use Rattle.apl_frames.specs.Ends.{IsColumn};
 ghost use Rattle.apl_contexts.specs.Contexts.{AreSound, AreStacked, Newest, dressed, line_in, lines_in, standing};
 ghost use Rattle.apl_machine.specs.Changes.{ComesToPhrase, IsChange};
-ghost use Rattle.apl_machine.specs.inside.Next.{CallsNone};
+ghost use Rattle.apl_machine.specs.inside.Next.{ComesToNo};
 ghost use Rattle.apl_machine.specs.inside.Reduced.{Reduces};
 ghost use Rattle.apl_machine.specs.Worlds.{settings};
 ghost use Rattle.apl_phrases.specs.Calling.{CallsByName};
 ghost use Rattle.apl_phrases.specs.Effects.{acted, seen};
+ghost use Rattle.apl_phrases.specs.Frequent.{IsInPlace};
 
 use crate::departure::failing;
 use apl_arrays::{Array, Origin, Ravel};
-use apl_charset::Text;
 use apl_code::Instr;
 use apl_contexts::Contexts;
 use apl_machine_state::{Operand, OutLine, Watch};
@@ -26,7 +26,6 @@ use apl_names::Names;
 use apl_operands::{Given, Operands, last_operand, left};
 use apl_phrases::{Deed, Effect, Scene, perform};
 use apl_symbols::Name;
-use apl_tokens::Token;
 use std::alloc::{AllocError, Global};
 
 /// What a phrase makes of a machine.
@@ -37,8 +36,6 @@ pub enum Change {
     /// A phrase asks the stop or trace vector of a function, which is replaced where there is a new
     /// one, with so many operands left.
     Asks(Watch, Name, Option<Vec<usize>>, usize),
-    /// A phrase executes a text, of these tokens, with so many operands left.
-    Executes(Text, Vec<Token>, usize),
     /// A fault abandons the line, and these lines report it.
     Fails(Vec<OutLine>),
 }
@@ -53,7 +50,7 @@ fn line_counter(alloc: Global, contexts: &Contexts) -> Result<Array, AllocError>
     Array::vector(alloc, Ravel::Nums(numbers))
 }
 
-/// What a phrase makes of a machine, which calls no function by its name.
+/// What a phrase makes of a machine, which calls no function by its name and isn't done in place.
 fn reduce(
     alloc: Global,
     scene: Scene<'_>,
@@ -63,6 +60,7 @@ fn reduce(
 ) -> Result<Change, AllocError>
     requires there { Offers operands instr.now.arguments }
     requires other { ¬ CallsByName instr.now.action }
+    requires apart { ¬ IsInPlace instr.now.action }
     requires placed { IsColumn instr.now.at }
     requires stacked { AreStacked Newest contexts.now }
     requires few { standing contexts.now ≤ 256 }
@@ -88,10 +86,6 @@ fn reduce(
             let left = left(sources, operands.stack);
             Ok(Change::Asks(which, name, lines, left))
         }
-        Effect::Executes(text, tokens) => {
-            let left = left(sources, operands.stack);
-            Ok(Change::Executes(text, tokens, left))
-        }
         Effect::Fails(fault) => {
             let report = failing(alloc, fault, contexts, instr.at)?;
             Ok(Change::Fails(report))
@@ -99,7 +93,8 @@ fn reduce(
     }
 }
 
-/// What the next step makes of a machine whose newest context comes to a phrase, which calls no function by its name. It changes nothing yet.
+/// What the next step makes of a machine whose newest context comes to a phrase, which calls no function by its name and isn't done in place.
+/// It changes nothing yet.
 pub fn change_of(
     alloc: Global,
     names: &Names,
@@ -110,7 +105,8 @@ pub fn change_of(
     requires few { standing contexts.now ≤ 256 }
     requires runs { IsSome (line_in contexts.now) }
     requires phrase { ComesToPhrase contexts.now }
-    requires other { CallsNone contexts.now }
+    requires other { ComesToNo CallsByName contexts.now }
+    requires apart { ComesToNo IsInPlace contexts.now }
     ensures { IfOk result (λ change. (stops traces : Vectors) → IsChange change names.now (settings stops traces (origin_number io)) contexts.now) }
 {
     let Some(line) = contexts.line() else {

@@ -3,7 +3,9 @@ use Rattle.std.specs.Prelude.{option_copied}
 use Rattle.apl_arrays.specs.Origins.{origin_number}
 use Rattle.apl_operands.specs.Operands.{AreThere}
 use Rattle.apl_frames.proofs.Standing.{at_phrase}
-use Rattle.apl_machine.proofs.Steps.{all_vectors, goes_well, phrase_calls_none, phrase_goes, phrase_ready}
+use Rattle.apl_phrases.specs.Calling.{CallsByName}
+use Rattle.apl_phrases.specs.Frequent.{IsInPlace}
+use Rattle.apl_machine.proofs.Steps.{all_vectors, goes_well, phrase_comes_to_no, phrase_goes, phrase_ready}
 use Rattle.apl_machine.specs.Changes.{IsChange}
 use Rattle.apl_machine.specs.Worlds.{settings}
 use Rattle.apl_machine.proofs.change.change_of.Goals as goal
@@ -22,7 +24,8 @@ reduce-requires c =
     let goes = phrase_goes c.args.contexts.now line i does c.requires.phrase c.next-instr.ensures.next in
     let p = at_phrase line i c.next-instr.ensures.stands ready c.next-instr.ensures.next goes in
     record {
-      other = phrase_calls_none c.args.contexts.now line i does ready c.requires.other c.next-instr.ensures.next;
+      other = phrase_comes_to_no CallsByName c.args.contexts.now line i does ready c.requires.other c.next-instr.ensures.next;
+      apart = phrase_comes_to_no IsInPlace c.args.contexts.now line i does ready c.requires.apart c.next-instr.ensures.next;
       there = subst (λ n. AreThere n i.arguments (length c.operands.result.now)) (sym (ap length c.constants.ensures))
           (subst (λ n. AreThere (length line.bound.constants) i.arguments n) (sym (ap length c.operands.ensures)) p.there);
       placed = p.placed;

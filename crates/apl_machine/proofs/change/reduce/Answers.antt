@@ -5,7 +5,7 @@ use Rattle.apl_machine_state.specs.Outcomes.{Becomes}
 use Rattle.apl_operands.specs.Operands.{fetched}
 use Rattle.apl_contexts.specs.Contexts.{lines_in}
 use Rattle.apl_phrases.specs.Effects.{acted, seen}
-use Rattle.apl_phrases.proofs.Effects.{asks_it, ends_in, executes_it, fails_it, line_numbers_it}
+use Rattle.apl_phrases.proofs.Effects.{asks_it, ends_in, fails_it, line_numbers_it}
 use Rattle.apl_machine.proofs.change.reduce.Goals as goal
 
 pub last_operand-requires-clause-value : goal.last_operand-requires-clause-value
@@ -54,14 +54,3 @@ returns-in-Asks c =
     let asks = asks_it lines c.in_ok-operand.field-0 c.in-Asks.which c.in-Asks.name c.in-Asks.lines o ps c.in-Asks.is h in
     let beneath = rw c.as_slice-sources.ensures at c.left-left-in-Asks.ensures.left in
     λ ms. (c.left-left-in-Asks.ensures.within, beneath, asks.0, asks.1)
-
-pub returns-in-Executes : goal.returns-in-Executes
-returns-in-Executes c =
-    let i = c.args.instr.now in
-    let lines = lines_in c.args.contexts.now in
-    let ps = fetched c.args.operands.constants.now i.arguments (reverse c.args.operands.stack.now) in
-    let o = acted (seen c.args.scene lines) i.action ps in
-    let h = rw c.as_slice-sources.ensures at (c.in_ok-operand.ensures lines) in
-    let executes = executes_it lines c.in_ok-operand.field-0 c.in-Executes.text c.in-Executes.tokens o ps c.in-Executes.is h in
-    let beneath = rw c.as_slice-sources.ensures at c.left-left-in-Executes.ensures.left in
-    λ ms. (c.left-left-in-Executes.ensures.within, beneath, executes.0, executes.1, executes.2)

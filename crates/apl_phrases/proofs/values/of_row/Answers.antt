@@ -6,7 +6,7 @@ use Rattle.apl_machine_state.specs.Environment.{index_origin}
 use Rattle.apl_primitives.specs.Taken.{as_taken}
 use Rattle.apl_phrases.specs.Effects.{seen}
 use Rattle.apl_phrases.specs.inside.Origins.{IsOfNoOrigin}
-use Rattle.apl_phrases.proofs.effect.of_row.Goals as goal
+use Rattle.apl_phrases.proofs.values.of_row.Goals as goal
 
 pub returns : goal.returns
 returns c =
