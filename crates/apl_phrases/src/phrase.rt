@@ -227,9 +227,11 @@ fn perform_row(
         Row::Dyadic(Function::System(system)) => {
             dyadic(alloc, scene, *system, arguments(sources, operands))
         }
-        Row::Assign(variable) => assign(scene, variable, arguments(sources, operands)),
-        Row::AssignIndexed(variable) => {
-            assign_indexed(alloc, scene, variable, arguments(sources, operands))
+        Row::Assign(Variable::System(system)) => {
+            Ok(assign(scene, *system, arguments(sources, operands)))
+        }
+        Row::AssignIndexed(Variable::System(system)) => {
+            assign_indexed(alloc, scene, *system, arguments(sources, operands))
         }
         Row::Show => show(alloc, arguments(sources, operands)),
         _ => unreachable!(),
