@@ -2,5 +2,3 @@ pub mod Beginning
 pub mod Readings
 pub mod Slices
 pub mod Sources
-pub mod Indicated
-pub mod Suspended

@@ -47,7 +47,7 @@ pub enum Reading {
     Unset,
 }
 
-/// A name, and what is read under it.
+/// A global name, and what a statement that begins now reads under it.
 #[derive(Drop, Debug)]
 pub struct Named {
     pub name: Name,
@@ -55,7 +55,7 @@ pub struct Named {
 }
 
 /// What is read under a name that has this value, if it has one.
-pub(crate) fn value_reading(alloc: Global, value: Option<&Array>) -> Result<Reading, AllocError>
+fn value_reading(alloc: Global, value: Option<&Array>) -> Result<Reading, AllocError>
     ensures { IfOk result (λ r. r ≡ value_reading (option_copied value.entry)) }
 {
     let Some(array) = value else {

@@ -17,7 +17,6 @@ pub mod Readers
 pub mod Changed
 pub mod Typed
 pub mod Erased
-pub mod Callers
 pub mod Restored
 pub mod Held
 pub mod Few
@@ -26,6 +25,5 @@ pub mod Written
 pub mod Owned
 pub mod Silent
 pub mod ManySteps
-pub mod Counted
 pub mod Stretched
 pub mod FastSteps

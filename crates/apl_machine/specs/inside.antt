@@ -1,4 +1,3 @@
-pub mod Callers
 pub mod Leaving
 pub mod Locals
 pub mod Next

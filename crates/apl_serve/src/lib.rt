@@ -9,7 +9,6 @@ mod requests;
 mod serving;
 mod shown;
 mod sights;
-mod telling;
 
 pub use error::ServeError;
 pub use serving::serve;
