@@ -13,7 +13,7 @@ use std::alloc::{AllocError, Global};
 pub const STEPS: u64 = 1000;
 
 /// A call of a session.
-#[derive(Clone, Copy, Debug)]
+#[derive(Clone, Copy)]
 enum Call {
     /// The line that is due is typed.
     Line,
@@ -43,7 +43,7 @@ fn make(session: &mut Session, call: Call, line: &[u8]) -> Result<(), AllocError
 }
 
 /// A call that is due.
-#[derive(Clone, Copy, Debug)]
+#[derive(Clone, Copy)]
 enum Due {
     /// One of the session.
     Session(Call),
