@@ -66,20 +66,24 @@ def module_of(file: str) -> list[str]:
 
 
 def names_of(body: Body, file: str, known: Iterable[str]) -> set[str]:
-    """Returns those of the checker's names that a function's body may have."""
+    """Returns those of the checker's names that a function's body may have. The checker names a method by the module of its type, which needn't be
+    that of its impl."""
     modules = module_of(file)
+    whole = [name.split("::") for name in known]
+    named = [parts for parts in whole if parts[-1] == body.name]
+    here = [parts for parts in named if parts[: len(modules)] == modules and is_named(parts[len(modules) : -1], body)]
+    elsewhere = [parts for parts in named if body.type and is_named(parts[-2:-1], body)]
+    # a name that types of several modules share tells nothing
+    found = here or (elsewhere if len(elsewhere) == 1 else [])
+    return {"::".join(parts) for parts in found}
 
-    def fits(name: str) -> bool:
-        parts = name.split("::")
-        if parts[: len(modules)] != modules or parts[-1] != body.name:
-            return False
-        between = parts[len(modules) : -1]
-        if not body.type:
-            return not between
-        if len(between) != 1:
-            return False
-        if not body.trait:
-            return between[0] == body.type
-        return between[0] != body.type and between[0].startswith(body.type) and body.trait in between[0]
 
-    return {name for name in known if fits(name)}
+def is_named(between: list[str], body: Body) -> bool:
+    """Returns whether the checker has these words between the module and the name of a function with this body."""
+    if not body.type:
+        return not between
+    if len(between) != 1:
+        return False
+    if not body.trait:
+        return between[0] == body.type
+    return between[0] != body.type and between[0].startswith(body.type) and body.trait in between[0]

@@ -76,8 +76,8 @@ int main(void) {
 
     puts("-- a line that is too long, behind one that isn't");
     char lines[2010] = "N←2\nN\n";
-    size_t front = strlen(lines);
-    memset(lines + front, '1', sizeof lines - front - 1);
+    size_t length = strlen(lines);
+    memset(lines + length, '1', sizeof lines - length - 1);
     play(&workspace, lines);
 
     puts("-- the workspace");

@@ -130,7 +130,7 @@ class Page {
             typed: (line, number) => this.transcript.typed(line, number),
             wrote: wrote => {
                 this.transcript.wrote(wrote);
-                this.#heard.push(...parts(wrote.front + wrote.back, wrote.fault));
+                this.#heard.push(...parts(wrote.prefix + wrote.suffix, wrote.fault));
             },
             note: text => this.transcript.note(text),
             undone: (why, lines) => this.#undone(why, lines),

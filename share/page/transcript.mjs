@@ -49,13 +49,13 @@ export class Transcript {
         this.#add('typed', prompt(number) + line + '\n', line);
     }
 
-    /** What a line wrote: its front, how many characters are left out behind that, and the rest, with the number of the fault that it ended with. */
-    wrote({ front, cut, back, fault }) {
+    /** What a line wrote: its prefix, how many characters are left out behind that, and the rest, with the number of the fault that it ended with. */
+    wrote({ prefix, cut, suffix, fault }) {
         if (cut) {
-            this.#add('wrote', front);
+            this.#add('wrote', prefix);
             this.note(`\n${cut.toLocaleString('en')} characters are left out here.`);
         }
-        for (const it of parts(cut ? back : front, fault)) this.#add(it.isFault ? 'fault' : 'wrote', it.text);
+        for (const it of parts(cut ? suffix : prefix, fault)) this.#add(it.isFault ? 'fault' : 'wrote', it.text);
     }
 
     /** What the page says. */

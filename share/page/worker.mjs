@@ -7,29 +7,29 @@ import { functionName } from './text.mjs';
 const MOST_STEPS = 2000;        // of a slice: few enough that an interrupt is seen soon though each step be long
 const SLICE = 8;                // milliseconds that a slice of long steps should take
 const AT_ONCE = 40;             // milliseconds between two looks at what the page wants
-const FRONT = 100000, BACK = 30000;     // characters of what a line writes that are shown where it writes more
+const PREFIX = 100000, SUFFIX = 30000;     // characters of what a line writes that are shown where it writes more
 const QUICK = 20, SMALL = 1 << 20;      // milliseconds, or bytes, of a file that is made after each line; others are made in pauses
 
 /** What is written between two looks of the page, of which the middle is left out where it is too long. */
 export class Written {
-    #front = '';
-    #back = '';
+    #prefix = '';
+    #suffix = '';
     #cut = 0;
 
     add(text) {
-        const room = FRONT - this.#front.length;
-        this.#front += text.slice(0, Math.max(0, room));
-        this.#back += text.slice(Math.max(0, room));
-        if (this.#back.length > 2 * BACK) {
-            this.#cut += this.#back.length - BACK;
-            this.#back = this.#back.slice(-BACK);
+        const room = PREFIX - this.#prefix.length;
+        this.#prefix += text.slice(0, Math.max(0, room));
+        this.#suffix += text.slice(Math.max(0, room));
+        if (this.#suffix.length > 2 * SUFFIX) {
+            this.#cut += this.#suffix.length - SUFFIX;
+            this.#suffix = this.#suffix.slice(-SUFFIX);
         }
     }
 
-    /** What to show: the front, how many characters are left out behind it, and the rest. */
+    /** What to show: the prefix, how many characters are left out behind it, and the rest. */
     take() {
-        const found = this.#cut ? { front: this.#front, cut: this.#cut, back: this.#back } : { front: this.#front + this.#back, cut: 0, back: '' };
-        this.#front = this.#back = '';
+        const found = this.#cut ? { prefix: this.#prefix, cut: this.#cut, suffix: this.#suffix } : { prefix: this.#prefix + this.#suffix, cut: 0, suffix: '' };
+        this.#prefix = this.#suffix = '';
         this.#cut = 0;
         return found;
     }
@@ -129,7 +129,7 @@ export function work(port) {
         if (!machine.isIdle() && machine.interrupt() !== FINE) throw new Error('memory has run out');
         const fault = machine.fault(), gathered = collect(), wrote = written.take();
         tell('ended', { ...wrote, fault: gathered === FINE ? fault : 0, number: number || gathered, next: machine.nextLine() });
-        return { number: number || gathered, isRefused: wrote.front !== '' };
+        return { number: number || gathered, isRefused: wrote.prefix !== '' };
     }
 
     /** Types the lines that wait, of which an interrupt leaves those that were to follow. */
@@ -169,7 +169,7 @@ export function work(port) {
         else saveTimer ||= setTimeout(save, Math.min(5000, 20 * saveTook));
     }
 
-    /** Tells the names and the state indicator, or null where memory is refused. */
+    /** Tells the names and the state indicator, or null where memory runs out. */
     function look() {
         tell('state', { names: machine.names().text, levels: machine.levels().text });
     }

@@ -101,12 +101,12 @@ lines_long w x y z n e f g h =
     omega arith
 
 -- what is written into the room behind a list stands behind it
-pub written_behind : {A : Type 0} (old grown shown front filled : List A) (x : A) (count before len n : ℕ) → grown ≡ old ++ replicate count x → before ≡ length old → shown ≡ grown → front ≡ take before shown →
-    len ≡ length grown → count ≡ n * 4 → length filled ≡ n * 4 → take len ((front ++ filled) ++ drop (length (front ++ filled)) grown) ≡ old ++ filled
-written_behind {A = A} old grown shown front filled x count before len n g b e f l c m =
+pub written_behind : {A : Type 0} (old grown shown prefix filled : List A) (x : A) (count before len n : ℕ) → grown ≡ old ++ replicate count x → before ≡ length old → shown ≡ grown → prefix ≡ take before shown →
+    len ≡ length grown → count ≡ n * 4 → length filled ≡ n * 4 → take len ((prefix ++ filled) ++ drop (length (prefix ++ filled)) grown) ≡ old ++ filled
+written_behind {A = A} old grown shown prefix filled x count before len n g b e f l c m =
     let long : length grown ≡ length old + length (replicate count x) = ap length g ∙ length-append old (replicate count x) in
     let many : length (replicate count x) ≡ count = length-replicate count x in
-    let same : front ≡ old = f ∙ ap (take before) (e ∙ g) ∙ take_at old (replicate count x) before (sym b) in
+    let same : prefix ≡ old = f ∙ ap (take before) (e ∙ g) ∙ take_at old (replicate count x) before (sym b) in
     let whole : length (old ++ filled) ≡ length old + length filled = length-append old filled in
     ap (λ (y : List A). take len ((y ++ filled) ++ drop (length (y ++ filled)) grown)) same
     ∙ ap (λ (y : List A). take len ((old ++ filled) ++ y)) (drop_all (length (old ++ filled)) grown (omega arith))

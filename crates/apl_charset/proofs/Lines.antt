@@ -7,8 +7,8 @@ use Rattle.std.proofs.lemmas.Str.{encodes-append}
 use Rattle.apl_charset.specs.Set.{is_member}
 use Rattle.apl_charset.specs.Text.{IsText, bytes}
 
-pub one_more : (line front rest after : List ℕ) (c : ℕ) → line ≡ bytes front ++ rest → rest ≡ encode_utf8 c ++ after → line ≡ bytes (front ++ c ∷ []) ++ after
-one_more line front rest after c e f = e ∙ rw (f, encodes-append front (c ∷ [])) (simp (append_assoc, append-nil))
+pub one_more : (line prefix rest after : List ℕ) (c : ℕ) → line ≡ bytes prefix ++ rest → rest ≡ encode_utf8 c ++ after → line ≡ bytes (prefix ++ c ∷ []) ++ after
+one_more line prefix rest after c e f = e ∙ rw (f, encodes-append prefix (c ∷ [])) (simp (append_assoc, append-nil))
 
-pub IsText-push : (front : List ℕ) (c : ℕ) → IsText front → is_member c ≡ true → IsText (front ++ c ∷ [])
-IsText-push front c h m = rw (list_all-append is_member front (c ∷ []), h, m) refl
+pub IsText-push : (prefix : List ℕ) (c : ℕ) → IsText prefix → is_member c ≡ true → IsText (prefix ++ c ∷ [])
+IsText-push prefix c h m = rw (list_all-append is_member prefix (c ∷ []), h, m) refl

@@ -43,16 +43,3 @@ symbol_stands k c h e =
     let same : member_at (95 + k) ≡ slice_index_or symbols k 0 = eqb-true _ _ (agree_below_at (λ q. eqb (member_at (95 + q)) (slice_index_or symbols q 0)) (λ q. true) 36 k refl h) in
     let in_set : is_member (slice_index_or symbols k 0) ≡ true = agree_below_at (λ q. is_member (slice_index_or symbols q 0)) (λ q. true) 36 k refl h in
     (same ∙ e, rw (sym e) in_set)
-
-none_of_suc : (xs : List ℕ) (k c : ℕ) → k < length xs → list_any (λ s. s == c) (take k xs) ≡ false → (slice_index_or xs k 0 == c) ≡ false → list_any (λ s. s == c) (take (suc k) xs) ≡ false
-none_of_suc [] k c h none other = refl
-none_of_suc (x ∷ xs) zero c h none other = or_from _ _ other refl
-none_of_suc (x ∷ xs) (suc k) c h none other =
-    let p = or_parts (x == c) _ none in
-    or_from _ _ p.0 (none_of_suc xs k c (omega (arith, h)) p.1 other)
-
--- of one element more, none is it either
-pub none_of_more : (xs : List ℕ) (k c : ℕ) → k < length xs → list_any (λ s. s == c) (take k xs) ≡ false → (slice_index_or xs k 0 == c) ≡ false → list_any (λ s. s == c) (take (k + 1) xs) ≡ false
-none_of_more xs k c h none other =
-    let next : suc k ≡ k + 1 = omega arith in
-    subst (λ n. list_any (λ s. s == c) (take n xs) ≡ false) next (none_of_suc xs k c h none other)

@@ -34,13 +34,13 @@ abbrev pub Same : (a b r s : List ℕ) → Type 0
 Same a b r s = (a ≡ b) × (r ≡ s)
 
 -- of two texts that bytes begin with, neither going on, one is the other
-pub same_front : (a b r s : List ℕ) → IsText a → IsText b → Stops r → Stops s → bytes a ++ r ≡ bytes b ++ s → Same a b r s
-same_front [] [] r s ha hb hr hs e = (refl, e)
-same_front [] (d ∷ b) r s ha hb hr hs e = absurd (hr d (bytes b ++ s) (and_left _ _ hb) (e ∙ append_assoc (encode_utf8 d) (bytes b) s))
-same_front (c ∷ a) [] r s ha hb hr hs e = absurd (hs c (bytes a ++ r) (and_left _ _ ha) (sym e ∙ append_assoc (encode_utf8 c) (bytes a) r))
-same_front (c ∷ a) (d ∷ b) r s ha hb hr hs e =
+pub same_prefix : (a b r s : List ℕ) → IsText a → IsText b → Stops r → Stops s → bytes a ++ r ≡ bytes b ++ s → Same a b r s
+same_prefix [] [] r s ha hb hr hs e = (refl, e)
+same_prefix [] (d ∷ b) r s ha hb hr hs e = absurd (hr d (bytes b ++ s) (and_left _ _ hb) (e ∙ append_assoc (encode_utf8 d) (bytes b) s))
+same_prefix (c ∷ a) [] r s ha hb hr hs e = absurd (hs c (bytes a ++ r) (and_left _ _ ha) (sym e ∙ append_assoc (encode_utf8 c) (bytes a) r))
+same_prefix (c ∷ a) (d ∷ b) r s ha hb hr hs e =
     let head : (c ≡ d) × (bytes a ++ r ≡ bytes b ++ s) = encode_same c d (bytes a ++ r) (bytes b ++ s) (sym (append_assoc (encode_utf8 c) (bytes a) r) ∙ e ∙ append_assoc (encode_utf8 d) (bytes b) s) in
-    let tail : Same a b r s = same_front a b r s (and_right _ _ ha) (and_right _ _ hb) hr hs head.1 in
+    let tail : Same a b r s = same_prefix a b r s (and_right _ _ ha) (and_right _ _ hb) hr hs head.1 in
     let all : c ∷ a ≡ d ∷ b = cc (head.0, tail.0) in
     (all, tail.1)
 
@@ -48,12 +48,12 @@ whole : (line a : List ℕ) → IsLine line a → bytes a ++ [] ≡ line
 whole line a h = append-nil (bytes a) ∙ h.spelled
 
 pub one_text : (line a b : List ℕ) → IsLine line a → IsLine line b → a ≡ b
-one_text line a b p q = (same_front a b [] [] p.in_set q.in_set Stops-end Stops-end (whole line a p ∙ sym (whole line b q))).0
+one_text line a b p q = (same_prefix a b [] [] p.in_set q.in_set Stops-end Stops-end (whole line a p ∙ sym (whole line b q))).0
 
 never_empty : (Begins : List ℕ → Type 0) (line a : List ℕ) (at : ℕ) → ((rest : List ℕ) → Begins rest → Stops rest × (rest ≢ [])) → IsLine line a → FaultAt line at Begins → ⊥
 never_empty Begins line a at stops p f =
     let s = stops f.rest f.begins in
-    s.1 (sym (same_front a f.front [] f.rest p.in_set f.in_set Stops-end s.0 (whole line a p ∙ f.parts)).1)
+    s.1 (sym (same_prefix a f.prefix [] f.rest p.in_set f.in_set Stops-end s.0 (whole line a p ∙ f.parts)).1)
 
 badly_stops : (rest : List ℕ) → BeginsBadly rest → Stops rest × (rest ≢ [])
 badly_stops rest b = (Stops-badly rest b, b.0)
@@ -69,7 +69,7 @@ text_or_fault line a Memory p f = refl
 -- two faults stand at one place, with the same bytes after it
 same_place : (B C : List ℕ → Type 0) (line : List ℕ) (m n : ℕ) → ((rest : List ℕ) → B rest → Stops rest × (rest ≢ [])) → ((rest : List ℕ) → C rest → Stops rest × (rest ≢ [])) → (f : FaultAt line m B) (g : FaultAt line n C) → (m ≡ n) × C f.rest
 same_place B C line m n b c f g =
-    let same = same_front f.front g.front f.rest g.rest f.in_set g.in_set (b f.rest f.begins).0 (c g.rest g.begins).0 (sym f.parts ∙ g.parts) in
+    let same = same_prefix f.prefix g.prefix f.rest g.rest f.in_set g.in_set (b f.rest f.begins).0 (c g.rest g.begins).0 (sym f.parts ∙ g.parts) in
     (sym f.before ∙ ap (λ (t : List ℕ). length (bytes t)) same.0 ∙ g.before, subst C (sym same.1) g.begins)
 
 badly_and_outside : (rest : List ℕ) → BeginsBadly rest → BeginsOutside rest → ⊥
@@ -84,7 +84,7 @@ one_fault line (NotInSet m) (NotInSet n) f g nd ne = ap (λ (k : ℕ). NotInSet 
 one_fault line (NotUtf8 m) (NotInSet n) f g nd ne = absurd (badly_and_outside f.rest f.begins (same_place BeginsBadly BeginsOutside line m n badly_stops outside_stops f g).1)
 one_fault line (NotInSet m) (NotUtf8 n) f g nd ne = absurd (badly_and_outside f.rest (same_place BeginsOutside BeginsBadly line m n outside_stops badly_stops f g).1 f.begins)
 
--- after the longest front that is UTF-8 no character begins
+-- after the longest prefix that is UTF-8 no character begins
 pub begins_badly : (line : List ℕ) (n : ℕ) → IsValidUpTo line n → BeginsBadly (drop n line)
 begins_badly line n v = (
   λ e. omega (arith, ap length e, length-drop n line, v.short),
@@ -95,13 +95,13 @@ begins_badly line n v = (
       v.longest (n + k) (omega (arith, length-encode c, (len_utf8_bounds c).0)) (rw longer (IsUtf8-append _ _ v.front (IsUtf8-encode c scalar))),
 )
 
--- a character outside the set that a front of the line has, the line has
+-- a character outside the set that a prefix of the line has, the line has
 longer : (line : List ℕ) (n at : ℕ) → FaultAt (take n line) at BeginsOutside → FaultAt line at BeginsOutside
 longer line n at f = record {
-  front = f.front;
+  prefix = f.prefix;
   rest = f.rest ++ drop n line;
   in_set = f.in_set;
-  parts = sym (take-append-drop n line) ∙ rw f.parts (append_assoc (bytes f.front) f.rest (drop n line));
+  parts = sym (take-append-drop n line) ∙ rw f.parts (append_assoc (bytes f.prefix) f.rest (drop n line));
   before = f.before;
   begins = (f.begins.0, f.begins.1 ++ drop n line, f.begins.2, f.begins.3, rw f.begins.4 (append_assoc (encode_utf8 f.begins.0) f.begins.1 (drop n line)));
 }
@@ -113,7 +113,7 @@ front_fault line n Memory h = tt
 
 pub ends_badly : (line text : List ℕ) (n : ℕ) → IsValidUpTo line n → IsLine (take n line) text → FaultAt line n BeginsBadly
 ends_badly line text n v t = record {
-  front = text;
+  prefix = text;
   rest = drop n line;
   in_set = t.in_set;
   parts = sym (take-append-drop n line) ∙ ap (λ (x : List ℕ). x ++ drop n line) (sym t.spelled);

@@ -52,12 +52,46 @@ fn symbol_place(c: char) -> Option<u8>
     ensures some { IfSome result (λ k. (k < 36) × (slice_index_or symbols k 0 ≡ c)) }
     ensures none { IfNone result (list_any (λ s. s == c) symbols ≡ false) }
 {
-    for place in 0..SYMBOLS.len() {
-        if SYMBOLS[place] == c {
-            return Some(place as u8);
-        }
-    }
-    None
+    let place = match c {
+        '¯' => 0,
+        '×' => 1,
+        '÷' => 2,
+        '←' => 3,
+        '↑' => 4,
+        '→' => 5,
+        '↓' => 6,
+        '∆' => 7,
+        '∇' => 8,
+        '∊' => 9,
+        '∘' => 10,
+        '∧' => 11,
+        '∨' => 12,
+        '≠' => 13,
+        '≤' => 14,
+        '≥' => 15,
+        '⊖' => 16,
+        '⊤' => 17,
+        '⊥' => 18,
+        '⌈' => 19,
+        '⌊' => 20,
+        '⌽' => 21,
+        '⌿' => 22,
+        '⍀' => 23,
+        '⍉' => 24,
+        '⍋' => 25,
+        '⍎' => 26,
+        '⍒' => 27,
+        '⍕' => 28,
+        '⍙' => 29,
+        '⍝' => 30,
+        '⍱' => 31,
+        '⍲' => 32,
+        '⍳' => 33,
+        '⍴' => 34,
+        '⎕' => 35,
+        _ => return None,
+    };
+    Some(place)
 }
 
 impl Ch {

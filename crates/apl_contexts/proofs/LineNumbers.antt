@@ -10,13 +10,13 @@ lines_first (Statement s) cs = refl
 lines_first (Call c) cs = refl
 lines_first (Execute s) cs = refl
 
-pub lines_last : (front : List Context) (c : Context) → lines_in (reverse (front ++ c ∷ [])) ≡ lines_in (c ∷ []) ++ lines_in (reverse front)
-lines_last front c = ap lines_in (reverse-append front (c ∷ [])) ∙ lines_first c (reverse front)
+pub lines_last : (prefix : List Context) (c : Context) → lines_in (reverse (prefix ++ c ∷ [])) ≡ lines_in (c ∷ []) ++ lines_in (reverse prefix)
+lines_last prefix c = ap lines_in (reverse-append prefix (c ∷ [])) ∙ lines_first c (reverse prefix)
 
 pub levels_first : (c : Context) (cs : List Context) → levels_in (c ∷ cs) ≡ levels_in (c ∷ []) ++ levels_in cs
 levels_first (Statement s) cs = refl
 levels_first (Call c) cs = refl
 levels_first (Execute s) cs = refl
 
-pub levels_last : (front : List Context) (c : Context) → levels_in (reverse (front ++ c ∷ [])) ≡ levels_in (c ∷ []) ++ levels_in (reverse front)
-levels_last front c = ap levels_in (reverse-append front (c ∷ [])) ∙ levels_first c (reverse front)
+pub levels_last : (prefix : List Context) (c : Context) → levels_in (reverse (prefix ++ c ∷ [])) ≡ levels_in (c ∷ []) ++ levels_in (reverse prefix)
+levels_last prefix c = ap levels_in (reverse-append prefix (c ∷ [])) ∙ levels_first c (reverse prefix)

@@ -18,6 +18,6 @@ mod typed;
 pub use context::{Call, Context, Statement};
 pub use contexts::Contexts;
 pub use fast::{FallBack, Path};
-pub use lines::{Lines, TextLine, bound_text_line, function_line, text_line};
+pub use lines::{Lines, TextLine, function_line, text_line};
 pub use moves::Move;
 pub use stack::Stack;

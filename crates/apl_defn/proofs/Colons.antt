@@ -19,7 +19,7 @@ use Rattle.apl_defn.specs.Defining.{label_in, label_among}
 abbrev has_colon : Text → Bool
 has_colon = list_any (λ c. c == 58)
 
--- what has no colon has none behind or in front
+-- what has no colon has none behind or in prefix
 or_right : (a b : Bool) → (a || b) ≡ false → b ≡ false
 or_right true b h = absurd cc
 or_right false b h = h
@@ -28,13 +28,13 @@ or_left : (a b : Bool) → (a || b) ≡ false → a ≡ false
 or_left true b h = absurd cc
 or_left false b h = refl
 
-none_behind : (front back : Text) → has_colon (front ++ back) ≡ false → has_colon back ≡ false
+none_behind : (prefix back : Text) → has_colon (prefix ++ back) ≡ false → has_colon back ≡ false
 none_behind [] back h = h
-none_behind (c ∷ front) back h = none_behind front back (or_right (c == 58) _ h)
+none_behind (c ∷ prefix) back h = none_behind prefix back (or_right (c == 58) _ h)
 
-none_before : (front back : Text) → has_colon (front ++ back) ≡ false → has_colon front ≡ false
+none_before : (prefix back : Text) → has_colon (prefix ++ back) ≡ false → has_colon prefix ≡ false
 none_before [] back h = refl
-none_before (c ∷ front) back h = rw (or_left (c == 58) _ h) (none_before front back (or_right (c == 58) _ h))
+none_before (c ∷ prefix) back h = rw (or_left (c == 58) _ h) (none_before prefix back (or_right (c == 58) _ h))
 
 -- no token is a colon
 abbrev NoColons : List Token → Type 0

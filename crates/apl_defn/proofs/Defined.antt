@@ -31,22 +31,22 @@ lines_whole laws n (l ∷ ls) h = ap (λ a. fault_or a n (first_fault (suc n) ls
 
 -- the first fault behind k lines
 record FaultyFrom (k n : ℕ) (lines : List Text) : Type 0 where
-  pub front : List Text
+  pub prefix : List Text
   pub line : Text
   pub after : List Text
-  pub lines_are : lines ≡ front ++ line ∷ after
-  pub number : suc (k + length front) ≡ n
-  pub whole : AllByRecursion HasTokens front
+  pub lines_are : lines ≡ prefix ++ line ∷ after
+  pub number : suc (k + length prefix) ≡ n
+  pub whole : AllByRecursion HasTokens prefix
   pub faulty : HasTokens line → ⊥
 
 faulty_case : TokenLaws → (k n : ℕ) (l : Text) (ls : List Text) (a : Answer) → tokens_of l ≡ a → fault_or a (suc k) (first_fault (suc (suc k)) ls) ≡ Some n → (first_fault (suc (suc k)) ls ≡ Some n → FaultyFrom (suc k) n ls) → FaultyFrom k n (l ∷ ls)
 faulty_case laws k n l ls (Ok ts) a e later =
     let f = later e in
-    let number : suc (suc k + length f.front) ≡ n = f.number in
-    record { front = l ∷ f.front; line = f.line; after = f.after; lines_are = ap (λ xs. l ∷ xs) f.lines_are; number = omega arith; whole = ((ts, laws.spells l ts a), f.whole); faulty = f.faulty }
+    let number : suc (suc k + length f.prefix) ≡ n = f.number in
+    record { prefix = l ∷ f.prefix; line = f.line; after = f.after; lines_are = ap (λ xs. l ∷ xs) f.lines_are; number = omega arith; whole = ((ts, laws.spells l ts a), f.whole); faulty = f.faulty }
 faulty_case laws k n l ls (Err x) a e later =
     let m : suc k ≡ n = cc in
-    record { front = []; line = l; after = ls; lines_are = refl; number = omega arith; whole = tt; faulty = λ t. let s = laws.spelled l t.0 t.1 in cc }
+    record { prefix = []; line = l; after = ls; lines_are = refl; number = omega arith; whole = tt; faulty = λ t. let s = laws.spelled l t.0 t.1 in cc }
 
 faulty_from : TokenLaws → (k n : ℕ) (lines : List Text) → first_fault (suc k) lines ≡ Some n → FaultyFrom k n lines
 faulty_from laws k n [] e = cc
@@ -55,27 +55,27 @@ faulty_from laws k n (l ∷ ls) e = faulty_case laws k n l ls (tokens_of l) refl
 faulty_at : TokenLaws → (n : ℕ) (lines : List Text) → first_fault 1 lines ≡ Some n → FaultyAt n lines
 faulty_at laws n lines e =
     let f = faulty_from laws 0 n lines e in
-    let number : suc (0 + length f.front) ≡ n = f.number in
-    record { front = f.front; line = f.line; after = f.after; lines_are = f.lines_are; number = omega arith; whole = f.whole; faulty = f.faulty }
+    let number : suc (0 + length f.prefix) ≡ n = f.number in
+    record { prefix = f.prefix; line = f.line; after = f.after; lines_are = f.lines_are; number = omega arith; whole = f.whole; faulty = f.faulty }
 
 found_case : TokenLaws → (k : ℕ) (line : Text) (after : List Text) (a : Answer) → tokens_of line ≡ a → (HasTokens line → ⊥) → fault_or a (suc k) (first_fault (suc (suc k)) after) ≡ Some (suc k)
 found_case laws k line after (Ok ts) a faulty = absurd (faulty (ts, laws.spells line ts a))
 found_case laws k line after (Err x) a faulty = refl
 
-fault_found : TokenLaws → (k : ℕ) (front : List Text) (line : Text) (after : List Text) → AllByRecursion HasTokens front → (HasTokens line → ⊥) → first_fault (suc k) (front ++ line ∷ after) ≡ Some (suc (k + length front))
+fault_found : TokenLaws → (k : ℕ) (prefix : List Text) (line : Text) (after : List Text) → AllByRecursion HasTokens prefix → (HasTokens line → ⊥) → first_fault (suc k) (prefix ++ line ∷ after) ≡ Some (suc (k + length prefix))
 fault_found laws k [] line after whole faulty =
     let e : suc k ≡ suc (k + 0) = omega arith in
     found_case laws k line after (tokens_of line) refl faulty ∙ ap Some e
-fault_found laws k (l ∷ front) line after whole faulty =
-    let e : suc (suc k + length front) ≡ suc (k + suc (length front)) = omega arith in
-    ap (λ a. fault_or a (suc k) (first_fault (suc (suc k)) (front ++ line ∷ after))) (laws.spelled l whole.0.0 whole.0.1) ∙ fault_found laws (suc k) front line after whole.1 faulty ∙ ap Some e
+fault_found laws k (l ∷ prefix) line after whole faulty =
+    let e : suc (suc k + length prefix) ≡ suc (k + suc (length prefix)) = omega arith in
+    ap (λ a. fault_or a (suc k) (first_fault (suc (suc k)) (prefix ++ line ∷ after))) (laws.spelled l whole.0.0 whole.0.1) ∙ fault_found laws (suc k) prefix line after whole.1 faulty ∙ ap Some e
 
 found_at : TokenLaws → (n : ℕ) (lines : List Text) → FaultyAt n lines → first_fault 1 lines ≡ Some n
 found_at laws n lines f =
-    let e : suc (0 + length f.front) ≡ suc (length f.front) = omega arith in
-    ap (first_fault 1) f.lines_are ∙ fault_found laws 0 f.front f.line f.after f.whole f.faulty ∙ ap Some (e ∙ f.number)
+    let e : suc (0 + length f.prefix) ≡ suc (length f.prefix) = omega arith in
+    ap (first_fault 1) f.lines_are ∙ fault_found laws 0 f.prefix f.line f.after f.whole f.faulty ∙ ap Some (e ∙ f.number)
 
--- a header in front
+-- a header in prefix
 headed : TokenLaws → (first : Text) (rest : List Text) (h : Header) → head_of first ≡ Some h → Headed (first ∷ rest) h rest
 headed laws first rest h e = record { first = first; lines_are = refl; header = head_heads laws first h e }
 
@@ -118,7 +118,7 @@ long_case laws lines h rest true e head b r =
     subst (λ (x : DefnError). IsRefused x lines) same (record { h = h; rest = rest; headed = head; many = more 999 (length rest) b })
 long_case laws lines h rest false e head b r = fault_case laws lines h rest (first_fault 1 rest) e head (not_more 999 (length rest) b) refl r
 
--- no header in front
+-- no header in prefix
 unheaded : TokenLaws → (first : Text) (rest : List Text) → head_of first ≡ None → (h : Header) (r : List Text) → Headed (first ∷ rest) h r → ⊥
 unheaded laws first rest none h r p =
     let same : first ≡ p.first = let e = p.lines_are in cc in

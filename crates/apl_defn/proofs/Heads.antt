@@ -119,8 +119,8 @@ locals_case k j ks true (Some w) (Some vs) ws is_b is_o is_os e named later =
     let q = local_is j w is_o named in
     let r = later vs is_os in
     let s : w ∷ vs ≡ ws = cc in
-    let front : k ∷ j ∷ ks ≡ Symbol Semicolon ∷ local_kind w ∷ locals_kinds vs = cc in
-    front ∙ ap locals_kinds s
+    let prefix : k ∷ j ∷ ks ≡ Symbol Semicolon ∷ local_kind w ∷ locals_kinds vs = cc in
+    prefix ∙ ap locals_kinds s
 locals_case k j ks b o os ws is_b is_o is_os e named later = cc
 
 locals_are : (ks : List Kind) (ws : List Text) → AreNamed ks → locals_of ks ≡ Some ws → ks ≡ locals_kinds ws
@@ -128,9 +128,9 @@ locals_are [] ws named e = let p : [] ≡ ws = cc in ap locals_kinds p
 locals_are (k ∷ []) ws named e = cc
 locals_are (k ∷ j ∷ ks) ws named e = locals_case k j ks (is_semicolon k) (local_in j) (locals_of ks) ws refl refl refl e named.1.0 (λ vs h. locals_are ks vs named.1.1 h)
 
-named_behind : (front ks : List Kind) → AreNamed (front ++ ks) → AreNamed ks
+named_behind : (prefix ks : List Kind) → AreNamed (prefix ++ ks) → AreNamed ks
 named_behind [] ks h = h
-named_behind (k ∷ front) ks h = named_behind front ks h.1
+named_behind (k ∷ prefix) ks h = named_behind prefix ks h.1
 
 -- the kinds are the header's
 pub record Writes (ks : List Kind) (h : Header) : Type 0 where

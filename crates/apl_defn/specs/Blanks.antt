@@ -1,7 +1,7 @@
 -- Blanks round a text.
 use Rattle.std.specs.Prelude.{ℕ, ◌==◌, List, [], ◌∷◌, reverse, if◌then◌else◌}
 
--- without the blanks in front
+-- without the leading blanks
 abbrev pub without_front : List ℕ → List ℕ
 without_front [] = []
 without_front (c ∷ text) = if c == 32 then without_front text else c ∷ text

@@ -30,12 +30,12 @@ pub record Defines (lines : List Text) (d : Definition) : Type 0 where
 
 -- the line of that number is the first without tokens
 pub record FaultyAt (n : ℕ) (lines : List Text) : Type 0 where
-  pub front : List Text
+  pub prefix : List Text
   pub line : Text
   pub after : List Text
-  pub lines_are : lines ≡ front ++ line ∷ after
-  pub number : suc (length front) ≡ n
-  pub whole : AllByRecursion HasTokens front
+  pub lines_are : lines ≡ prefix ++ line ∷ after
+  pub number : suc (length prefix) ≡ n
+  pub whole : AllByRecursion HasTokens prefix
   pub faulty : HasTokens line → ⊥
 
 -- a header with too many lines behind it

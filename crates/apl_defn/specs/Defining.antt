@@ -25,7 +25,7 @@ FaultIs (error.Line n) fault = fault ≡ Some n
 FaultIs error.Memory fault = Unit {0}
 FaultIs e fault = ⊥
 
--- the label of tokens: a name in front, with a colon behind it
+-- the label of tokens: a name first, with a colon behind it
 abbrev pub label_in : List Token → Option Text
 label_in (t ∷ u ∷ ts) = if is_colon u.kind then name_in t.kind else None
 label_in ts = None

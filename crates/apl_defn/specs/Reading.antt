@@ -79,7 +79,7 @@ abbrev pub after_one : Text → List Kind → Form × List Kind
 after_one f [] = (niladic f, [])
 after_one f (k ∷ ks) = behind_one f (name_in k) ks (k ∷ ks)
 
--- the names in front, three at most, as a function with its arguments, and what stands behind them
+-- the leading names, three at most, as a function with its arguments, and what stands behind them
 unfoldable pub form_at : List Kind → Option (Form × List Kind)
 form_at [] = None
 form_at (k ∷ ks) = option_map (λ f. after_one f ks) (name_in k)

@@ -4,7 +4,7 @@ ghost use Rattle.apl_defn.specs.Blanks.{trimmed, without_front};
 
 use apl_charset::Ch;
 
-/// The text without the blanks in front.
+/// The text without its leading blanks.
 fn without_front(text: &[Ch]) -> &[Ch]
     ensures { result.now ≡ without_front text.now }
 {
@@ -23,11 +23,11 @@ fn without_back(text: &[Ch]) -> &[Ch]
     ensures { result.now ≡ reverse (without_front (reverse text.now)) }
 {
     let mut rest = text;
-    while let Some((last, front)) = rest.split_last() {
+    while let Some((last, prefix)) = rest.split_last() {
         if *last != Ch::default() {
             break;
         }
-        rest = front;
+        rest = prefix;
     }
     rest
 }

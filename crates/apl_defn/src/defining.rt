@@ -19,7 +19,7 @@ use std::alloc::{AllocError, Global};
 /// The most lines that a function has.
 const MOST_LINES: usize = 999;
 
-/// The label of tokens: the name in front, where a colon stands behind it.
+/// The label of tokens: the name that they begin with, where a colon stands behind it.
 pub fn label_in(tokens: &[Token]) -> Option<Name>
     ensures { result ≡ label_in tokens.now }
 {

@@ -117,7 +117,7 @@ fn after_one<'a>(first: &Name, tokens: &'a [Token]) -> (Form, &'a [Token])
     }
 }
 
-/// The names in front, three at most, and the tokens behind them.
+/// The leading names, three at most, and the tokens behind them.
 #[tactic(auto, unfolding(crate::specs::Reading::form_at))]
 fn form_at(tokens: &[Token]) -> Option<(Form, &[Token])>
     ensures { MatchOption result (form_at (kinds tokens.now) ≡ None) (λ f. form_at (kinds tokens.now) ≡ Some (f.0, kinds f.1.now)) }

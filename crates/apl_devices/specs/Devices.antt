@@ -9,13 +9,13 @@ TakesFirst old (Err e) new = new ≡ old
 
 -- all of a text but a rest was written behind the old bytes
 pub record Wrote (old new text rest : List ℕ) : Type 0 where
-  pub front : List ℕ
-  pub spelled : text ≡ front ++ rest
-  pub added : new ≡ old ++ front
+  pub prefix : List ℕ
+  pub spelled : text ≡ prefix ++ rest
+  pub added : new ≡ old ++ prefix
 
 -- a prefix of a text was written behind the old bytes
 pub record Extends (old new text : List ℕ) : Type 0 where
-  pub front : List ℕ
+  pub prefix : List ℕ
   pub rest : List ℕ
-  pub spelled : text ≡ front ++ rest
-  pub added : new ≡ old ++ front
+  pub spelled : text ≡ prefix ++ rest
+  pub added : new ≡ old ++ prefix

@@ -20,7 +20,7 @@ pub trait Source {
     /// Whether it has failed.
     ghost failed: { Self → Bool };
 
-    /// Reads some bytes to the front of the buffer, and counts them. None into a buffer with room
+    /// Reads some bytes to the start of the buffer, and counts them. None into a buffer with room
     /// is the end.
     fn read(&mut self, buffer: &mut [u8]) -> Result<usize, Failed>
         ensures within { IfOk result (λ n. n ≤ length buffer.new) }

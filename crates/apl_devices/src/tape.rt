@@ -5,7 +5,7 @@ ghost use Rattle.apl_devices.specs.Tapes as model;
 use crate::devices::{Failed, Sink, Source};
 use std::marker::Model;
 
-/// Bytes in memory, which are read from their front or written at their end. It can be set to fail
+/// Bytes in memory, which are read from their start or written at their end. It can be set to fail
 /// at a call, and to move few bytes a call.
 #[derive(Drop, Debug)]
 pub struct Tape {
@@ -115,8 +115,8 @@ impl Source for Tape {
         let (_, left) = self.bytes.as_slice().split_at(self.read);
         let count = left.len().min(buffer.len()).min(self.most.max(1));
         let (moved, _) = left.split_at(count);
-        let (front, _) = buffer.split_at_mut(count);
-        front.copy_from_slice(moved);
+        let (prefix, _) = buffer.split_at_mut(count);
+        prefix.copy_from_slice(moved);
         self.read += count;
         Ok(count)
     }

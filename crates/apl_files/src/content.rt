@@ -19,8 +19,8 @@ fn feed<R: Read>(reader: &mut R, hasher: &mut Sha256) -> io::Result<usize>
 {
     let mut block = [0u8; BLOCK];
     let count = reader.read(&mut block)?;
-    let (front, _) = block.split_at(count);
-    hasher.update(front);
+    let (prefix, _) = block.split_at(count);
+    hasher.update(prefix);
     Ok(count)
 }
 

@@ -57,14 +57,14 @@ lines_text count n (m ∷ s) c zs =
 outer_at : (s : List ℕ) (c : ℕ) → outer_of (s ++ c ∷ []) ≡ s
 outer_at s c =
     let one : length (s ++ c ∷ []) ≡ length s + 1 = length-append s (c ∷ []) in
-    let front : length (s ++ c ∷ []) - 1 ≡ length s = omega arith in
-    rw (front) (take-append-le (length s) s (c ∷ []) (omega arith) ∙ take_all (length s) s (omega arith))
+    let prefix : length (s ++ c ∷ []) - 1 ≡ length s = omega arith in
+    rw (prefix) (take-append-le (length s) s (c ∷ []) (omega arith) ∙ take_all (length s) s (omega arith))
 
 columns_at : (s : List ℕ) (c : ℕ) → columns_of (s ++ c ∷ []) ≡ c
 columns_at s c =
     let one : length (s ++ c ∷ []) ≡ length s + 1 = length-append s (c ∷ []) in
-    let front : length (s ++ c ∷ []) - 1 ≡ length s = omega arith in
-    rw (front) (get_or_at s c [] 0 (length s) refl)
+    let prefix : length (s ++ c ∷ []) - 1 ≡ length s = omega arith in
+    rw (prefix) (get_or_at s c [] 0 (length s) refl)
 
 -- the width of rows of two and more axes
 abbrev wide : List ℕ → ℕ → Items → ℕ

@@ -1,6 +1,6 @@
 -- Which state a session begins with, and that a machine comes to it and to all after it.
-use Rattle.std.proofs.Common.{◌≡◌, ℕ, ◌<◌, List, [], ◌∷◌, None, sym, subst}
-use Rattle.std.specs.Prelude.{Result, Ok, Err, OnErr, OnOk}
+use Rattle.std.proofs.Common.{◌≡◌, ℕ, List, [], ◌∷◌, None, sym, subst}
+use Rattle.std.specs.Prelude.{Result, Ok, Err, IfErr, OnErr, OnOk}
 use Rattle.apl_machine_state.specs.State.{State, interrupt, steps}
 use Rattle.apl_session.specs.Defining.{closed}
 use Rattle.apl_session.specs.Events.{Line, Steps, Interrupt, typed}
@@ -40,10 +40,9 @@ fed r s t line ok err h = either r s t (typed s line) ok err h (typed-reached s 
 pub stopped : {A E : Type 0} (r : Result A E) (s t : State) → OnOk r (t ≡ interrupt s) → OnErr r (t ≡ s) → IsReached s → IsReached t
 stopped r s t ok err h = either r s t (interrupt s) ok err h (interrupt-reached s h)
 
-pub advanced : {A E : Type 0} (r : Result A E) (s t : State) (count : ℕ) → OnOk r (t ≡ steps count s) → OnErr r ((done : ℕ) × (done < count) × (t ≡ steps done s)) → IsReached s
-    → IsReached t
-advanced (Ok x) s t count ok err h = subst IsReached (sym ok) (steps-reached s count h)
-advanced (Err e) s t count ok err h = subst IsReached (sym err.2) (steps-reached s err.0 h)
+pub made : {A : Type 0} (r : Result A ℕ) (s t : State) (count : ℕ) → OnOk r (t ≡ steps count s) → IfErr r (λ done. t ≡ steps done s) → IsReached s → IsReached t
+made (Ok x) s t count ok err h = subst IsReached (sym ok) (steps-reached s count h)
+made (Err done) s t count ok err h = subst IsReached (sym err) (steps-reached s done h)
 
 pub taken : (s t : State) → t ≡ record s { output = [] } → IsReached s → IsReached t
 taken s t e h = subst IsReached (sym e) (output_taken s h)

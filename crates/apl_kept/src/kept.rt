@@ -2,6 +2,7 @@
 ghost use Rattle.std.specs.Prelude.{◌≡◌, ◌↔◌, ◌⊎◌, ◌<◌, ◌≤◌, [], ℕ, length, option_copied, option_map, IfErr, IfOk, IsErrOf, IsFalse, IsTrue, MatchResult, OnErr, OnOk};
 ghost use Rattle.apl_machine_state.specs.Objects.{levels};
 ghost use Rattle.apl_machine_state.specs.State.{State, interrupt, is_idle, steps, steps_progress, value_of};
+ghost use Rattle.apl_machine.specs.Counts.{steps_made};
 ghost use Rattle.apl_session.specs.Defining.{closed, next_line, open_header};
 ghost use Rattle.apl_session.specs.Events.{typed};
 ghost use Rattle.apl_workspace.specs.Refusals.{IsUnloaded};
@@ -9,15 +10,17 @@ ghost use Rattle.apl_workspace.specs.Saved.{IsLoaded, IsSavedAs, settled};
 ghost use Rattle.apl_workspace.specs.declared.error.LoadError.TheVariants as load_refusal;
 ghost use Rattle.apl_kept.specs.Keeping.{BeginsWith, IsOneLine, has_line_feed};
 ghost use Rattle.apl_kept.specs.Names.{function_named, names_of, source_of};
-ghost use Rattle.apl_kept.specs.Standing.{told_of};
+ghost use Rattle.apl_kept.specs.Indicator.{indicator};
+ghost use Rattle.apl_kept.specs.Standing.{place_of, told_of};
 ghost use Rattle.apl_kept.specs.declared.error.KeptError.TheVariants as refusal;
 
 use crate::error::KeptError;
+use crate::indicator::{StandingCall, indicator};
 use crate::names::{Named, names_in, source_named};
-use crate::standing::{Told, line_told};
+use crate::standing::{Place, Told, line_place, line_told};
 use apl_arrays::Array;
 use apl_charset::{Ch, Text};
-use apl_machine::{Level, Machine, OutLine, Progress};
+use apl_machine::{Level, Machine, Made, OutLine, Progress};
 use apl_session::{FeedError, Session};
 use apl_symbols::Name;
 use apl_workspace::{LoadError, SaveError, load, save};
@@ -120,6 +123,17 @@ impl Kept {
         }
     }
 
+    /// Where the fault or the stop is that [`Kept::told`] tells: at the column that is blamed, in the typed text or in the line at which the
+    /// newest call is suspended; for a stop at that line. There is none where neither is told, and for a fault whose report is its name alone.
+    pub fn place(&self) -> Option<Place>
+        ensures { result ≡ place_of self.now }
+    {
+        if !self.is_idle() {
+            return None;
+        }
+        line_place(self.session.machine(), self.output().last())
+    }
+
     /// Types a line, without its line feed. Its steps are still to be made. Errors, the first of these, with the session as before:
     /// LineTooLong where it has over 2,000 bytes, LineFeed where a line feed is among them, Running where a statement runs; Memory,
     /// at any time.
@@ -150,7 +164,21 @@ impl Kept {
         ensures progress { IfOk result (λ p. p ≡ steps_progress count self.old) }
         ensures err { OnErr result ((done : ℕ) × (done < count) × (self.new ≡ steps done self.old)) }
     {
-        self.session.advance(count)
+        let made = self.make_steps(count)?;
+        Ok(made.progress)
+    }
+
+    /// The same as [`Kept::advance`], and how many steps were made: fewer than `count` where nothing runs after them.
+    pub fn make_steps(&mut self, count: u64) -> Result<Made, AllocError>
+        ensures ok { OnOk result (self.new ≡ steps count self.old) }
+        ensures steps { IfOk result (λ m. m.steps ≡ steps_made count self.old) }
+        ensures progress { IfOk result (λ m. m.progress ≡ steps_progress count self.old) }
+        ensures err { OnErr result ((done : ℕ) × (done < count) × (self.new ≡ steps done self.old)) }
+    {
+        match self.session.make_steps(count) {
+            Ok(made) => Ok(made),
+            Err(_) => Err(AllocError),
+        }
     }
 
     /// Abandons what runs, with a report; an idle session stays. After an error, which is that memory has run out, the session is as
@@ -190,6 +218,13 @@ impl Kept {
         ensures { IfOk result (λ found. found.items ≡ levels self.now.contexts) }
     {
         self.session.machine().levels()
+    }
+
+    /// The standing calls, newest first, each with its line, the column at which that waits, and its locals as the call has them.
+    pub fn indicator(&self) -> Result<Vec<StandingCall>, AllocError>
+        ensures { IfOk result (λ calls. calls.items ≡ indicator self.now.contexts) }
+    {
+        indicator(self.alloc, self.session.machine())
     }
 
     /// The header and the lines of the global function that a word names. There are none where it names no function.

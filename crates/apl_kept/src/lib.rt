@@ -3,13 +3,15 @@
 #![tactic(auto)]
 
 mod error;
+mod indicator;
 mod kept;
 mod laws;
 mod names;
 mod standing;
 
 pub use error::KeptError;
+pub use indicator::{Locals, StandingCall};
 pub use kept::{Kept, open};
 pub use laws::{output_may_be_taken, sliced_lines_are_one, slices_are_one};
 pub use names::{Named, Reading, Shape};
-pub use standing::Told;
+pub use standing::{Place, Told};

@@ -34,7 +34,7 @@ impl Shape {
     }
 }
 
-/// What a statement that begins now reads under a name.
+/// What is read under a name.
 #[derive(Drop, Debug)]
 pub enum Reading {
     /// A function, by its header as a listing shows it.
@@ -47,7 +47,7 @@ pub enum Reading {
     Unset,
 }
 
-/// A global name, and what a statement that begins now reads under it.
+/// A name, and what is read under it.
 #[derive(Drop, Debug)]
 pub struct Named {
     pub name: Name,
@@ -55,7 +55,7 @@ pub struct Named {
 }
 
 /// What is read under a name that has this value, if it has one.
-fn value_reading(alloc: Global, value: Option<&Array>) -> Result<Reading, AllocError>
+pub(crate) fn value_reading(alloc: Global, value: Option<&Array>) -> Result<Reading, AllocError>
     ensures { IfOk result (λ r. r ≡ value_reading (option_copied value.entry)) }
 {
     let Some(array) = value else {

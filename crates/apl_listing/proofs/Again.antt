@@ -371,10 +371,10 @@ action_again (End Fail) ss text w t e = refl
 -- what follows the words of an action is found behind them
 pub behind_words : (a : Action) (rest : List ℕ) → behind a (fields (action_words a) rest) ≡ rest
 behind_words a rest =
-    let front = fields (action_words a) [] in
-    let e : fields (action_words a) rest ≡ front ++ rest = fields_then (action_words a) rest in
-    let le : length front ≤ length (fields (action_words a) rest) = omega (arith, ap length e, length-append front rest) in
-    ap (λ (n : ℕ). drop n (fields (action_words a) rest)) (min-eq_left le) ∙ ap (drop (length front)) e ∙ drop_front (length front) front rest refl
+    let prefix = fields (action_words a) [] in
+    let e : fields (action_words a) rest ≡ prefix ++ rest = fields_then (action_words a) rest in
+    let le : length prefix ≤ length (fields (action_words a) rest) = omega (arith, ap length e, length-append prefix rest) in
+    ap (λ (n : ℕ). drop n (fields (action_words a) rest)) (min-eq_left le) ∙ ap (drop (length prefix)) e ∙ drop_front (length prefix) prefix rest refl
 
 -- the words of an instruction
 abbrev pub all_words : Instr → List (List ℕ)

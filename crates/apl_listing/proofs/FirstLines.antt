@@ -76,12 +76,12 @@ take_all (i ∷ is) = ap (λ js. i ∷ js) (take_all is)
 
 -- Lines after which no code goes on as the text does are all that the text has in common with a listing.
 form : (text : List ℕ) (code : List Instr) (rest : List ℕ) → HasLines text (length code) → AreInstrs code → length code ≤ 1000 → text ≡ listed 0 code ++ rest → ((i : Instr) (js : List Instr) (r : List ℕ) → IsCode (code ++ i ∷ js) → rest ≡ line (length code) i ++ r → ⊥) → ((is : List Instr) → IsCode is → listed 0 is ≡ text → length code < length is) → IsFault (Form (length code)) text
-form text code rest has hc lt front stop long =
+form text code rest has hc lt prefix stop long =
     let over : (m : ℕ) (is : List Instr) (r : List ℕ) → IsCode is → m ≤ length is → length code < m → text ≡ listed 0 (take m is) ++ r → ⊥ = λ m is r c le lm e.
-    let g = goes_on 0 code is m r rest hc c.each (omega arith) le lm (sym e ∙ front) in
+    let g = goes_on 0 code is m r rest hc c.each (omega arith) le lm (sym e ∙ prefix) in
     let z : 0 + length code ≡ length code = omega arith in
     stop g.i g.js g.r' (subst IsCode g.whole c) (g.next ∙ ap (λ k. line k g.i ++ g.r') z) in (
-      record { has = has; most = λ m h. ⊎_elim (λ lm. absurd (over m h.code h.rest h.is_code h.within lm h.front)) (λ ge. ge) (cases_lt (length code) m) },
+      record { has = has; most = λ m h. ⊎_elim (λ lm. absurd (over m h.code h.rest h.is_code h.within lm h.prefix)) (λ ge. ge) (cases_lt (length code) m) },
       λ is c e. over (length is) is [] c (omega arith) (long is c e) (sym e ∙ ap (listed 0) (sym (take_all is)) ∙ sym (append_nil (listed 0 (take (length is) is)))),
     )
 
@@ -144,19 +144,19 @@ module _ (text : List ℕ) (code : List Instr) (at : ℕ) (s : Reads text code a
     rest = drop at text;
     is_code = code_with code nothing s.few s.each s.phrases nothing_is.0 nothing_is.1;
     within = omega (arith, length-append code (nothing ∷ []));
-    front = s.front ∙ ap (λ is. listed 0 is ++ drop at text) (sym (take-append_seam code (nothing ∷ [])));
+    prefix = s.prefix ∙ ap (λ is. listed 0 is ++ drop at text) (sym (take-append_seam code (nothing ∷ [])));
   }
 
   is_longer : (is : List Instr) → IsCode is → listed 0 is ≡ text → length code < length is
-  is_longer is c e = longer 0 is code (drop at text) c.each s.each s.phrases c.ends (omega (arith, s.few)) (e ∙ s.front)
+  is_longer is c e = longer 0 is code (drop at text) c.each s.each s.phrases c.ends (omega (arith, s.few)) (e ∙ s.prefix)
 
   -- no line follows
   pub form_none : ((i : Instr) (r : List ℕ) → IsInstr i → drop at text ≡ line (length code) i ++ r → ⊥) → IsFault (Form (length code)) text
-  form_none none = form text code (drop at text) so_far s.each (omega (arith, s.few)) s.front (λ i js r c e. none i r (instr_there code i js c.each) e) is_longer
+  form_none none = form text code (drop at text) so_far s.each (omega (arith, s.few)) s.prefix (λ i js r c e. none i r (instr_there code i js c.each) e) is_longer
 
   -- a phrase where only an ending may come
   pub form_full : (i : Instr) (x : List ℕ) → length code ≡ 999 → IsInstr i → is_end i.action ≡ false → drop at text ≡ line (length code) i ++ x → IsFault (Form (length code)) text
-  form_full i x n k e f = form text code (drop at text) so_far s.each (omega (arith, s.few)) s.front (λ j js r c g. full_stop j js r c g) is_longer
+  form_full i x n k e f = form text code (drop at text) so_far s.each (omega (arith, s.few)) s.prefix (λ j js r c g. full_stop j js r c g) is_longer
     where
       full_stop : (j : Instr) (js : List Instr) (r : List ℕ) → IsCode (code ++ j ∷ js) → drop at text ≡ line (length code) j ++ r → ⊥
       full_stop j [] r c g = let o = one_line (length code) j i r x s.few (instr_there code j [] c.each) k (sym g ∙ f) in not_both (is_end j.action) (ends_there code j [] c.ends) (ap (λ (l : Instr). is_end l.action) o.0 ∙ e)
@@ -165,7 +165,7 @@ module _ (text : List ℕ) (code : List Instr) (at : ℕ) (s : Reads text code a
   two_longer : (i : Instr) (x : List ℕ) → IsInstr i → 0 < length x → drop at text ≡ line (length code) i ++ x → (is : List Instr) → IsCode is → listed 0 is ≡ text → length code + 1 < length is
   two_longer i x k lx f is c g =
       let l = is_longer is c g in
-      let m = goes_on 0 code is (length is) [] (drop at text) s.each c.each (omega (arith, s.few)) (omega arith) l (append_nil (listed 0 (take (length is) is)) ∙ ap (listed 0) (take_all is) ∙ g ∙ s.front) in
+      let m = goes_on 0 code is (length is) [] (drop at text) s.each c.each (omega (arith, s.few)) (omega arith) l (append_nil (listed 0 (take (length is) is)) ∙ ap (listed 0) (take_all is) ∙ g ∙ s.prefix) in
       let z : 0 + length code ≡ length code = omega arith in
       let o = one_line (length code) m.i i m.r' x s.few (instr_there code m.i m.js (subst AreInstrs m.whole c.each)) k (sym (m.next ∙ ap (λ q. line q m.i ++ m.r') z) ∙ f) in
       let lr : 0 < length (listed (0 + length code + 1) (take (length is - length code - 1) m.js) ++ []) = omega (arith, ap length (sym o.1 ∙ m.then)) in
@@ -178,15 +178,15 @@ module _ (text : List ℕ) (code : List Instr) (at : ℕ) (s : Reads text code a
       let code' = code ++ i ∷ [] in
       let c' : IsCode code' = code_with code i s.few s.each s.phrases k e in
       let n : length code' ≡ length code + 1 = length-append code (i ∷ []) in
-      let front' : text ≡ listed 0 code' ++ x = s.front ∙ ap (λ t. listed 0 code ++ t) f ∙ sym (listed_more code i x) in
-      let has' : HasLines text (length code') = record { code = code'; rest = x; is_code = c'; within = omega arith; front = front' ∙ ap (λ is. listed 0 is ++ x) (sym (take_all code')) } in
-      subst (λ m. IsFault (Form m) text) n (form text code' x has' c'.each c'.few front' (λ j js r c g. let t = after_end i (j ∷ js) (ends_there code i (j ∷ js) (subst EndsOnce (append_assoc code (i ∷ []) (j ∷ js)) c.ends)) e in absurd (cc)) (λ is c g. let l = two_longer i x k lx f is c g in omega arith))
+      let prefix' : text ≡ listed 0 code' ++ x = s.prefix ∙ ap (λ t. listed 0 code ++ t) f ∙ sym (listed_more code i x) in
+      let has' : HasLines text (length code') = record { code = code'; rest = x; is_code = c'; within = omega arith; prefix = prefix' ∙ ap (λ is. listed 0 is ++ x) (sym (take_all code')) } in
+      subst (λ m. IsFault (Form m) text) n (form text code' x has' c'.each c'.few prefix' (λ j js r c g. let t = after_end i (j ∷ js) (ends_there code i (j ∷ js) (subst EndsOnce (append_assoc code (i ∷ []) (j ∷ js)) c.ends)) e in absurd (cc)) (λ is c g. let l = two_longer i x k lx f is c g in omega arith))
 
   -- the ending ends the text
   pub whole : (i : Instr) (x : List ℕ) → IsInstr i → is_end i.action ≡ true → x ≡ [] → drop at text ≡ line (length code) i ++ x → IsCode (code ++ i ∷ []) × (listed 0 (code ++ i ∷ []) ≡ text)
   whole i x k e z f = (
     code_with code i s.few s.each s.phrases k e,
-    sym (append_nil (listed 0 (code ++ i ∷ []))) ∙ ap (λ t. listed 0 (code ++ i ∷ []) ++ t) (sym z) ∙ listed_more code i x ∙ ap (λ t. listed 0 code ++ t) (sym f) ∙ sym s.front,
+    sym (append_nil (listed 0 (code ++ i ∷ []))) ∙ ap (λ t. listed 0 (code ++ i ∷ []) ++ t) (sym z) ∙ listed_more code i x ∙ ap (λ t. listed 0 code ++ t) (sym f) ∙ sym s.prefix,
   )
 
   -- one phrase more
@@ -196,7 +196,7 @@ module _ (text : List ℕ) (code : List Instr) (at : ℕ) (s : Reads text code a
     each = instrs_append code i s.each k;
     phrases = phrases_append code i s.phrases e;
     within = le;
-    front = s.front ∙ ap (λ t. listed 0 code ++ t) f ∙ sym (listed_more code i (drop len (drop at text))) ∙ ap (λ t. listed 0 (code ++ i ∷ []) ++ t) (drop-drop len at text);
+    prefix = s.prefix ∙ ap (λ t. listed 0 code ++ t) f ∙ sym (listed_more code i (drop len (drop at text))) ∙ ap (λ t. listed 0 (code ++ i ∷ []) ++ t) (drop-drop len at text);
   }
 
 line_some : (n : ℕ) (i : Instr) (x : List ℕ) → [] ≡ line n i ++ x → ⊥

@@ -29,9 +29,9 @@ text_is n i first text l e = encodes_same text (body n i) (l.spelled ∙ e)
 
 pub found_line : (n : ℕ) (i : Instr) (text first rest : List ℕ) → text ≡ first ++ 10 ∷ rest → IsInstr i → first ≡ bytes (body n i) → IsInstr i × (length first + 1 ≤ length text) × (text ≡ line n i ++ drop (length first + 1) text)
 found_line n i text first rest e h f =
-    let front : List ℕ = first ++ 10 ∷ [] in
-    let l : length first + 1 ≡ length front = sym (length-append first (10 ∷ [])) in
-    let s : text ≡ front ++ rest = e ∙ sym (append_assoc first (10 ∷ []) rest) in
-    let d : drop (length first + 1) text ≡ rest = ap (drop (length first + 1)) s ∙ drop_front (length first + 1) front rest l in
-    let k : length first + 1 ≤ length text = omega (arith, ap length s, length-append front rest) in
+    let prefix : List ℕ = first ++ 10 ∷ [] in
+    let l : length first + 1 ≡ length prefix = sym (length-append first (10 ∷ [])) in
+    let s : text ≡ prefix ++ rest = e ∙ sym (append_assoc first (10 ∷ []) rest) in
+    let d : drop (length first + 1) text ≡ rest = ap (drop (length first + 1)) s ∙ drop_front (length first + 1) prefix rest l in
+    let k : length first + 1 ≤ length text = omega (arith, ap length s, length-append prefix rest) in
     (h, k, s ∙ ap (λ b. (b ++ 10 ∷ []) ++ rest) f ∙ ap (λ r. line n i ++ r) (sym d))

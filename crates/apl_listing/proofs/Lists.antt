@@ -14,7 +14,7 @@ got_drop_suc (y ∷ xs) (suc k) x e = got_drop_suc xs k x e
 pub got_drop : {X : Type 0} (xs : List X) (k : ℕ) (x : X) → slice_get xs k ≡ Some x → drop k xs ≡ x ∷ drop (k + 1) xs
 got_drop xs k x e = rw (add-one k) (got_drop_suc xs k x e)
 
--- the front of a list has the same elements
+-- the start of a list has the same elements
 pub got_take : {X : Type 0} (xs : List X) (n k : ℕ) → k < n → slice_get (take n xs) k ≡ slice_get xs k
 got_take [] zero k h = refl
 got_take [] (suc n) k h = refl

@@ -13,7 +13,7 @@ pub record HasLines (text : List ℕ) (k : ℕ) : Type 0 where
   pub rest : List ℕ
   pub is_code : IsCode code
   pub within : k ≤ length code
-  pub front : text ≡ listed 0 (take k code) ++ rest
+  pub prefix : text ≡ listed 0 (take k code) ++ rest
 
 -- the greatest such k
 pub record IsCommon (text : List ℕ) (k : ℕ) : Type 0 where
@@ -49,7 +49,7 @@ pub record Reads (text : List ℕ) (code : List Instr) (at : ℕ) : Type 0 where
   pub each : AreInstrs code
   pub phrases : ArePhrases code
   pub within : at ≤ length text
-  pub front : text ≡ listed 0 code ++ drop at text
+  pub prefix : text ≡ listed 0 code ++ drop at text
 
 -- the number of an error
 abbrev pub error_number : AsmError → ℕ

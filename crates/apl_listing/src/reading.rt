@@ -261,12 +261,12 @@ fn words_len(alloc: Global, action: Action) -> Result<usize, AllocError>
 pub(crate) fn instr_at(alloc: Global, text: &[Ch]) -> Result<Option<Instr>, AllocError>
     ensures { IfOk result (λ o. o ≡ instr_at text.now) }
 {
-    let (front, place) = split(text, '@');
-    let Some(action) = action_at(front) else {
+    let (prefix, place) = split(text, '@');
+    let Some(action) = action_at(prefix) else {
         return Ok(None);
     };
-    let read = words_len(alloc, action)?.min(front.len());
-    let sources = sources_of(alloc, &front[read..])?;
+    let read = words_len(alloc, action)?.min(prefix.len());
+    let sources = sources_of(alloc, &prefix[read..])?;
     let Some(arguments) = refilled(action, sources)? else {
         return Ok(None);
     };

@@ -13,7 +13,7 @@ use apl_code::{Action, Code, Ending, Function, Instr, Row, Source, Variable};
 use apl_symbols::{Operator, Primitive, Symbol, SystemName};
 use std::alloc::{AllocError, Global};
 
-/// Adds a system name, the quad in front of its letters.
+/// Adds a system name, the quad before its letters.
 fn push_system(out: &mut Vec<Ch>, name: SystemName) -> Result<(), AllocError>
     ensures { OnOk result (out.new.items ≡ out.old.items ++ system_word name) }
 {

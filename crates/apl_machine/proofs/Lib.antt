@@ -17,6 +17,7 @@ pub mod Readers
 pub mod Changed
 pub mod Typed
 pub mod Erased
+pub mod Callers
 pub mod Restored
 pub mod Held
 pub mod Few
@@ -25,5 +26,6 @@ pub mod Written
 pub mod Owned
 pub mod Silent
 pub mod ManySteps
+pub mod Counted
 pub mod Stretched
 pub mod FastSteps

@@ -5,3 +5,5 @@ pub mod inside
 pub mod Changes
 pub mod Spaces
 pub mod Refusals
+pub mod Counts
+pub mod Standing

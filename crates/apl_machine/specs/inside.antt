@@ -1,3 +1,4 @@
+pub mod Callers
 pub mod Leaving
 pub mod Locals
 pub mod Next

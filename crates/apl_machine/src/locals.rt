@@ -75,9 +75,9 @@ fn bind_locals(names: &mut Names, locals: &[Name], origin: Origin) -> Result<(),
     ensures beneath { AreBeneath names.old names.new }
 {
     let mut left = locals;
-    while let Some((local, front)) = left.split_last() {
+    while let Some((local, prefix)) = left.split_last() {
         names.bind(local, local_of(origin, local))?;
-        left = front;
+        left = prefix;
     }
     Ok(())
 }

@@ -13,12 +13,13 @@ ghost use Rattle.apl_order.specs.Kept.{IsKept};
 ghost use Rattle.apl_contexts.specs.Contexts.{line_in};
 ghost use Rattle.apl_contexts.specs.Typed.{IsTyped};
 ghost use Rattle.apl_names.specs.Maps.{IsMap};
+ghost use Rattle.apl_machine.specs.Counts.{steps_made};
 ghost use Rattle.apl_machine.specs.Refusals.{error_number};
 ghost use Rattle.apl_machine.specs.Spaces.{IsSound, state_of};
 
 use crate::objects::{clear, define, erase, function_in, is_variable};
 use crate::reports::{token_fault, typed_fault};
-use crate::stepping::{abandon, make_many};
+use crate::stepping::{Made, abandon, make_many};
 use crate::workspace::Workspace;
 use apl_arrays::{Array, Origin};
 use apl_charset::{Ch, Text};
@@ -204,7 +205,7 @@ impl Machine {
         ensures err { OnErr result (self.new ≡ self.old) }
     {
         match make_many(&mut self.workspace, 1) {
-            Ok(progress) => Ok(progress),
+            Ok(made) => Ok(made.progress),
             Err(_) => Err(AllocError),
         }
     }
@@ -214,6 +215,18 @@ impl Machine {
     pub fn advance(&mut self, count: u64) -> Result<Progress, u64>
         ensures ok { OnOk result (self.new ≡ steps count self.old) }
         ensures progress { IfOk result (λ p. p ≡ steps_progress count self.old) }
+        ensures err { IfErr result (λ done. self.new ≡ steps done self.old) }
+        ensures part { IfErr result (λ done. done < count) }
+    {
+        let made = self.make_steps(count)?;
+        Ok(made.progress)
+    }
+
+    /// The same as [`Machine::advance`], and how many steps were made: fewer than `count` where the machine is idle after them.
+    pub fn make_steps(&mut self, count: u64) -> Result<Made, u64>
+        ensures ok { OnOk result (self.new ≡ steps count self.old) }
+        ensures steps { IfOk result (λ m. m.steps ≡ steps_made count self.old) }
+        ensures progress { IfOk result (λ m. m.progress ≡ steps_progress count self.old) }
         ensures err { IfErr result (λ done. self.new ≡ steps done self.old) }
         ensures part { IfErr result (λ done. done < count) }
     {

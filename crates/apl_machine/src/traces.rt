@@ -63,14 +63,14 @@ fn traced<'a>(traces: &Vectors, call: Option<&'a Call>) -> Option<&'a Call>
 }
 
 /// These lines, the first of them behind a prefix, which stands alone where there are none.
-fn behind(mut front: Vec<Ch>, mut lines: Vec<Text>) -> Result<Vec<Text>, AllocError>
-    ensures { IfOk result (λ out. out.items ≡ behind front.items lines.items) }
+fn behind(mut prefix: Vec<Ch>, mut lines: Vec<Text>) -> Result<Vec<Text>, AllocError>
+    ensures { IfOk result (λ out. out.items ≡ behind prefix.items lines.items) }
 {
     if let Some(first) = lines.as_mut_slice().first_mut() {
-        front.extend_from_slice(first.as_slice())?;
-        *first = Text::new(front);
+        prefix.extend_from_slice(first.as_slice())?;
+        *first = Text::new(prefix);
     } else {
-        lines.push(Text::new(front))?;
+        lines.push(Text::new(prefix))?;
     }
     Ok(lines)
 }
@@ -85,9 +85,9 @@ fn trace_call(
 ) -> Result<Vec<OutLine>, AllocError>
     ensures { IfOk result (λ out. out.items ≡ lines_of Trace (behind (place (call.now.definition.header.name, call.now.at) ++ mark.now) lines.items)) }
 {
-    let mut front = place_in(alloc, call.definition(), call.at())?.into_chars();
-    front.extend_from_slice(mark)?;
-    said(alloc, LineKind::Trace, behind(front, lines)?)
+    let mut prefix = place_in(alloc, call.definition(), call.at())?.into_chars();
+    prefix.extend_from_slice(mark)?;
+    said(alloc, LineKind::Trace, behind(prefix, lines)?)
 }
 
 /// What a line writes as it ends without a value, if it is that of a call and traced: its place and

@@ -44,8 +44,8 @@ is_list a = nat_le (length a.shape) 1
 
 -- A traced line writes its place and what it came to: the lines of a display follow the first line of it as they are.
 abbrev pub behind : Text → List Text → List Text
-behind front [] = front ∷ []
-behind front (line ∷ lines) = (front ++ line) ∷ lines
+behind prefix [] = prefix ∷ []
+behind prefix (line ∷ lines) = (prefix ++ line) ∷ lines
 
 -- what the line of the nearest statement or call writes as it ends, if it is traced: its place, this mark and these lines
 abbrev pub traced : World → List Context → Text → List Text → List OutLine

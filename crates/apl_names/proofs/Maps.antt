@@ -69,8 +69,8 @@ pub said_with : (n : Text) (b : Binding) (m : Map) (q : Text) → said (with_ent
 said_with n b [] q = ap (λ c. cond c (Some b) None) (flip q n)
 said_with n b (e ∷ es) q = by (name_cmp n e.0) refl (said_with n b es q)
   where
-    front : said ((n, b) ∷ e ∷ es) q ≡ updated (said (e ∷ es)) n (Some b) q
-    front = ap (λ c. cond c (Some b) (said (e ∷ es) q)) (flip q n)
+    prefix : said ((n, b) ∷ e ∷ es) q ≡ updated (said (e ∷ es)) n (Some b) q
+    prefix = ap (λ c. cond c (Some b) (said (e ∷ es) q)) (flip q n)
 
     replaced : (c d : Bool) → bytes_eq q e.0 ≡ c → bytes_eq n q ≡ d → n ≡ e.0 → cond c (Some b) (said es q) ≡ cond d (Some b) (cond c (Some e.1) (said es q))
     replaced true true x y p = refl
@@ -84,7 +84,7 @@ said_with n b (e ∷ es) q = by (name_cmp n e.0) refl (said_with n b es q)
     past false d x y o = refl
 
     by : (o : Ordering) → name_cmp n e.0 ≡ o → said (with_entry n b es) q ≡ updated (said es) n (Some b) q → said (match_ordering o ((n, b) ∷ e ∷ es) ((e.0, b) ∷ es) (e ∷ with_entry n b es)) q ≡ updated (said (e ∷ es)) n (Some b) q
-    by Less o h = front
+    by Less o h = prefix
     by Equal o h = replaced (bytes_eq q e.0) (bytes_eq n q) refl refl (equal n e.0 o)
     by Greater o h = ap (λ v. cond (bytes_eq q e.0) (Some e.1) v) h ∙ past (bytes_eq q e.0) (bytes_eq n q) refl refl o
 

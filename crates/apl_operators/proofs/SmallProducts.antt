@@ -74,15 +74,15 @@ one_more was ys now i v l before e = (
 )
 
 -- a number that is repeated behind a list, and multiplied there
-pub multiplied : (x : ℤ) (ys old grown front back filled : List ℤ) (before len : ℕ) → grown ≡ old ++ replicate (length ys) x → before ≡ length old → front ≡ take before grown → back ≡ drop before grown → length filled ≡ length back → len ≡ length grown →
-    ((k : ℕ) → k < length ys → get_or filled k (pos 0) ≡ get_or back k (pos 0) *ℤ get_or ys k (pos 0)) → IsMultiplied x ys old (take len (front ++ filled ++ drop (length (front ++ filled)) grown))
-multiplied x ys old grown front back filled before len g b f d s l each =
+pub multiplied : (x : ℤ) (ys old grown prefix back filled : List ℤ) (before len : ℕ) → grown ≡ old ++ replicate (length ys) x → before ≡ length old → prefix ≡ take before grown → back ≡ drop before grown → length filled ≡ length back → len ≡ length grown →
+    ((k : ℕ) → k < length ys → get_or filled k (pos 0) ≡ get_or back k (pos 0) *ℤ get_or ys k (pos 0)) → IsMultiplied x ys old (take len (prefix ++ filled ++ drop (length (prefix ++ filled)) grown))
+multiplied x ys old grown prefix back filled before len g b f d s l each =
     let room : back ≡ replicate (length ys) x = grind (arith, common_steps) in
     let size : length filled ≡ length ys = grind (arith, common_steps) in
     record {
       row = filled;
       size = size;
-      is = written_over old grown front filled x (length ys) before len g b f size l;
+      is = written_over old grown prefix filled x (length ys) before len g b f size l;
       each = λ k h. each k h ∙ ap (λ (z : ℤ). z *ℤ get_or ys k (pos 0)) (ap (λ (zs : List ℤ). get_or zs k (pos 0)) room ∙ get_or-replicate (length ys) k x (pos 0) h);
     }
 

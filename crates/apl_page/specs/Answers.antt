@@ -8,11 +8,11 @@ use Rattle.apl_page.specs.Places.{Keeping}
 use Rattle.apl_page.specs.declared.refusal.Refusal.{Refusal}
 use Rattle.apl_page.specs.declared.refusal.Refusal.TheVariants.{Memory, Running, NoFunction}
 
--- bytes at the front of a buffer, which keeps what it held behind them
+-- bytes at the start of a buffer, which keeps what it held behind them
 abbrev pub laid : List ℕ → List ℕ → List ℕ
 laid bytes buffer = bytes ++ drop (length bytes) buffer
 
--- What a call answers that comes to bytes or is refused. The bytes lie at the front of the buffer; where it is too small for them it stays, and the
+-- What a call answers that comes to bytes or is refused. The bytes lie at the start of the buffer; where it is too small for them it stays, and the
 -- number is 9; how many they are is told. A refusal changes nothing.
 abbrev pub Gives : Result (List ℕ) Refusal → ℕ → List ℕ → List ℕ → ℕ → ℕ → Type 0
 Gives (Ok bytes) number old new size size' =

@@ -8,16 +8,16 @@ use apl_session::Bytes;
 /// The number of a call whose buffer is too small.
 const TOO_SMALL: u32 = 9;
 
-/// Lays bytes at the front of a buffer.
+/// Lays bytes at the start of a buffer.
 pub(crate) fn lay_front(bytes: &[u8], buffer: &mut [u8])
     requires { length bytes.now ≤ length buffer.old }
     ensures { buffer.new ≡ laid bytes.now buffer.old }
 {
-    let (front, _) = buffer.split_at_mut(bytes.len());
-    front.copy_from_slice(bytes);
+    let (prefix, _) = buffer.split_at_mut(bytes.len());
+    prefix.copy_from_slice(bytes);
 }
 
-/// Lays the bytes that a call comes to at the front of a buffer, if that has room, and tells how many they are.
+/// Lays the bytes that a call comes to at the start of a buffer, if that has room, and tells how many they are.
 pub(crate) fn give(outcome: Result<Bytes, Refusal>, buffer: &mut [u8], size: &mut usize) -> u32
     ensures { Gives outcome result buffer.old buffer.new size.old size.new }
 {

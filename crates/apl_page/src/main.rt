@@ -142,7 +142,7 @@ pub fn page_gather(place: &mut Option<Page>, size: &mut usize) -> u32
     }
 }
 
-/// Lays as many of the waiting bytes as a buffer holds at its front, keeps the others, and tells how many lie there.
+/// Lays as many of the waiting bytes as a buffer holds at its start, keeps the others, and tells how many lie there.
 #[inline(never)]
 pub fn page_take(place: &mut Option<Page>, buffer: &mut [u8]) -> usize
     ensures count { result ≡ min (length (unsaid_at place.old)) (length buffer.old) }
@@ -155,7 +155,7 @@ pub fn page_take(place: &mut Option<Page>, buffer: &mut [u8]) -> usize
     page.take(buffer)
 }
 
-/// Lays the file of the workspace at the front of a buffer, if that has room, and tells its length.
+/// Lays the file of the workspace at the start of a buffer, if that has room, and tells its length.
 #[inline(never)]
 pub fn page_save(place: &Option<Page>, buffer: &mut [u8], size: &mut usize) -> u32
     ensures { Reads IsFile place.now result buffer.old buffer.new size.old size.new }
@@ -166,7 +166,7 @@ pub fn page_save(place: &Option<Page>, buffer: &mut [u8], size: &mut usize) -> u
     }
 }
 
-/// Lays the global names, ascending, at the front of a buffer, if that has room, and tells their length. Each has a line by what a
+/// Lays the global names, ascending, at the start of a buffer, if that has room, and tells their length. Each has a line by what a
 /// statement that begins now reads under it: `∇ ` and the header of a function; the name of a variable, a blank, `N` where it holds
 /// numbers and `C` where it holds characters, and behind a blank the length of each axis; a name alone where it is unset or a label.
 #[inline(never)]
@@ -179,7 +179,7 @@ pub fn page_names(place: &Option<Page>, buffer: &mut [u8], size: &mut usize) -> 
     }
 }
 
-/// Lays the standing calls, newest first, as `)SI` shows them, at the front of a buffer, if that has room, and tells their length.
+/// Lays the standing calls, newest first, as `)SI` shows them, at the start of a buffer, if that has room, and tells their length.
 #[inline(never)]
 pub fn page_levels(place: &Option<Page>, buffer: &mut [u8], size: &mut usize) -> u32
     ensures { Reads (λ k outcome. IsDue (Ok (levels_bytes k)) outcome) place.now result buffer.old buffer.new size.old size.new }
@@ -190,7 +190,7 @@ pub fn page_levels(place: &Option<Page>, buffer: &mut [u8], size: &mut usize) ->
     }
 }
 
-/// Lays the header and the lines of the global function of a name at the front of a buffer, if that has room, and tells their length.
+/// Lays the header and the lines of the global function of a name at the start of a buffer, if that has room, and tells their length.
 #[inline(never)]
 pub fn page_listing(place: &Option<Page>, name: &[u8], buffer: &mut [u8], size: &mut usize) -> u32
     ensures { Reads (λ k outcome. IsDue (listing_due k name.now) outcome) place.now result buffer.old buffer.new size.old size.new }

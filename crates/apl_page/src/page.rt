@@ -58,7 +58,7 @@ impl Page {
         Ok(self.unsaid.len())
     }
 
-    /// Lays as many of the waiting bytes as a buffer holds at its front, keeps the others, and tells how many lie there.
+    /// Lays as many of the waiting bytes as a buffer holds at its start, keeps the others, and tells how many lie there.
     pub(crate) fn take(&mut self, buffer: &mut [u8]) -> usize
         ensures count { result ≡ min (length self.old.unsaid) (length buffer.old) }
         ensures laid { buffer.new ≡ laid (take result self.old.unsaid) buffer.old }

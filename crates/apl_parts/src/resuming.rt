@@ -138,9 +138,9 @@ pub fn bind_labels(names: &mut Names, labels: &[(Name, usize)]) -> Result<(), Al
     ensures beneath { AreBeneath names.old names.new }
 {
     let mut left = labels;
-    while let Some(((name, line), front)) = left.split_last() {
+    while let Some(((name, line), prefix)) = left.split_last() {
         names.bind(name, label_at(*line))?;
-        left = front;
+        left = prefix;
     }
     Ok(())
 }

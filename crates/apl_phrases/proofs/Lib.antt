@@ -1,12 +1,11 @@
-pub mod Becoming
 mod Entering
-mod NoValues
 mod NoNumbers
 mod NumbersRead
-mod Elsewhere
+mod Assigning
 mod Passing
 pub mod Effects
 pub mod Marks
 pub mod Rows
+mod OfPrimitives
 mod Kept
 mod Slotted

@@ -1,4 +1,5 @@
 pub mod Effects
 pub mod Calling
+pub mod Executing
 pub mod Frequent
 pub mod inside

@@ -1,4 +1,4 @@
-//! Names read and assigned to.
+//! Names that are assigned to.
 ghost use Rattle.std.specs.Prelude.{◌≡◌, IfOk, Result, option_map};
 ghost use Rattle.apl_arrays.specs.Answers.{Answers};
 ghost use Rattle.apl_arrays.specs.Cells.{Arr};
@@ -7,16 +7,15 @@ ghost use Rattle.apl_faults.specs.declared.fault.Fault.{Fault};
 ghost use Rattle.apl_names.specs.Maps.{found};
 ghost use Rattle.apl_machine_state.specs.Environment.{scalar};
 ghost use Rattle.apl_machine_state.specs.Outcomes.{as_origin, assign, assign_by, assign_indexed, assign_one, assign_slots};
-ghost use Rattle.apl_machine_state.specs.Outcomes.{origin_set, read, read_by};
+ghost use Rattle.apl_machine_state.specs.Outcomes.{origin_set};
 ghost use Rattle.apl_primitives.specs.Taken.{as_taken};
-ghost use Rattle.apl_phrases.specs.Effects.{AssignsIndexed, ComesTo, Does, DoesOf, DoesWith};
+ghost use Rattle.apl_phrases.specs.Effects.{AssignsIndexed, DoesOf, DoesWith};
 
 use crate::effect::{Deed, Effect};
 use crate::scene::{Scene, origin_name};
 use apl_arrays::{Array, Elements, Origin, Stop};
 use apl_code::Variable;
 use apl_faults::Fault;
-use apl_machine_state::Operand;
 use apl_names::Binding;
 use apl_primitives::Arguments;
 use apl_select::index_assign;
@@ -35,39 +34,6 @@ pub fn origin_scalar(origin: Origin) -> Array
     ensures { result ≡ scalar (origin_number origin) }
 {
     number(origin.number() as u16)
-}
-
-/// The value of a name.
-fn read_name(scene: Scene<'_>, name: &Name) -> Result<Effect, AllocError>
-    ensures { IfOk result (ComesTo (read_by (found scene.entry.names.now name.now))) }
-{
-    match scene.names.binding(name) {
-        Some(Binding::Value(array)) => Ok(Effect::Gives(Operand::Value(array.copy()?))),
-        Some(Binding::Label(line)) => Ok(Effect::Gives(Operand::Value(number(*line)))),
-        Some(Binding::Function(_)) => Ok(Effect::Fails(Fault::Syntax)),
-        Some(Binding::Unset) => Ok(Effect::Fails(Fault::Value)),
-        None => Ok(Effect::Fails(Fault::Value)),
-    }
-}
-
-/// `⎕IO`
-fn read_origin(scene: Scene<'_>) -> Effect
-    ensures { Does scene.entry (λ s. read s (Variable.System SystemName.Origin)) result }
-{
-    Effect::Gives(Operand::Value(origin_scalar(scene.origin())))
-}
-
-/// `V`
-pub fn read(scene: Scene<'_>, variable: &Variable) -> Result<Effect, AllocError>
-    ensures { IfOk result (Does scene.entry (λ s. read s variable.now)) }
-{
-    match variable {
-        Variable::Name(name) => read_name(scene, name),
-        Variable::System(system) => match system {
-            SystemName::Origin => Ok(read_origin(scene)),
-            _ => Ok(Effect::Fails(Fault::Syntax)),
-        },
-    }
 }
 
 /// `V ← B` of a name.

@@ -12,6 +12,7 @@ mod lines_among;
 mod name_class;
 mod phrase;
 mod scene;
+mod values;
 mod watch;
 
 pub use assign::origin_scalar;
@@ -19,9 +20,9 @@ pub use calling::{FunctionCalled, called};
 pub use effect::{Deed, Effect};
 pub use execute::executed;
 pub use frequent::{
-    NumberAssigned, assigned, assigned_indexed, given, number_assigned, number_given, number_kept,
-    value_read,
+    NumberAssigned, assigned, assigned_indexed, number_assigned, number_given, number_kept,
 };
 pub use lines::said;
 pub use phrase::{perform, slot_given, slots_given, written};
 pub use scene::{Scene, origin_name};
+pub use values::{read, valued};

@@ -6,41 +6,28 @@ ghost use Rattle.apl_arrays.specs.Simple.{single};
 ghost use Rattle.apl_code.specs.declared.instr.Action.TheVariants.{Phrase};
 ghost use Rattle.apl_code.specs.declared.instr.Source.{Source};
 ghost use Rattle.apl_machine_state.specs.declared.operand.Operand.{Operand};
-ghost use Rattle.apl_code.specs.declared.row.Row.TheVariants.{Group};
 ghost use Rattle.apl_machine_state.specs.Environment as model;
-ghost use Rattle.apl_machine_state.specs.Outcomes.{Makes, outcome, shown, operand_value, of_result};
+ghost use Rattle.apl_machine_state.specs.Outcomes.{Makes, outcome, shown, operand_value};
 ghost use Rattle.apl_machine_state.specs.Changes.{shown_lines};
 ghost use Rattle.apl_primitives.specs.Taken.{as_taken};
-ghost use Rattle.apl_primitives.specs.Values.{phrase_value};
 ghost use Rattle.apl_operands.specs.Operands.{Offers, fetched_from, one_value};
 ghost use Rattle.apl_phrases.specs.Effects.{ComesOf, ComesWith, DoesTo, FetchesSlot, MakesSlots, PassesWriting, acted};
 ghost use Rattle.apl_phrases.specs.Calling.{CallsByName};
-ghost use Rattle.apl_phrases.specs.Frequent.{IsPassing};
+ghost use Rattle.apl_phrases.specs.Frequent.{IsInPlace, IsPassing};
 
-use crate::assign::{assign, assign_indexed, read};
+use crate::assign::{assign, assign_indexed};
 use crate::calls::{call, dyadic, monadic};
-use crate::effect::{Deed, Effect, value};
+use crate::effect::{Deed, Effect};
 use crate::lines::said;
 use crate::scene::Scene;
 use apl_arrays::Array;
-use apl_code::{Action, Row, Source};
+use apl_code::{Action, Function, Row, Source, Variable};
 use apl_faults::Fault;
 use apl_format::display;
 use apl_machine_state::{LineKind, Operand, OutLine, Slots};
 use apl_operands::{Held, Operands, arguments, fetch, one_value};
 use apl_primitives::Arguments;
 use std::alloc::{AllocError, Global};
-
-/// `( B )`: the value stays as it is.
-#[tactic(auto, using(apl_operands::proofs::Fetching::one_taken))]
-fn group(arguments: Arguments<'_>) -> Effect
-    ensures { ComesOf (as_taken arguments.entry) (of_result (phrase_value Group (as_taken arguments.entry) 1)) result }
-{
-    match arguments {
-        Arguments::One(_) => Effect::Passes(Deed::Nothing),
-        _ => Effect::Fails(Fault::Syntax),
-    }
-}
 
 /// The lines that show a value.
 fn shown(alloc: Global, b: &Array) -> Result<Vec<OutLine>, AllocError>
@@ -218,51 +205,57 @@ pub fn slot_given(
     lone_number(sources, operands)
 }
 
-/// What a phrase of this row does, which calls no function by its name.
+/// What a phrase of this row does. One that calls a function by its name, or is done in place, has no effect here.
 fn perform_row(
     alloc: Global,
     scene: Scene<'_>,
     row: &Row,
     sources: &[Option<Source>],
     operands: Operands<'_>,
-) -> Result<Effect, AllocError>
+) -> Result<Option<Effect>, AllocError>
     requires there { Offers operands sources.now }
-    requires other { ¬ CallsByName (Phrase row.now) }
-    ensures { IfOk result (DoesTo (fetched_from operands.entry sources.now) scene.entry (λ s. outcome s row.now (fetched_from operands.entry sources.now))) }
+    ensures is { IfOk result (λ effect. IfSome effect (DoesTo (fetched_from operands.entry sources.now) scene.entry (λ s. outcome s row.now (fetched_from operands.entry sources.now)))) }
+    ensures none { IfOk result (λ effect. IfNone effect (¬ CallsByName (Phrase row.now) → IsInPlace (Phrase row.now))) }
 {
     match row {
-        Row::Index(_) => index_list(alloc, sources, operands),
-        Row::Group => Ok(group(arguments(sources, operands))),
-        Row::Read(variable) => read(scene, variable),
-        Row::Call(variable) => Ok(call(variable)),
-        Row::Monadic(function) => {
-            monadic(alloc, scene, row, function, arguments(sources, operands))
+        Row::Index(_) => Ok(Some(index_list(alloc, sources, operands)?)),
+        Row::Call(Variable::System(system)) => Ok(Some(call(*system))),
+        Row::Monadic(Function::System(system)) => {
+            let arguments = arguments(sources, operands);
+            Ok(Some(monadic(alloc, scene, *system, arguments)?))
         }
-        Row::Dyadic(function) => dyadic(alloc, scene, row, function, arguments(sources, operands)),
-        Row::Assign(variable) => assign(scene, variable, arguments(sources, operands)),
+        Row::Dyadic(Function::System(system)) => {
+            let arguments = arguments(sources, operands);
+            Ok(Some(dyadic(alloc, scene, *system, arguments)?))
+        }
+        Row::Assign(variable) => {
+            let arguments = arguments(sources, operands);
+            Ok(Some(assign(scene, variable, arguments)?))
+        }
         Row::AssignIndexed(variable) => {
-            assign_indexed(alloc, scene, variable, arguments(sources, operands))
+            let arguments = arguments(sources, operands);
+            Ok(Some(assign_indexed(alloc, scene, variable, arguments)?))
         }
-        Row::Show => show(alloc, arguments(sources, operands)),
-        _ => value(alloc, scene, row, arguments(sources, operands)),
+        Row::Show => Ok(Some(show(alloc, arguments(sources, operands))?)),
+        _ => Ok(None),
     }
 }
 
-/// What a phrase's instruction does, which calls no function by its name.
+/// What a phrase's instruction does. One that calls a function by its name, or is done in place, has no effect here.
 pub fn perform(
     alloc: Global,
     scene: Scene<'_>,
     action: &Action,
     sources: &[Option<Source>],
     operands: Operands<'_>,
-) -> Result<Effect, AllocError>
+) -> Result<Option<Effect>, AllocError>
     requires there { Offers operands sources.now }
-    requires other { ¬ CallsByName action.now }
-    ensures { IfOk result (DoesTo (fetched_from operands.entry sources.now) scene.entry (λ s. acted s action.now (fetched_from operands.entry sources.now))) }
+    ensures is { IfOk result (λ effect. IfSome effect (DoesTo (fetched_from operands.entry sources.now) scene.entry (λ s. acted s action.now (fetched_from operands.entry sources.now)))) }
+    ensures none { IfOk result (λ effect. IfNone effect (¬ CallsByName action.now → IsInPlace action.now)) }
 {
     match action {
-        Action::Box => index_list(alloc, sources, operands),
+        Action::Box => Ok(Some(index_list(alloc, sources, operands)?)),
         Action::Phrase(row) => perform_row(alloc, scene, row, sources, operands),
-        Action::End(_) => Ok(Effect::Fails(Fault::Syntax)),
+        Action::End(_) => Ok(Some(Effect::Fails(Fault::Syntax))),
     }
 }

@@ -1,5 +1,5 @@
 //! What phrases see beside their operands.
-ghost use Rattle.std.specs.Prelude.{◌≡◌};
+ghost use Rattle.std.specs.Prelude.{◌≡◌, nat_lt};
 ghost use Rattle.apl_arrays.specs.Origins.{origin_number};
 ghost use Rattle.apl_machine_state.specs.Environment.{origin_by, origin_in, origin_name};
 ghost use Rattle.apl_names.specs.Maps.{found};
@@ -10,7 +10,7 @@ use apl_names::{Binding, Names};
 use apl_symbols::Name;
 
 /// The most calls and executes that stand at once.
-pub(crate) const MAX_CALLS: usize = 256;
+const MAX_CALLS: usize = 256;
 
 /// What phrases see beside their operands. The line numbers of the standing calls are not borrowed.
 #[derive(Clone, Copy)]
@@ -49,6 +49,14 @@ fn origin_in(array: &Array) -> Origin
 }
 
 impl<'a> Scene<'a> {
+    /// Whether another call or execute may stand above those that do.
+    #[inline(always)]
+    pub fn has_room(self) -> bool
+        ensures { result ≡ nat_lt self.entry.standing 256 }
+    {
+        self.standing < MAX_CALLS
+    }
+
     /// The index origin in force.
     pub fn origin(self) -> Origin
         ensures { origin_number result ≡ origin_by (found self.entry.names.now origin_name) (origin_number self.entry.io) }

@@ -24,7 +24,7 @@ abbrev pub number_in : Result Played PlayError → ℕ
 number_in (Ok played) = 0
 number_in (Err e) = play_number e
 
--- bytes at the front of a buffer, which keeps what it held behind them
+-- bytes at the start of a buffer, which keeps what it held behind them
 abbrev pub laid : List ℕ → List ℕ → List ℕ
 laid bytes buffer = bytes ++ drop (length bytes) buffer
 

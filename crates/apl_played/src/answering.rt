@@ -52,13 +52,13 @@ fn number_in(outcome: &Result<Played, PlayError>) -> u8
     }
 }
 
-/// Lays bytes at the front of a buffer.
+/// Lays bytes at the start of a buffer.
 fn lay(bytes: &[u8], buffer: &mut [u8])
     requires { length bytes.now ≤ length buffer.old }
     ensures { buffer.new ≡ laid bytes.now buffer.old }
 {
-    let (front, _) = buffer.split_at_mut(bytes.len());
-    front.copy_from_slice(bytes);
+    let (prefix, _) = buffer.split_at_mut(bytes.len());
+    prefix.copy_from_slice(bytes);
 }
 
 /// Lays what a call comes to into the buffers, if both have room.
@@ -89,7 +89,7 @@ fn lay_outcome(
     }
 }
 
-/// Plays lines on a workspace, as [`play`] does, and lays the transcript and the file of the workspace after them at the fronts of
+/// Plays lines on a workspace, as [`play`] does, and lays the transcript and the file of the workspace after them at the starts of
 /// two buffers. The answer tells the sizes of both whether they have room or not. Where one has none, its number is 9 and both
 /// buffers are as before: the call may be made again with larger ones, since it depends on its bytes alone. Where lines are
 /// refused, the transcript of those before lies in the buffer, and there is no workspace.

@@ -4,7 +4,7 @@ ghost use Rattle.std.specs.Prelude.{◌≡◌, ◌++◌, [], take, IfOk, OnOk, O
 use apl_devices::{Failed, Sink, Source};
 use std::alloc::Global;
 
-/// Bytes that are read from their front. They never fail.
+/// Bytes that are read from their start. They never fail.
 #[derive(Drop)]
 pub struct Input<'a> {
     left: &'a [u8],
@@ -31,8 +31,8 @@ impl<'a> Source for Input<'a> {
     fn read(&mut self, buffer: &mut [u8]) -> Result<usize, Failed> {
         let count = self.left.len().min(buffer.len());
         let (moved, rest) = self.left.split_at(count);
-        let (front, _) = buffer.split_at_mut(count);
-        front.copy_from_slice(moved);
+        let (prefix, _) = buffer.split_at_mut(count);
+        prefix.copy_from_slice(moved);
         self.left = rest;
         Ok(count)
     }

@@ -5,10 +5,9 @@ ghost use Rattle.apl_parts.specs.Taken.{parts_of};
 use crate::same::are_same;
 use apl_machine::{Machine, Parts};
 use std::alloc::AllocError;
-use std::fmt;
 
 /// The first of what two machines have that differs.
-#[derive(Clone, Copy, Debug, PartialEq, Eq)]
+#[derive(Clone, Copy)]
 pub enum Difference {
     /// Output where there is none.
     Output,
@@ -24,16 +23,17 @@ pub enum Difference {
     Contexts,
 }
 
-impl fmt::Display for Difference {
-    fn fmt<W: fmt::Write>(&self, f: &mut fmt::Formatter<W>) -> fmt::Result {
-        f.write_str(match self {
+impl Difference {
+    /// What is told of it.
+    pub fn as_str(self) -> &'static str {
+        match self {
             Difference::Output => "output",
             Difference::File => "saved file",
             Difference::Functions => "list of functions",
             Difference::Variables => "list of variables",
             Difference::Origin => "index origin",
             Difference::Contexts => "list of contexts",
-        })
+        }
     }
 }
 

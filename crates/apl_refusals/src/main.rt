@@ -23,7 +23,7 @@ use std::io::{self, Read};
 use std::process::ExitCode;
 
 /// What is wrong with a call, most often after it was refused its memory.
-#[derive(Clone, Copy, Debug, PartialEq, Eq)]
+#[derive(Clone, Copy)]
 enum Wrong {
     /// It is refused for something else.
     Answered,
@@ -51,13 +51,13 @@ impl From<Unmade> for Wrong {
 }
 
 impl Wrong {
-    /// Tells it on standard error.
-    fn report<R: Eprint>(self, rt: &R) -> io::Result<()> {
+    /// What is told of it, and the difference that stands behind that.
+    fn told(self) -> (&'static str, &'static str) {
         match self {
-            Wrong::Answered => eprintln!(rt; "the call is refused, and not because memory ran out"),
-            Wrong::Refused => eprintln!(rt; "memory runs out a second time"),
-            Wrong::Changed(what) => eprintln!(rt; "the refused call has changed {what}"),
-            Wrong::Strayed(what) => eprintln!(rt; "made again, the call gives another {what}"),
+            Wrong::Answered => ("the call is refused, and not because memory ran out", ""),
+            Wrong::Refused => ("memory runs out a second time", ""),
+            Wrong::Changed(what) => ("the refused call has changed ", what.as_str()),
+            Wrong::Strayed(what) => ("made again, the call gives another ", what.as_str()),
         }
     }
 }
@@ -153,14 +153,16 @@ fn compare_end(alloc: Global, input: &[u8], player: &Player<'_>) -> Result<(), W
     }
 }
 
-/// Tells what is wrong, and where in the session.
+/// Tells what is wrong, and where in the session, on standard error.
 fn blame<R: Eprint>(rt: &R, player: &Player<'_>, wrong: Wrong) -> Ended {
-    let _ = eprint!(rt;
-        "apl_refusals: behind line {}, step {}: ",
+    let (wrong, what) = wrong.told();
+    let _ = eprintln!(rt;
+        "apl_refusals: behind line {}, step {}: {}{}",
         player.line(),
-        player.steps()
+        player.steps(),
+        wrong,
+        what
     );
-    let _ = wrong.report(rt);
     Ended::Wrong
 }
 

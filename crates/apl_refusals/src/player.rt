@@ -13,7 +13,7 @@ use std::alloc::{AllocError, Global};
 pub const STEPS: u64 = 1000;
 
 /// A call of a session.
-#[derive(Clone, Copy, Debug)]
+#[derive(Clone, Copy)]
 enum Call {
     /// The line that is due is typed.
     Line,
@@ -43,7 +43,7 @@ fn make(session: &mut Session, call: Call, line: &[u8]) -> Result<(), AllocError
 }
 
 /// A call that is due.
-#[derive(Clone, Copy, Debug)]
+#[derive(Clone, Copy)]
 enum Due {
     /// One of the session.
     Session(Call),
@@ -68,7 +68,7 @@ fn first_line(text: &[u8]) -> (&[u8], &[u8]) {
         Some(end) => {
             let (line, rest) = text.split_at(end);
             match line.split_last() {
-                Some((b'\r', front)) => (front, &rest[1..]),
+                Some((b'\r', prefix)) => (prefix, &rest[1..]),
                 _ => (line, &rest[1..]),
             }
         }

@@ -4,7 +4,6 @@ use apl_workspace::{LoadError, SaveError};
 use std::alloc::AllocError;
 
 /// Why a call isn't made. All is as before it.
-#[derive(Clone, Copy, Debug, PartialEq, Eq)]
 pub enum Unmade {
     /// It was refused its memory.
     Memory,

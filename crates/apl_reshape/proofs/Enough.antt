@@ -50,7 +50,7 @@ taken_within (n ∷ s) (z ∷ zs) zero h l = at (is_negative z) (leb-true (unsig
     at false e = omega arith
 taken_within (n ∷ s) (z ∷ zs) (suc k) h l = taken_within s zs k (both (nat_le (unsigned_abs z) n) (has_enough s (map unsigned_abs zs)) h).1 (omega arith)
 
--- the element that is taken for an index stands as far behind the front
+-- the element that is taken for an index stands as far behind the start
 index_taken : (n : ℕ) (z : ℤ) (i : ℕ) → unsigned_abs z ≤ n → i < unsigned_abs z → (taken_index n z i ≡ i + taken_front n z) × (i + taken_front n z < n)
 index_taken n z i h l = at (is_negative z)
   where

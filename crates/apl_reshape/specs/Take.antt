@@ -43,15 +43,15 @@ on_axes f (n ∷ ns) (z ∷ zs) (i ∷ is) = f n z i ∷ on_axes f ns zs is
 abbrev pub place_from_end : ℕ → ℕ → ℕ → ℕ
 place_from_end n wanted i = if nat_le wanted (i + n) then i + n - wanted else n
 
--- of an axis of n elements, the one that is the i-th of so many from the front or from the end
+-- of an axis of n elements, the one that is the i-th of so many from the start or from the end
 abbrev pub place_taken : Bool → ℕ → ℕ → ℕ → ℕ
 place_taken from_end n wanted i = if from_end then place_from_end n wanted i else i
 
--- so many items of a list, from the front or from the end, with fills where there are too few
+-- so many items of a list, from the start or from the end, with fills where there are too few
 abbrev pub line_taken : {A : Type 0} → Bool → ℕ → List A → A → List A
 line_taken from_end wanted xs fill = all_at xs (place_taken from_end (length xs) wanted) (range_with_len 0 wanted) fill
 
--- of an axis of n elements, the one that is taken i-th: from the front, or so that the last is taken last; n or more where there is none
+-- of an axis of n elements, the one that is taken i-th: from the start, or so that the last is taken last; n or more where there is none
 abbrev pub taken_index : ℕ → ℤ → ℕ → ℕ
 taken_index n z i = place_taken (is_negative z) n (unsigned_abs z) i
 
@@ -72,7 +72,7 @@ found_or_filled s (Characters cs) g is = Characters (map (λ i. element_or s cs 
 abbrev pub taken_for : List ℕ → List ℤ → Items → List (List ℕ) → Items
 taken_for s zs items is = found_or_filled s items (on_axes taken_index s zs) is
 
--- so many elements along each axis, from the front or from the end, with fills where there are too few
+-- so many elements along each axis, from the start or from the end, with fills where there are too few
 abbrev pub taken_by : List ℤ → Arr → Arr
 taken_by zs b = let s = map unsigned_abs zs in record { shape = s; items = taken_for b.shape zs b.items (indices s) }
 
@@ -83,7 +83,7 @@ taken a b = and_then (named_counts a b.shape) (λ zs. ok_map (λ ok. taken_by zs
 abbrev pub left_length : ℕ → ℤ → ℕ
 left_length n z = n - unsigned_abs z
 
--- how many of an axis are dropped from its front
+-- how many of an axis are dropped from its start
 abbrev pub left_from : ℕ → ℤ → ℕ
 left_from n z = if is_negative z then 0 else min (unsigned_abs z) n
 
@@ -103,7 +103,7 @@ added (n ∷ ns) (i ∷ is) = (i + n) ∷ added ns is
 abbrev pub part : List ℕ → List ℕ → Arr → Arr
 part froms lens b = selected b lens (added froms)
 
--- what is left without so many elements along each axis, from the front or from the end
+-- what is left without so many elements along each axis, from the start or from the end
 abbrev pub dropped_by : List ℤ → Arr → Arr
 dropped_by zs b = part (each_axis left_from b.shape zs) (each_axis left_length b.shape zs) b
 

@@ -70,7 +70,7 @@ fn push_last<T: Copy>(
     Ok(())
 }
 
-/// Appends so many of these items from the front or from the end, with fills where there are too few.
+/// Appends so many of these items from the start or from the end, with fills where there are too few.
 fn push_line<T: Copy>(
     out: &mut Vec<T>,
     items: &[T],

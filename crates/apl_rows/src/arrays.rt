@@ -9,35 +9,21 @@
 
 use crate::page::Page;
 use crate::words::{count, find, next_part};
-use crate::writing::{write_cells, write_found, write_value};
+use crate::writing::{write_cell, write_cells};
 use apl_arrays::{Array, Ravel, within_limits};
 use apl_scalar::Dyadic;
 use arrayvec::ArrayVec;
-
-/// Writes the copy of an array.
-fn write_copy(page: &mut Page, array: &Array) {
-    match array.copy() {
-        Ok(copy) => write_value(page, Some(&copy)),
-        Err(error) => page.refuse(&error),
-    }
-}
 
 /// Writes an array as its copy, and its elements.
 fn write_array_of(page: &mut Page, text: &str) {
     let Some(array) = page.array(text) else {
         return;
     };
-    write_copy(page, &array);
+    page.answer(array.copy());
     page.said("rank ", &array.rank());
     page.mark(',');
     let cells = page.list(array.iter().collect(page.alloc));
     write_cells(page, &cells);
-}
-
-/// Writes the element of an array at an index list.
-fn write_element(page: &mut Page, array: &Array, text: &str) {
-    let index = page.counts(text);
-    write_found(page, array.at(&index));
 }
 
 /// Writes the elements of an array at index lists.
@@ -47,7 +33,8 @@ fn write_elements(page: &mut Page, text: &str) {
         return;
     };
     for part in text.split('◊') {
-        write_element(page, &array, part);
+        let index = page.counts(part);
+        write_cell(page, array.at(&index));
     }
     page.end();
 }
@@ -55,10 +42,7 @@ fn write_elements(page: &mut Page, text: &str) {
 /// Writes whether an array may have a shape.
 fn write_limits(page: &mut Page, text: &str) {
     let shape = page.counts(text);
-    match within_limits(&shape) {
-        Ok(()) => page.line("within"),
-        Err(fault) => page.refuse(&fault),
-    }
+    page.done_as(within_limits(&shape), "within");
 }
 
 /// Writes the array of no characters whose axes are of the length 0 and another.
@@ -66,23 +50,22 @@ fn write_empty(page: &mut Page, text: &str) {
     let mut shape = ArrayVec::new();
     shape.push(0);
     shape.push(count(text));
-    match Array::new(page.alloc, shape, Ravel::Chars(Vec::new(page.alloc))) {
-        Ok(array) => write_value(page, Some(&array)),
-        Err(fault) => page.refuse(&fault),
-    }
+    let none = Ravel::Chars(Vec::new(page.alloc));
+    page.answer(Array::new(page.alloc, shape, none));
 }
 
-/// The arrays on both sides of a mark.
-fn two(page: &mut Page, text: &str) -> Option<(Array, Array)> {
-    let (first, second) = next_part(text);
-    let first = page.array(first)?;
-    Some((first, page.array(second)?))
-}
-
-/// Writes whether two arrays are equal.
+/// Writes whether the arrays on both sides of a mark are equal.
 fn write_equal(page: &mut Page, text: &str) {
-    if let Some((a, b)) = two(page, text) {
-        page.line(if a == b { "equal" } else { "different" });
+    let (first, second) = next_part(text);
+    let Some(first) = page.array(first) else {
+        return;
+    };
+    if let Some(second) = page.array(second) {
+        page.line(if first == second {
+            "equal"
+        } else {
+            "different"
+        });
     }
 }
 
@@ -113,16 +96,11 @@ pub fn dyadic_of(word: &str) -> Option<Dyadic> {
     find(&DYADIC, word)
 }
 
-/// The slot of a text.
-fn slot(page: &mut Page, text: &str) -> Option<Array> {
-    if text == "-" { None } else { page.array(text) }
-}
-
 /// The index list whose slots stand between the marks.
 pub fn slots(page: &mut Page, text: &str) -> Vec<Option<Array>> {
     let mut slots = Vec::new(page.alloc);
     for part in text.split('◊') {
-        let slot = slot(page, part);
+        let slot = if part == "-" { None } else { page.array(part) };
         page.add(&mut slots, slot);
     }
     slots

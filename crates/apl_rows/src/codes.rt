@@ -8,7 +8,7 @@
 //! | `again LISTING` | the listing of the code that is listed |
 //! | `cache ACT◊..` | `keep CLASSES TEXT`, `look CLASSES TEXT`, `first N`: lines of a cache, the last ones the numbers from 0 on |
 
-use crate::page::Page;
+use crate::page::{Page, Shown};
 use crate::words::{count, next_word, number};
 use apl_charset::Ch;
 use apl_code::Code;
@@ -33,36 +33,27 @@ pub fn bound_line(page: &mut Page, text: &str) -> Option<Bound> {
     page.kept(answer)
 }
 
-/// Writes the listing of a code.
-pub fn write_code(page: &mut Page, code: &Code) {
-    match listing(page.alloc, code) {
-        Ok(text) => page.bytes(&text),
-        Err(error) => page.refuse(&error),
+/// A code as its listing.
+impl Shown for Code {
+    fn show_on(&self, page: &mut Page) {
+        let listed = listing(page.alloc, self);
+        if let Some(text) = page.kept(listed) {
+            page.bytes(&text);
+        }
     }
 }
 
 /// Writes the listing of the code of classes and a text.
 fn write_listing_of(page: &mut Page, text: &str) {
     if let Some(bound) = bound_line(page, text) {
-        match translate(page.alloc, &bound) {
-            Ok(code) => write_code(page, &code),
-            Err(error) => page.refuse(&error),
-        }
-    }
-}
-
-/// Writes the listing of what a text lists.
-fn write_assembled_again(page: &mut Page, text: &[u8]) {
-    match assemble(page.alloc, text) {
-        Ok(code) => write_code(page, &code),
-        Err(error) => page.refuse(&error),
+        page.answer(translate(page.alloc, &bound));
     }
 }
 
 /// Writes the listing of what a listing lists.
 fn write_again(page: &mut Page, text: &str) {
     let text = page.bytes_of(text);
-    write_assembled_again(page, &text);
+    page.answer(assemble(page.alloc, &text));
 }
 
 /// The code that a text lists.
@@ -88,21 +79,15 @@ fn write_empty_slots(page: &mut Page, slots: &[bool]) {
     page.end();
 }
 
-/// Writes the kinds of operands, a line each.
-fn write_kind_list(page: &mut Page, kinds: &[Kind]) {
-    for kind in kinds {
-        match kind {
-            Kind::Value => page.line("value"),
-            Kind::Slots(slots) => write_empty_slots(page, slots.as_slice()),
+/// The kinds of operands, a line each.
+impl Shown for Vec<Kind> {
+    fn show_on(&self, page: &mut Page) {
+        for kind in self {
+            match kind {
+                Kind::Value => page.line("value"),
+                Kind::Slots(slots) => write_empty_slots(page, slots.as_slice()),
+            }
         }
-    }
-}
-
-/// Writes what so many instructions of a code leave on the operand stack.
-fn write_kinds_after(page: &mut Page, code: &Code, done: usize) {
-    match kinds(page.alloc, code, done) {
-        Ok(kinds) => write_kind_list(page, &kinds),
-        Err(error) => page.refuse(&error),
     }
 }
 
@@ -110,26 +95,24 @@ fn write_kinds_after(page: &mut Page, code: &Code, done: usize) {
 fn write_kinds(page: &mut Page, text: &str) {
     let (number, text) = next_word(text);
     if let Some(code) = assembled(page, text) {
-        write_kinds_after(page, &code, count(number));
+        page.answer(kinds(page.alloc, &code, count(number)));
     }
 }
 
 /// Lets a cache translate the line of classes and a text.
 fn keep(page: &mut Page, cache: &mut Cache, text: &str) {
-    let Some(bound) = bound_line(page, text) else {
-        return;
-    };
-    if let Err(error) = cache.translate(&bound) {
-        page.refuse(&error);
+    if let Some(bound) = bound_line(page, text) {
+        let done = cache.translate(&bound);
+        page.kept(done);
     }
 }
 
 /// Lets a cache translate the lines that are numbers, so many from 0 on.
 fn keep_numbers(page: &mut Page, cache: &mut Cache, most: u64) {
     for number in 0..most {
-        match format!(in page.alloc; "- {number}") {
-            Ok(text) => keep(page, cache, text.as_str()),
-            Err(error) => page.refuse(&error),
+        let text = format!(in page.alloc; "- {number}");
+        if let Some(text) = page.kept(text) {
+            keep(page, cache, text.as_str());
         }
     }
 }

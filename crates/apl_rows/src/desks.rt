@@ -73,9 +73,7 @@ fn drive(page: &mut Page, desk: &mut Desk, pairs: &[(usize, Event)]) {
     if !are_there(pairs, desk.len()) {
         return page.unknown();
     }
-    if let Err(error) = desk.drive(pairs) {
-        page.refuse(&error);
-    }
+    page.done(desk.drive(pairs));
 }
 
 /// Writes whether a session is there, and whether it runs.
@@ -88,14 +86,6 @@ fn write_state(page: &mut Page, desk: &Desk, number: usize) {
     }
 }
 
-/// Writes what a session is doing, and its output.
-fn write_session(page: &mut Page, desk: &mut Desk, number: usize) {
-    write_state(page, desk, number);
-    if number < desk.len() {
-        write_output(page, &desk.take_output(number));
-    }
-}
-
 /// Writes what each session of a desk came to by its events, and how many there are.
 fn write_beside(page: &mut Page, text: &str) {
     let (sessions, text) = next_word(text);
@@ -105,7 +95,10 @@ fn write_beside(page: &mut Page, text: &str) {
     };
     drive(page, &mut desk, &pairs);
     for number in 0..desk.len() + 1 {
-        write_session(page, &mut desk, number);
+        write_state(page, &desk, number);
+        if number < desk.len() {
+            write_output(page, &desk.take_output(number));
+        }
     }
     page.count(&desk.into_sessions().len(), " sessions");
 }

@@ -6,62 +6,47 @@
 //! | `define HEADER◊LINE◊..` | the function's header, its class and its labels, or the error's number and the line |
 //! | `many N HEADER◊LINE◊LAST` | the same as of `define`, where N lines are alike; there is no last one where that is empty |
 
-use crate::page::Page;
+use crate::page::{Page, Shown};
 use crate::words::{count, next_part, next_word};
 use crate::writing::write_class;
 use apl_charset::Text;
 use apl_defn::{Definition, Header, canonical, define, header};
 
-/// Writes a header as it is shown.
-fn write_canonical(page: &mut Page, header: &Header) {
-    match canonical(page.alloc, header) {
-        Ok(text) => page.text('|', text.as_slice()),
-        Err(error) => page.refuse(&error),
+/// A header as it is written.
+impl Shown for Header {
+    fn show_on(&self, page: &mut Page) {
+        page.answer(canonical(page.alloc, self));
     }
 }
 
-/// Writes the copy of a header as it is shown.
-fn write_header_copy(page: &mut Page, header: &Header) {
-    match header.copy(page.alloc) {
-        Ok(copy) => write_canonical(page, &copy),
-        Err(error) => page.refuse(&error),
-    }
-}
-
-/// Writes the header that a text is.
+/// Writes the copy of the header that a text is.
 fn write_header(page: &mut Page, text: &str) {
     let text = page.characters(text);
-    match header(page.alloc, &text) {
-        Ok(header) => write_header_copy(page, &header),
-        Err(error) => page.refuse(&error),
+    let answer = header(page.alloc, &text);
+    if let Some(header) = page.kept(answer) {
+        page.answer(header.copy(page.alloc));
     }
 }
 
-/// The function that the lines between the marks define.
-pub fn definition_of(page: &mut Page, text: &str) -> Option<Definition> {
-    let lines = page.parts(text);
-    let answer = define(page.alloc, lines);
-    page.kept(answer)
-}
-
-/// Writes the header of a function, its class, how many lines it has, and its labels, each with the number of its line.
-fn write_definition(page: &mut Page, definition: &Definition) {
-    write_canonical(page, definition.header());
-    write_class(page, definition.class());
-    page.put(" of ");
-    page.count(&definition.len(), " lines");
-    for (name, line) in definition.labels() {
-        page.named("label ", name.as_slice());
-        page.said("at ", line);
-        page.end();
+/// The header of a function, its class, how many lines it has, and its labels, each with the number of its line.
+impl Shown for Definition {
+    fn show_on(&self, page: &mut Page) {
+        self.header().show_on(page);
+        write_class(page, self.class());
+        page.said(" of ", &self.len());
+        page.line(" lines");
+        for (name, line) in self.labels() {
+            page.named("label ", name.as_slice());
+            page.said("at ", line);
+            page.end();
+        }
     }
 }
 
 /// Writes the function that lines define.
 fn write_defined(page: &mut Page, text: &str) {
-    if let Some(definition) = definition_of(page, text) {
-        write_definition(page, &definition);
-    }
+    let lines = page.parts(text);
+    page.answer(define(page.alloc, lines));
 }
 
 /// Adds the text of a line.
@@ -88,10 +73,7 @@ fn many_lines(page: &mut Page, count: usize, text: &str) -> Vec<Text> {
 fn write_many(page: &mut Page, text: &str) {
     let (number, text) = next_word(text);
     let lines = many_lines(page, count(number), text);
-    match define(page.alloc, lines) {
-        Ok(definition) => write_definition(page, &definition),
-        Err(error) => page.refuse(&error),
-    }
+    page.answer(define(page.alloc, lines));
 }
 
 /// Does what a line asks for, if its word is one of these.

@@ -1,9 +1,9 @@
 //! Looks at a machine.
 
-use crate::codes::{bound_line, write_code};
-use crate::page::Page;
+use crate::codes::bound_line;
+use crate::page::{Page, Shown};
 use crate::words::count;
-use crate::writing::{write_class, write_objects, write_operands, write_value};
+use crate::writing::{write_class, write_operands, write_value};
 use apl_debug::{state_indicator, stops, traces};
 use apl_machine::{Level, Machine};
 use apl_symbols::Name;
@@ -14,7 +14,7 @@ use apl_workspace::{load, save};
 fn write_frame(page: &mut Page, machine: &Machine, text: &str) {
     match machine.frame(count(text)) {
         Some(frame) => {
-            write_code(page, frame.code);
+            frame.code.show_on(page);
             page.count(&frame.done, " done");
             write_operands(page, frame.operands);
         }
@@ -44,28 +44,14 @@ fn write_vector(page: &mut Page, word: &str, lines: Option<&[usize]>) {
     page.end();
 }
 
-/// Writes standing calls, a line each.
-fn write_calls(page: &mut Page, levels: &[Level]) {
-    for level in levels {
-        page.named("", level.name.as_slice());
-        page.said("at ", &level.line);
-        page.line(if level.suspended { ", suspended" } else { "" });
-    }
-}
-
-/// Writes the standing calls, newest first.
-fn write_levels(page: &mut Page, machine: &Machine) {
-    match state_indicator(machine) {
-        Ok(levels) => write_calls(page, &levels),
-        Err(error) => page.refuse(&error),
-    }
-}
-
-/// Writes the global names, each with what it is.
-fn write_globals(page: &mut Page, machine: &Machine) {
-    match machine.globals() {
-        Ok(names) => write_objects(page, &names, '\n'),
-        Err(error) => page.refuse(&error),
+/// Standing calls, a line each.
+impl Shown for Vec<Level> {
+    fn show_on(&self, page: &mut Page) {
+        for level in self {
+            page.named("", level.name.as_slice());
+            page.said("at ", &level.line);
+            page.line(if level.suspended { ", suspended" } else { "" });
+        }
     }
 }
 
@@ -75,44 +61,39 @@ fn write_cached(page: &mut Page, machine: &Machine, text: &str) {
         return;
     };
     match machine.cache().cached(&bound) {
-        Some(code) => write_code(page, code),
+        Some(code) => code.show_on(page),
         None => page.line("not kept"),
     }
 }
 
 /// Writes the file that the workspace is saved as.
 fn write_saved(page: &mut Page, machine: &Machine) {
-    match save(page.alloc, machine) {
-        Ok(bytes) => page.bytes(&bytes),
-        Err(error) => page.refuse(&error),
+    let saved = save(page.alloc, machine);
+    if let Some(bytes) = page.kept(saved) {
+        page.bytes(&bytes);
     }
 }
 
 /// Writes whether a text is a workspace file, or why it is none.
 fn write_loaded(page: &mut Page, text: &str) {
-    match load(page.alloc, text.as_bytes()) {
-        Ok(_) => page.line("loaded"),
-        Err(error) => page.refuse(&error),
+    let loaded = load(page.alloc, text.as_bytes());
+    if page.kept(loaded).is_some() {
+        page.line("loaded");
     }
 }
 
-/// Looks at what a name stands for.
-fn look(page: &mut Page, machine: &Machine, word: &str, name: &Name) {
-    match word {
-        "value" => write_value(page, machine.value(name)),
-        "class" => write_class_of(page, machine, name),
-        "watched" => {
-            write_vector(page, "stops: ", stops(machine, name));
-            write_vector(page, "traces: ", traces(machine, name));
-        }
-        _ => page.unknown(),
-    }
-}
-
-/// The same for the name of a text.
+/// Looks at what the name of a text stands for.
 fn look_at(page: &mut Page, machine: &Machine, word: &str, text: &str) {
-    if let Some(name) = page.name(text) {
-        look(page, machine, word, &name);
+    let Some(name) = page.name(text) else {
+        return;
+    };
+    match word {
+        "value" => write_value(page, machine.value(&name)),
+        "class" => write_class_of(page, machine, &name),
+        _ => {
+            write_vector(page, "stops: ", stops(machine, &name));
+            write_vector(page, "traces: ", traces(machine, &name));
+        }
     }
 }
 
@@ -121,8 +102,8 @@ pub fn play(page: &mut Page, machine: &Machine, word: &str, text: &str) -> bool 
     match word {
         "frame" => write_frame(page, machine, text),
         "value" | "class" | "watched" => look_at(page, machine, word, text),
-        "levels" => write_levels(page, machine),
-        "globals" => write_globals(page, machine),
+        "levels" => page.answer(state_indicator(machine)),
+        "globals" => page.answer(machine.globals()),
         "cached" => write_cached(page, machine, text),
         "save" => write_saved(page, machine),
         "load" => write_loaded(page, text),

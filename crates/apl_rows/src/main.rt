@@ -60,11 +60,11 @@ impl From<io::Error> for Ended {
 /// Plays a line, and writes what comes of it.
 fn play_line<R: Print>(rt: &R, player: &mut Player, line: &str) -> Result<(), Ended> {
     player.play(line);
-    if player.page.is_short() {
+    if player.page.is_short {
         return Err(Ended::Memory);
     }
-    print!(rt; "{}", player.page.as_str())?;
-    player.page.clear();
+    print!(rt; "{}", player.page.text.as_str())?;
+    player.page.text.clear();
     Ok(())
 }
 

@@ -4,11 +4,11 @@
 //! |---|---|
 //! | `names ACT◊..` | `assign NAME N`; `number NAME N`, over what it stands for; `enter LOCAL..`, each a name, `NAME:N` for a label or `NAME:∇` for a function; `bind LOCAL`; `leave`; `leave_with NAME`; `function NAME HEADER`; `erase NAME`; `clear`; and looks: `look NAME`, `global NAME`, `local NAME`, `scope K NAME`, `globals`, `depth` |
 
-use crate::functions::definition_of;
 use crate::page::Page;
 use crate::words::{count, element, next_word};
-use crate::writing::{write_class, write_objects, write_value};
+use crate::writing::{write_class, write_value};
 use apl_arrays::Array;
+use apl_defn::define;
 use apl_names::{Binding, DefinedFunction, Names};
 use apl_symbols::Name;
 
@@ -17,13 +17,13 @@ fn write_binding(page: &mut Page, binding: Option<&Binding>) {
     match binding {
         Some(Binding::Unset) => page.line("unset"),
         Some(Binding::Label(line)) => {
-            page.put("label ");
-            page.count(line, "");
+            page.said("label ", line);
+            page.end();
         }
         Some(Binding::Value(value)) => write_value(page, Some(value)),
         Some(Binding::Function(function)) => {
-            page.put("function of ");
-            page.count(&function.definition().len(), " lines");
+            page.said("function of ", &function.definition().len());
+            page.line(" lines");
         }
         None => page.line("nothing"),
     }
@@ -37,9 +37,11 @@ fn write_looked_up(page: &mut Page, names: &Names, name: &Name) {
     write_value(page, names.lookup(name));
 }
 
-/// The function of a header and lines.
+/// The function of a header.
 fn function_of(page: &mut Page, text: &str) -> Option<DefinedFunction> {
-    let definition = definition_of(page, text)?;
+    let lines = page.parts(text);
+    let answer = define(page.alloc, lines);
+    let definition = page.kept(answer)?;
     let answer = DefinedFunction::new(page.alloc, definition);
     page.kept(answer)
 }
@@ -61,81 +63,38 @@ fn local_in(page: &mut Page, word: &str) -> Option<(Name, Binding)> {
     Some((name, local))
 }
 
-/// Makes a local stand in the newest scope.
-fn bind(page: &mut Page, names: &mut Names, name: &Name, binding: Binding) {
-    if let Err(error) = names.bind(name, binding) {
-        page.refuse(&error);
-    }
-}
-
-/// The same for the local of a word.
-fn bind_word(page: &mut Page, names: &mut Names, word: &str) {
+/// Makes the local of a word stand in the newest scope.
+fn bind(page: &mut Page, names: &mut Names, word: &str) {
     if let Some((name, binding)) = local_in(page, word) {
-        bind(page, names, &name, binding);
+        page.done(names.bind(&name, binding));
     }
-}
-
-/// The locals of a text, in their order.
-fn locals_in(page: &mut Page, text: &str) -> Vec<(Name, Binding)> {
-    let mut locals = Vec::new(page.alloc);
-    for word in text.split_whitespace() {
-        if let Some(local) = local_in(page, word) {
-            page.add(&mut locals, local);
-        }
-    }
-    locals
 }
 
 /// Adds a scope that has the locals of a text, made last first as those of a call are.
 fn enter(page: &mut Page, names: &mut Names, text: &str) {
-    let mut locals = locals_in(page, text);
-    locals.reverse();
-    if let Err(error) = names.open() {
-        page.refuse(&error);
-        return;
-    }
-    for (name, binding) in locals {
-        bind(page, names, &name, binding);
-    }
-}
-
-/// Gives a name a number over what it stands for, and writes whether it took one.
-fn put_number(page: &mut Page, names: &mut Names, name: &Name, text: &str) {
-    if names.put_number(name, element(text)) {
-        page.line("put");
-    } else {
-        page.line("not put");
-    }
-}
-
-/// Gives a name a number.
-fn assign(page: &mut Page, names: &mut Names, name: &Name, text: &str) {
-    if let Err(error) = names.assign(name, Array::number(element(text))) {
-        page.refuse(&error);
+    page.done(names.open());
+    for word in text.rsplit(' ') {
+        bind(page, names, word);
     }
 }
 
 /// Makes a name a function.
-fn define(page: &mut Page, names: &mut Names, name: &Name, text: &str) {
-    let Some(function) = function_of(page, text) else {
-        return;
-    };
-    if let Err(error) = names.function(name, function) {
-        page.refuse(&error);
+fn make_function(page: &mut Page, names: &mut Names, name: &Name, text: &str) {
+    if let Some(function) = function_of(page, text) {
+        page.done(names.function(name, function));
     }
-}
-
-/// Takes the newest scope away, and writes the value of a name in it.
-fn leave_with(page: &mut Page, names: &mut Names, name: &Name) {
-    let value = names.leave_with(name);
-    write_value(page, value.as_ref());
 }
 
 /// Writes the global names, each with what it is.
 fn write_globals(page: &mut Page, names: &Names) {
-    match names.globals() {
-        Ok(globals) => write_objects(page, &globals, ' '),
-        Err(error) => page.refuse(&error),
+    let answer = names.globals();
+    for (name, is_function) in &page.list(answer) {
+        page.named("", name.as_slice());
+        page.put(if *is_function {
+            "function "
+        } else {
+            "variable "
+        });
     }
     page.end();
 }
@@ -143,10 +102,13 @@ fn write_globals(page: &mut Page, names: &Names) {
 /// Does with a name what a word asks for.
 fn act_on_name(page: &mut Page, names: &mut Names, word: &str, name: &Name, text: &str) {
     match word {
-        "assign" => assign(page, names, name, text),
-        "number" => put_number(page, names, name, text),
-        "leave_with" => leave_with(page, names, name),
-        "function" => define(page, names, name, text),
+        "assign" => page.done(names.assign(name, Array::number(element(text)))),
+        "number" => {
+            let is_put = names.put_number(name, element(text));
+            page.line(if is_put { "put" } else { "not put" });
+        }
+        "leave_with" => write_value(page, names.leave_with(name).as_ref()),
+        "function" => make_function(page, names, name, text),
         "erase" => {
             names.erase(name);
         }
@@ -178,7 +140,7 @@ fn act(page: &mut Page, names: &mut Names, part: &str) {
     let (word, text) = next_word(part);
     match word {
         "enter" => enter(page, names, text),
-        "bind" => bind_word(page, names, text),
+        "bind" => bind(page, names, text),
         "leave" => names.leave(),
         "clear" => names.clear(),
         "scope" => write_in_scope(page, names, text),

@@ -1,15 +1,37 @@
 //! What comes of rows, as it is written.
 
 use apl_charset::{Ch, Text};
+use apl_symbols::Name;
 use std::alloc::{AllocError, Global};
 use std::fmt::Display;
+
+/// What is written on a page by itself.
+pub trait Shown {
+    fn show_on(&self, page: &mut Page);
+}
+
+impl Shown for Text {
+    fn show_on(&self, page: &mut Page) {
+        page.text('|', self.as_slice());
+    }
+}
+
+/// Names, each with whether it is that of a function.
+impl Shown for Vec<(Name, bool)> {
+    fn show_on(&self, page: &mut Page) {
+        for (name, is_function) in self {
+            page.named("", name.as_slice());
+            page.line(if *is_function { "function" } else { "variable" });
+        }
+    }
+}
 
 /// What is written of a row. Where memory runs out something is left out, and the page tells so.
 #[derive(Drop)]
 pub struct Page {
     pub alloc: Global,
-    text: String,
-    is_short: bool,
+    pub text: String,
+    pub is_short: bool,
 }
 
 impl Page {
@@ -20,21 +42,6 @@ impl Page {
             text: String::new(alloc),
             is_short: false,
         }
-    }
-
-    /// What is written.
-    pub fn as_str(&self) -> &str {
-        self.text.as_str()
-    }
-
-    /// Forgets what is written.
-    pub fn clear(&mut self) {
-        self.text.clear();
-    }
-
-    /// Whether memory ran out, so that something was left out.
-    pub fn is_short(&self) -> bool {
-        self.is_short
     }
 
     /// Notes whether memory ran out.
@@ -114,18 +121,16 @@ impl Page {
         self.end();
     }
 
-    /// Writes a word and what is called so, a blank behind it.
-    pub fn named(&mut self, word: &str, name: &[Ch]) {
+    /// Writes a word and characters.
+    pub fn called(&mut self, word: &str, text: &[Ch]) {
         self.put(word);
-        self.spell(name);
-        self.mark(' ');
+        self.spell(text);
     }
 
-    /// Writes texts, a line each.
-    pub fn texts(&mut self, texts: &[Text]) {
-        for text in texts {
-            self.text('|', text.as_slice());
-        }
+    /// Writes a word and what is called so, a blank behind it.
+    pub fn named(&mut self, word: &str, name: &[Ch]) {
+        self.called(word, name);
+        self.mark(' ');
     }
 
     /// Writes a line of a text, and one that has no line feed behind another mark.
@@ -155,6 +160,29 @@ impl Page {
     /// Writes that the words of a line ask for nothing that is known.
     pub fn unknown(&mut self) {
         self.line("unknown");
+    }
+
+    /// Writes what a call answers, or why it answers nothing.
+    pub fn answer<T: Shown + Drop, E: Display + Drop>(&mut self, answer: Result<T, E>) {
+        match answer {
+            Ok(value) => value.show_on(self),
+            Err(error) => self.refuse(&error),
+        }
+    }
+
+    /// Writes why a call does nothing, if so.
+    pub fn done<E: Display + Drop>(&mut self, done: Result<(), E>) {
+        if let Err(error) = done {
+            self.refuse(&error);
+        }
+    }
+
+    /// Writes a word where a call did what it is for, or why it did nothing.
+    pub fn done_as<E: Display + Drop>(&mut self, done: Result<(), E>, word: &str) {
+        match done {
+            Ok(()) => self.line(word),
+            Err(error) => self.refuse(&error),
+        }
     }
 
     /// What a call answers; where it answers nothing, writes why.

@@ -31,23 +31,15 @@ pub fn tape_of(bytes: Vec<u8>, settings: &str) -> Tape {
     tape
 }
 
-/// Writes how a run ended, and how many of nine bytes its reader still has.
-fn write_end(page: &mut Page, end: Option<RunError>, reader: &mut Tape) {
+/// Writes what a run wrote, how it ended, and how many of nine bytes its reader still has.
+pub fn write_ran(page: &mut Page, end: Option<RunError>, reader: &mut Tape, writer: &mut Tape) {
+    page.bytes(writer.bytes());
     match end {
         Some(error) => page.show(&error),
         None => page.put("ended"),
     }
     page.put(", ");
-    match reader.read(&mut [0; 9]) {
-        Ok(count) => page.count(&count, " left"),
-        Err(Failed) => page.line("failed"),
-    }
-}
-
-/// Writes what a run wrote, how it ended, and how many of nine bytes its reader still has.
-pub fn write_ran(page: &mut Page, end: Option<RunError>, reader: &mut Tape, writer: &mut Tape) {
-    page.bytes(writer.bytes());
-    write_end(page, end, reader);
+    write_count(page, reader.read(&mut [0; 9]), " left");
 }
 
 /// Writes a run over a text on a clear workspace, whose stops are answered or end their lines.
@@ -76,10 +68,10 @@ fn write_byte(page: &mut Page, answer: Result<Option<u8>, Failed>) {
     page.put(", ");
 }
 
-/// Writes what a call of a device answers.
-fn write_count(page: &mut Page, answer: Result<usize, Failed>) {
+/// Writes how many bytes a call of a device moved, if it didn't fail.
+fn write_count(page: &mut Page, answer: Result<usize, Failed>, what: &str) {
     match answer {
-        Ok(count) => page.count(&count, " bytes"),
+        Ok(count) => page.count(&count, what),
         Err(Failed) => page.line("failed"),
     }
 }
@@ -88,13 +80,13 @@ fn write_count(page: &mut Page, answer: Result<usize, Failed>) {
 fn write_reads(page: &mut Page, settings: &str, text: &str) {
     let mut tape = tape_of(page.bytes_of(text), settings);
     write_byte(page, read_byte(&mut tape));
-    write_count(page, tape.read(&mut [0; 9]));
+    write_count(page, tape.read(&mut [0; 9]), " bytes");
 }
 
 /// Writes a text to a tape, and what the tape holds then.
 fn write_held(page: &mut Page, settings: &str, text: &str) {
-    let (front, text) = next_half(text);
-    let mut tape = tape_of(page.bytes_of(front), settings);
+    let (prefix, text) = next_half(text);
+    let mut tape = tape_of(page.bytes_of(prefix), settings);
     let text = page.bytes_of(text);
     match write_all(&mut tape, &text) {
         Ok(()) => page.line("written"),

@@ -1,6 +1,6 @@
 //! Steps, events, and lines whose stops are answered.
 
-use crate::page::Page;
+use crate::page::{Page, Shown};
 use crate::player::Player;
 use crate::typing::{feed, write_session};
 use crate::words::{next_word, number};
@@ -11,16 +11,21 @@ use apl_session::{Bytes, Event, Session};
 use std::alloc::AllocError;
 use std::mem;
 
+impl Shown for Progress {
+    fn show_on(&self, page: &mut Page) {
+        page.line(match self {
+            Progress::Idle => "Idle",
+            Progress::Stopped => "Stopped",
+            Progress::LineEnd => "LineEnd",
+            Progress::Running => "Running",
+        });
+    }
+}
+
 /// Writes what the session has written, and what steps came to.
 fn write_progress(player: &mut Player, progress: Result<Progress, AllocError>) {
     write_session(player);
-    match progress {
-        Ok(Progress::Idle) => player.page.line("Idle"),
-        Ok(Progress::Stopped) => player.page.line("Stopped"),
-        Ok(Progress::LineEnd) => player.page.line("LineEnd"),
-        Ok(Progress::Running) => player.page.line("Running"),
-        Err(error) => player.page.refuse(&error),
-    }
+    player.page.answer(progress);
 }
 
 /// Makes at most so many steps at once.
@@ -83,9 +88,8 @@ fn events_of(page: &mut Page, text: &str) -> Vec<Event> {
 /// Lets the events of a text happen, and tells whether the session runs then.
 fn drive(player: &mut Player, text: &str) {
     let events = events_of(&mut player.page, text);
-    if let Err(error) = player.session.drive(&events) {
-        player.page.refuse(&error);
-    }
+    let done = player.session.drive(&events);
+    player.page.done(done);
     write_session(player);
     let idle = player.session.machine().is_idle();
     player.page.line(if idle { "idle" } else { "running" });
@@ -97,9 +101,8 @@ fn resume(player: &mut Player, text: &str) {
     let line = player.page.bytes_of(text);
     let answer = resume_all(&mut player.session, &line, number(count));
     write_session(player);
-    match answer {
-        Ok(stops) => player.page.count(&stops, " stops"),
-        Err(error) => player.page.refuse(&error),
+    if let Some(stops) = player.page.kept(answer) {
+        player.page.count(&stops, " stops");
     }
 }
 
@@ -111,13 +114,10 @@ fn run_on(player: &mut Player) -> (u64, u64) {
         if player.session.machine().is_idle() {
             return (stops, made);
         }
-        match player.session.advance(1) {
-            Ok(Progress::Stopped) => {
-                stops = stops.saturating_add(1);
-                feed(player, "→⎕LC");
-            }
-            Ok(_) => {}
-            Err(error) => player.page.refuse(&error),
+        let stepped = player.session.advance(1);
+        if let Some(Progress::Stopped) = player.page.kept(stepped) {
+            stops = stops.saturating_add(1);
+            feed(player, "→⎕LC");
         }
     }
     (stops, player.steps)

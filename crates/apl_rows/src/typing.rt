@@ -22,18 +22,16 @@ fn count_steps(player: &mut Player) -> u64 {
         if player.session.machine().is_idle() {
             return made;
         }
-        if let Err(error) = player.session.advance(1) {
-            player.page.refuse(&error);
-        }
+        let stepped = player.session.advance(1);
+        player.page.kept(stepped);
     }
     player.steps
 }
 
 /// Abandons what runs, and writes what came of it.
 pub fn interrupt(player: &mut Player) {
-    if let Err(error) = player.session.interrupt() {
-        player.page.refuse(&error);
-    }
+    let done = player.session.interrupt();
+    player.page.done(done);
     write_session(player);
 }
 
@@ -55,9 +53,9 @@ fn feed_lines(player: &mut Player, lines: &str) {
 
 /// Defines a function: types its header behind `∇`, its lines, and `∇`.
 fn type_function(player: &mut Player, text: &str) {
-    match format!(in player.page.alloc; "∇{text}◊∇") {
-        Ok(lines) => feed_lines(player, lines.as_str()),
-        Err(error) => player.page.refuse(&error),
+    let lines = format!(in player.page.alloc; "∇{text}◊∇");
+    if let Some(lines) = player.page.kept(lines) {
+        feed_lines(player, lines.as_str());
     }
     write_session(player);
 }

@@ -11,7 +11,7 @@ ghost use Rattle.std.specs.Prelude.{◌≡◌, ◌<◌, true, All};
 use crate::arrays::{dyadic_of, slots};
 use crate::page::Page;
 use crate::words::{next_half, next_part, next_word};
-use crate::writing::{write_answer, write_cells, write_found, write_value};
+use crate::writing::{write_cell, write_cells};
 use apl_arrays::{Along, Array, Origin, View};
 use apl_operators::{inner, outer, reduce, scan};
 use apl_scalar::Dyadic;
@@ -59,12 +59,6 @@ fn turned<'a>(view: View<'a>, axes: &[usize]) -> View<'a> {
     view.turned(axes)
 }
 
-/// Writes the element of a view at an index list.
-fn write_element(page: &mut Page, view: &View<'_>, index: &[usize]) {
-    write_found(page, view.at(index));
-    page.end();
-}
-
 /// The view after what a text says is done to it; an element that is looked at is written.
 fn after<'a>(page: &mut Page, view: View<'a>, text: &str) -> View<'a> {
     let (word, text) = next_word(text);
@@ -74,7 +68,8 @@ fn after<'a>(page: &mut Page, view: View<'a>, text: &str) -> View<'a> {
         "cut" => cut_by(view, &numbers),
         "turned" => turned(view, &numbers),
         "at" => {
-            write_element(page, &view, &numbers);
+            write_cell(page, view.at(&numbers));
+            page.end();
             view
         }
         _ => view,
@@ -88,14 +83,6 @@ fn view_of<'a>(page: &mut Page, array: &'a Array, text: &str) -> View<'a> {
         view = after(page, view, part);
     }
     view
-}
-
-/// Writes the array that a view shows.
-fn write_copied(page: &mut Page, view: &View<'_>) {
-    match view.copied(page.alloc) {
-        Ok(copied) => write_value(page, Some(&copied)),
-        Err(error) => page.refuse(&error),
-    }
 }
 
 /// Writes the rank of a view, its kind, and its elements, one after another.
@@ -115,7 +102,7 @@ fn write_view_of(page: &mut Page, text: &str) {
     let (first, text) = next_part(text);
     if let Some(array) = page.array(first) {
         let view = view_of(page, &array, text);
-        write_copied(page, &view);
+        page.answer(view.copied(page.alloc));
         write_elements(page, &view);
     }
 }
@@ -127,7 +114,7 @@ fn write_along(page: &mut Page, scans: bool, function: Dyadic, along: Along<'_>,
     } else {
         reduce(page.alloc, function, along, view, Origin::One)
     };
-    write_answer(page, answer);
+    page.answer(answer);
 }
 
 /// The same along the axis that a word says.
@@ -174,7 +161,7 @@ fn write_product(page: &mut Page, fold: Option<Dyadic>, each: Dyadic, text: &str
         Some(fold) => inner(page.alloc, fold, each, &a, &b),
         None => outer(page.alloc, each, &a, &b),
     };
-    write_answer(page, answer);
+    page.answer(answer);
 }
 
 /// Writes a product, the symbols of its functions first.

@@ -1,9 +1,9 @@
 //! Arrays, operands, classes and lines of output, as they are written.
 
-use crate::page::Page;
-use apl_arrays::{Array, Cell, Elements, Stop};
+use crate::page::{Page, Shown};
+use apl_arrays::{Array, Cell, Elements};
 use apl_machine::{LineKind, Operand, OutLine, Slots};
-use apl_symbols::{Class, Name};
+use apl_symbols::Class;
 
 /// Writes lines of output; those that report a stop behind another mark.
 pub fn write_output(page: &mut Page, lines: &[OutLine]) {
@@ -18,7 +18,7 @@ pub fn write_output(page: &mut Page, lines: &[OutLine]) {
 }
 
 /// Writes an element behind a blank.
-fn write_cell(page: &mut Page, cell: Cell) {
+fn write_element(page: &mut Page, cell: Cell) {
     page.mark(' ');
     match cell {
         Cell::Num(number) => page.show(&number),
@@ -26,10 +26,10 @@ fn write_cell(page: &mut Page, cell: Cell) {
     }
 }
 
-/// Writes an element, if there is one.
-pub fn write_found(page: &mut Page, cell: Option<Cell>) {
+/// Writes an element behind a blank, if there is one.
+pub fn write_cell(page: &mut Page, cell: Option<Cell>) {
     match cell {
-        Some(cell) => write_cell(page, cell),
+        Some(cell) => write_element(page, cell),
         None => page.put(" none"),
     }
 }
@@ -37,7 +37,7 @@ pub fn write_found(page: &mut Page, cell: Option<Cell>) {
 /// Writes elements, one after another.
 pub fn write_cells(page: &mut Page, cells: &[Cell]) {
     for cell in cells {
-        write_cell(page, *cell);
+        write_element(page, *cell);
     }
     page.end();
 }
@@ -55,20 +55,19 @@ fn write_array(page: &mut Page, array: &Array) {
     }
 }
 
+/// An array as a line.
+impl Shown for Array {
+    fn show_on(&self, page: &mut Page) {
+        write_array(page, self);
+        page.end();
+    }
+}
+
 /// Writes an array, if there is one, as a line.
 pub fn write_value(page: &mut Page, value: Option<&Array>) {
     match value {
-        Some(array) => write_array(page, array),
-        None => page.put("no value"),
-    }
-    page.end();
-}
-
-/// Writes the array that a call answers.
-pub fn write_answer(page: &mut Page, answer: Result<Array, Stop>) {
-    match answer {
-        Ok(value) => write_value(page, Some(&value)),
-        Err(stop) => page.refuse(&stop),
+        Some(array) => array.show_on(page),
+        None => page.line("no value"),
     }
 }
 
@@ -103,13 +102,4 @@ pub fn write_class(page: &mut Page, class: Class) {
         Class::Niladic => "niladic",
         Class::Function => "function",
     });
-}
-
-/// Writes names, each with what it is and what stands between it and the next.
-pub fn write_objects(page: &mut Page, objects: &[(Name, bool)], between: char) {
-    for (name, is_function) in objects {
-        page.named("", name.as_slice());
-        page.put(if *is_function { "function" } else { "variable" });
-        page.mark(between);
-    }
 }

@@ -18,7 +18,7 @@ module _ {S : Type 0} (way : Way S) (order : IsInOrder way) where
       Writes result (way.unwritten (way.at_end (way.after_line s line))) tells old new
   writes-end result s t line tells old mid new e first h =
       let made : S = way.after_line s line in
-      subst (λ (text : List ℕ). Writes result text tells old new) (sym (order.end.front made))
+      subst (λ (text : List ℕ). Writes result text tells old new) (sym (order.end.prefix made))
       (writes-second result (way.unwritten made) (way.unwritten (way.at_end (way.quiet made))) tells old mid new first
       (subst (λ (u : S). Writes result (way.unwritten (way.at_end u)) tells mid new) e h))
 
@@ -27,5 +27,5 @@ module _ {S : Type 0} (way : Way S) (order : IsInOrder way) where
       Writes {A = Unit {0}} (Err e) (way.unwritten (way.at_end (way.after_line s line))) tells old new
   fails-before_end e s line tells old new h =
       let made : S = way.after_line s line in
-      subst (λ (text : List ℕ). Writes {A = Unit {0}} (Err e) text tells old new) (sym (order.end.front made))
+      subst (λ (text : List ℕ). Writes {A = Unit {0}} (Err e) text tells old new) (sym (order.end.prefix made))
       (writes-first e (way.unwritten made) (way.unwritten (way.at_end (way.quiet made))) tells old new h)

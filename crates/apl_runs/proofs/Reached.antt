@@ -171,13 +171,13 @@ module _ {S : Type 0} (way : Way S) (order : IsInOrder way) where
     in_turn = turn;
   }
 
-  -- a front of what whole lines write is one of what may be written
+  -- a prefix of what whole lines write is one of what may be written
   extends-whole : (ws : S) (taken after old new : List ℕ) → unfinished taken ≡ [] → Extends old new (transcript_of way ws (complete_lines taken)) → Extends old new (text_taken way ws taken after)
   extends-whole ws taken (b ∷ after) old new whole x = x
   extends-whole ws taken [] old new whole x =
       let lines : transcript way ws taken ≡ way.unwritten (way.at_end (after_lines way ws (complete_lines taken))) =
       ap (λ (xs : List (List ℕ)). way.unwritten (way.at_end (after_lines way ws xs))) (lines-whole taken whole) in
-      subst (λ (text : List ℕ). Extends old new text) (sym (lines ∙ order.end.front (after_lines way ws (complete_lines taken))))
+      subst (λ (text : List ℕ). Extends old new text) (sym (lines ∙ order.end.prefix (after_lines way ws (complete_lines taken))))
       (extends-first old new (transcript_of way ws (complete_lines taken)) (way.unwritten (way.at_end (way.quiet (after_lines way ws (complete_lines taken))))) x)
 
   -- A line was read,
@@ -203,7 +203,7 @@ module _ {S : Type 0} (way : Way S) (order : IsInOrder way) where
       (subst (λ (xs : List (List ℕ)). Extends old new (transcript_of way ws xs)) (sym k.lines)
       (subst (λ (text : List ℕ). Extends old new text) (sym (transcript-append way order ws s (complete_lines r.taken) (shown ∷ []) r.state))
       (extends-second old mid new before_it (transcript_of way s (shown ∷ [])) (r.wrote t) (x.1 t)))))
-      (λ t. in-turn way ws k.all old mid new (complete_lines r.taken) (shown ∷ []) (omega arith) (lines-whole k.all k.whole ∙ k.lines) (r.wrote t) (x.1 t).front (x.1 t).added)
+      (λ t. in-turn way ws k.all old mid new (complete_lines r.taken) (shown ∷ []) (omega arith) (lines-whole k.all k.whole ∙ k.lines) (r.wrote t) (x.1 t).prefix (x.1 t).added)
 
   -- Nothing is left, and these are the lines behind the complete ones.
 
@@ -237,7 +237,7 @@ module _ {S : Type 0} (way : Way S) (order : IsInOrder way) where
       (subst (λ (xs : List (List ℕ)). Extends old new (way.unwritten (way.at_end (after_lines way ws xs)))) (sym all)
       (subst (λ (text : List ℕ). Extends old new text) (sym (transcript-end way order ws s first lines r.state))
       (extends-second old mid new (transcript_of way ws first) (way.unwritten (way.at_end (after_lines way s lines))) (r.wrote t) (x.1 t)))))
-      (λ t. in-turn way ws before old mid new first lines one all (r.wrote t) (x.1 t).front (x.1 t).added)
+      (λ t. in-turn way ws before old mid new first lines one all (r.wrote t) (x.1 t).prefix (x.1 t).added)
 
   finishes : (result : Result (Unit {0}) RunError) (ws : S) (before left left' : List ℕ) (tells : Bool) (old mid new : List ℕ) (s s' : S) (count : ℕ) (lines : List (List ℕ))
       (r : Reached way ws before left tells old mid s count) → length lines ≤ 1 → lines_of before ≡ complete_lines r.taken ++ lines → IsWithinLimits before → left' ≡ [] →
@@ -286,17 +286,17 @@ module _ {S : Type 0} (way : Way S) (order : IsInOrder way) where
       new ≡ old ++ transcript_of way ws (complete_lines (taken ++ piece))
   written-complete ws taken piece old new whole p e = e ∙ ap (λ (xs : List (List ℕ)). old ++ transcript_of way ws xs) (sym (complete-piece taken piece whole p))
 
-  -- that is a front of what may be written
+  -- that is a prefix of what may be written
   written-front : (ws s : S) (taken piece after old new : List ℕ) → unfinished taken ≡ [] → IsPiece piece → s ≡ way.quiet (after_lines way ws (complete_lines taken)) →
       new ≡ old ++ transcript_of way ws (complete_lines taken) → Extends old new (text_taken way ws (taken ++ piece) after)
   written-front ws s taken piece [] old new whole p state e = record {
-    front = transcript_of way ws (complete_lines taken);
+    prefix = transcript_of way ws (complete_lines taken);
     rest = way.unwritten (way.at_end (after_lines way s (last_line piece)));
     spelled = ap (λ (xs : List (List ℕ)). way.unwritten (way.at_end (after_lines way ws xs))) (lines-piece taken piece whole p) ∙ transcript-end way order ws s (complete_lines taken) (last_line piece) state;
     added = e;
   }
   written-front ws s taken piece (b ∷ after) old new whole p state e = record {
-    front = transcript_of way ws (complete_lines (taken ++ piece));
+    prefix = transcript_of way ws (complete_lines (taken ++ piece));
     rest = [];
     spelled = sym (append-nil (transcript_of way ws (complete_lines (taken ++ piece))));
     added = written-complete ws taken piece old new whole p e;

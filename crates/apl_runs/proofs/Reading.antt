@@ -7,51 +7,51 @@ use Rattle.apl_runs.specs.Transcript.{ended, ended_behind, unfinished, unfinishe
 abbrev pub Unbroken : List ℕ → Type 0
 Unbroken piece = list_all (λ b. not (b == 10)) piece ≡ true
 
-ended-test : (t : Bool) (b : ℕ) (front piece rest : List ℕ) → not t && list_all (λ c. not (c == 10)) piece ≡ true →
-    ((front' : List ℕ) → Unbroken piece → ended_behind front' (piece ++ rest) ≡ ended_behind (front' ++ piece) rest) →
-    cond t (front ∷ ended_behind [] (piece ++ rest)) (ended_behind (front ++ b ∷ []) (piece ++ rest)) ≡ ended_behind (front ++ b ∷ piece) rest
-ended-test true b front piece rest h ih = cc
-ended-test false b front piece rest h ih = ih (front ++ b ∷ []) h ∙ ap (λ (f : List ℕ). ended_behind f rest) (append_assoc front (b ∷ []) piece)
+ended-test : (t : Bool) (b : ℕ) (prefix piece rest : List ℕ) → not t && list_all (λ c. not (c == 10)) piece ≡ true →
+    ((prefix' : List ℕ) → Unbroken piece → ended_behind prefix' (piece ++ rest) ≡ ended_behind (prefix' ++ piece) rest) →
+    cond t (prefix ∷ ended_behind [] (piece ++ rest)) (ended_behind (prefix ++ b ∷ []) (piece ++ rest)) ≡ ended_behind (prefix ++ b ∷ piece) rest
+ended-test true b prefix piece rest h ih = cc
+ended-test false b prefix piece rest h ih = ih (prefix ++ b ∷ []) h ∙ ap (λ (f : List ℕ). ended_behind f rest) (append_assoc prefix (b ∷ []) piece)
 
 -- a piece only lengthens what is begun
-ended-piece : (piece rest front : List ℕ) → Unbroken piece → ended_behind front (piece ++ rest) ≡ ended_behind (front ++ piece) rest
-ended-piece [] rest front h = ap (λ (f : List ℕ). ended_behind f rest) (sym (append-nil front))
-ended-piece (b ∷ piece) rest front h = ended-test (b == 10) b front piece rest h (λ (front' : List ℕ) (k : Unbroken piece). ended-piece piece rest front' k)
+ended-piece : (piece rest prefix : List ℕ) → Unbroken piece → ended_behind prefix (piece ++ rest) ≡ ended_behind (prefix ++ piece) rest
+ended-piece [] rest prefix h = ap (λ (f : List ℕ). ended_behind f rest) (sym (append-nil prefix))
+ended-piece (b ∷ piece) rest prefix h = ended-test (b == 10) b prefix piece rest h (λ (prefix' : List ℕ) (k : Unbroken piece). ended-piece piece rest prefix' k)
 
-unfinished-test : (t : Bool) (b : ℕ) (front piece rest : List ℕ) → not t && list_all (λ c. not (c == 10)) piece ≡ true →
-    ((front' : List ℕ) → Unbroken piece → unfinished_behind front' (piece ++ rest) ≡ unfinished_behind (front' ++ piece) rest) →
-    cond t (unfinished_behind [] (piece ++ rest)) (unfinished_behind (front ++ b ∷ []) (piece ++ rest)) ≡ unfinished_behind (front ++ b ∷ piece) rest
-unfinished-test true b front piece rest h ih = cc
-unfinished-test false b front piece rest h ih = ih (front ++ b ∷ []) h ∙ ap (λ (f : List ℕ). unfinished_behind f rest) (append_assoc front (b ∷ []) piece)
+unfinished-test : (t : Bool) (b : ℕ) (prefix piece rest : List ℕ) → not t && list_all (λ c. not (c == 10)) piece ≡ true →
+    ((prefix' : List ℕ) → Unbroken piece → unfinished_behind prefix' (piece ++ rest) ≡ unfinished_behind (prefix' ++ piece) rest) →
+    cond t (unfinished_behind [] (piece ++ rest)) (unfinished_behind (prefix ++ b ∷ []) (piece ++ rest)) ≡ unfinished_behind (prefix ++ b ∷ piece) rest
+unfinished-test true b prefix piece rest h ih = cc
+unfinished-test false b prefix piece rest h ih = ih (prefix ++ b ∷ []) h ∙ ap (λ (f : List ℕ). unfinished_behind f rest) (append_assoc prefix (b ∷ []) piece)
 
-unfinished-piece : (piece rest front : List ℕ) → Unbroken piece → unfinished_behind front (piece ++ rest) ≡ unfinished_behind (front ++ piece) rest
-unfinished-piece [] rest front h = ap (λ (f : List ℕ). unfinished_behind f rest) (sym (append-nil front))
-unfinished-piece (b ∷ piece) rest front h = unfinished-test (b == 10) b front piece rest h (λ (front' : List ℕ) (k : Unbroken piece). unfinished-piece piece rest front' k)
+unfinished-piece : (piece rest prefix : List ℕ) → Unbroken piece → unfinished_behind prefix (piece ++ rest) ≡ unfinished_behind (prefix ++ piece) rest
+unfinished-piece [] rest prefix h = ap (λ (f : List ℕ). unfinished_behind f rest) (sym (append-nil prefix))
+unfinished-piece (b ∷ piece) rest prefix h = unfinished-test (b == 10) b prefix piece rest h (λ (prefix' : List ℕ) (k : Unbroken piece). unfinished-piece piece rest prefix' k)
 
-ended-more : (t : Bool) (b : ℕ) (xs ys front : List ℕ) →
+ended-more : (t : Bool) (b : ℕ) (xs ys prefix : List ℕ) →
     ended_behind [] (xs ++ ys) ≡ ended_behind [] xs ++ ended_behind (unfinished_behind [] xs) ys →
-    ended_behind (front ++ b ∷ []) (xs ++ ys) ≡ ended_behind (front ++ b ∷ []) xs ++ ended_behind (unfinished_behind (front ++ b ∷ []) xs) ys →
-    cond t (front ∷ ended_behind [] (xs ++ ys)) (ended_behind (front ++ b ∷ []) (xs ++ ys))
-    ≡ cond t (front ∷ ended_behind [] xs) (ended_behind (front ++ b ∷ []) xs) ++ ended_behind (cond t (unfinished_behind [] xs) (unfinished_behind (front ++ b ∷ []) xs)) ys
-ended-more true b xs ys front e f = ap (λ (x : List (List ℕ)). front ∷ x) e
-ended-more false b xs ys front e f = f
+    ended_behind (prefix ++ b ∷ []) (xs ++ ys) ≡ ended_behind (prefix ++ b ∷ []) xs ++ ended_behind (unfinished_behind (prefix ++ b ∷ []) xs) ys →
+    cond t (prefix ∷ ended_behind [] (xs ++ ys)) (ended_behind (prefix ++ b ∷ []) (xs ++ ys))
+    ≡ cond t (prefix ∷ ended_behind [] xs) (ended_behind (prefix ++ b ∷ []) xs) ++ ended_behind (cond t (unfinished_behind [] xs) (unfinished_behind (prefix ++ b ∷ []) xs)) ys
+ended-more true b xs ys prefix e f = ap (λ (x : List (List ℕ)). prefix ∷ x) e
+ended-more false b xs ys prefix e f = f
 
 -- one input behind another
-pub ended-append : (xs ys front : List ℕ) → ended_behind front (xs ++ ys) ≡ ended_behind front xs ++ ended_behind (unfinished_behind front xs) ys
-ended-append [] ys front = refl
-ended-append (b ∷ xs) ys front = ended-more (b == 10) b xs ys front (ended-append xs ys []) (ended-append xs ys (front ++ b ∷ []))
+pub ended-append : (xs ys prefix : List ℕ) → ended_behind prefix (xs ++ ys) ≡ ended_behind prefix xs ++ ended_behind (unfinished_behind prefix xs) ys
+ended-append [] ys prefix = refl
+ended-append (b ∷ xs) ys prefix = ended-more (b == 10) b xs ys prefix (ended-append xs ys []) (ended-append xs ys (prefix ++ b ∷ []))
 
-unfinished-more : (t : Bool) (b : ℕ) (xs ys front : List ℕ) →
+unfinished-more : (t : Bool) (b : ℕ) (xs ys prefix : List ℕ) →
     unfinished_behind [] (xs ++ ys) ≡ unfinished_behind (unfinished_behind [] xs) ys →
-    unfinished_behind (front ++ b ∷ []) (xs ++ ys) ≡ unfinished_behind (unfinished_behind (front ++ b ∷ []) xs) ys →
-    cond t (unfinished_behind [] (xs ++ ys)) (unfinished_behind (front ++ b ∷ []) (xs ++ ys))
-    ≡ unfinished_behind (cond t (unfinished_behind [] xs) (unfinished_behind (front ++ b ∷ []) xs)) ys
-unfinished-more true b xs ys front e f = e
-unfinished-more false b xs ys front e f = f
+    unfinished_behind (prefix ++ b ∷ []) (xs ++ ys) ≡ unfinished_behind (unfinished_behind (prefix ++ b ∷ []) xs) ys →
+    cond t (unfinished_behind [] (xs ++ ys)) (unfinished_behind (prefix ++ b ∷ []) (xs ++ ys))
+    ≡ unfinished_behind (cond t (unfinished_behind [] xs) (unfinished_behind (prefix ++ b ∷ []) xs)) ys
+unfinished-more true b xs ys prefix e f = e
+unfinished-more false b xs ys prefix e f = f
 
-pub unfinished-append : (xs ys front : List ℕ) → unfinished_behind front (xs ++ ys) ≡ unfinished_behind (unfinished_behind front xs) ys
-unfinished-append [] ys front = refl
-unfinished-append (b ∷ xs) ys front = unfinished-more (b == 10) b xs ys front (unfinished-append xs ys []) (unfinished-append xs ys (front ++ b ∷ []))
+pub unfinished-append : (xs ys prefix : List ℕ) → unfinished_behind prefix (xs ++ ys) ≡ unfinished_behind (unfinished_behind prefix xs) ys
+unfinished-append [] ys prefix = refl
+unfinished-append (b ∷ xs) ys prefix = unfinished-more (b == 10) b xs ys prefix (unfinished-append xs ys []) (unfinished-append xs ys (prefix ++ b ∷ []))
 
 -- behind an input that ends with a line feed, or is empty
 

@@ -54,9 +54,9 @@ pub wrote-session : (f : State → State) (old mid new : List ℕ) (k : ℕ) (xs
     Wrote old new (outputs 0 (map f xs)) (outputs (k + 1) (map f (drop (k + 1) xs)))
 wrote-session f old mid new k xs x w read before added =
     wrote-more old mid new (outputs 0 (map f xs)) (outputs k (map f (drop k xs))) (outputs (k + 1) (map f (drop (k + 1) xs))) before
-    (record { front = labelled (label k) (f x).output; spelled = outputs-next f k xs x w read; added = added })
+    (record { prefix = labelled (label k) (f x).output; spelled = outputs-next f k xs x w read; added = added })
 
--- or a front of it
+-- or a prefix of it
 pub extends-session : (f : State → State) (old mid new : List ℕ) (k : ℕ) (xs : List State) (x : State) → k < length xs → x ≡ get_or xs k x →
     Wrote old mid (outputs 0 (map f xs)) (outputs k (map f (drop k xs))) → Extends mid new (labelled (label k) (f x).output) →
     Extends old new (outputs 0 (map f xs))

@@ -59,19 +59,19 @@ not-shown text shown digits r number e h read spelled differs n w = λ same.
 
 -- A prefix of a line.
 
-behind-own : (front rest : List ℕ) → behind front (front ++ rest) ≡ Some rest
+behind-own : (prefix rest : List ℕ) → behind prefix (prefix ++ rest) ≡ Some rest
 behind-own [] rest = refl
-behind-own (c ∷ front) rest = ap (λ (b : Bool). cond b (behind front (front ++ rest)) None) ((Decides-eqb c c).1 refl) ∙ behind-own front rest
+behind-own (c ∷ prefix) rest = ap (λ (b : Bool). cond b (behind prefix (prefix ++ rest)) None) ((Decides-eqb c c).1 refl) ∙ behind-own prefix rest
 
-spells-test : (t : Bool) (c d : ℕ) (front line rest : List ℕ) → (d == c) ≡ t → cond t (behind front line) None ≡ Some rest → (behind front line ≡ Some rest → line ≡ front ++ rest) →
-    d ∷ line ≡ c ∷ (front ++ rest)
-spells-test true c d front line rest e h ih = ap (λ (x : ℕ). x ∷ line) ((Decides-eqb d c).0 e) ∙ ap (λ (l : List ℕ). c ∷ l) (ih h)
-spells-test false c d front line rest e h ih = cc
+spells-test : (t : Bool) (c d : ℕ) (prefix line rest : List ℕ) → (d == c) ≡ t → cond t (behind prefix line) None ≡ Some rest → (behind prefix line ≡ Some rest → line ≡ prefix ++ rest) →
+    d ∷ line ≡ c ∷ (prefix ++ rest)
+spells-test true c d prefix line rest e h ih = ap (λ (x : ℕ). x ∷ line) ((Decides-eqb d c).0 e) ∙ ap (λ (l : List ℕ). c ∷ l) (ih h)
+spells-test false c d prefix line rest e h ih = cc
 
-behind-spells : (front line rest : List ℕ) → behind front line ≡ Some rest → line ≡ front ++ rest
+behind-spells : (prefix line rest : List ℕ) → behind prefix line ≡ Some rest → line ≡ prefix ++ rest
 behind-spells [] line rest e = cc
-behind-spells (c ∷ front) [] rest e = cc
-behind-spells (c ∷ front) (d ∷ line) rest e = spells-test (d == c) c d front line rest refl e (behind-spells front line rest)
+behind-spells (c ∷ prefix) [] rest e = cc
+behind-spells (c ∷ prefix) (d ∷ line) rest e = spells-test (d == c) c d prefix line rest refl e (behind-spells prefix line rest)
 
 -- The first blank of a line that begins with a label is the label's.
 
@@ -142,7 +142,7 @@ line-split : (i n : ℕ) (line : List ℕ) → position (λ b. b == 32) line ≡
 line-split i n line e digits =
     let p = position-Some (λ (b : ℕ). b == 32) line i 0 e in
     sym (take-append-drop i line)
-    ∙ ap (λ (front : List ℕ). front ++ drop i line) digits
+    ∙ ap (λ (prefix : List ℕ). prefix ++ drop i line) digits
     ∙ ap (λ (rest : List ℕ). decimal n ++ rest) (blank-first (drop i line) (get_or line i 0) (drop (i + 1) line) (drop_more line i 0 p.0) ((Decides-eqb (get_or line i 0) 32).0 p.1))
     ∙ sym (line-own n (drop 1 (drop i line)))
 
@@ -172,13 +172,13 @@ spoken-none count i line fits e h =
 -- since what stands before the blank is no number
 
 pub spoken-unnumbered : (count i : ℕ) (line digits : List ℕ) → count < 2 ^ 64 → position (λ b. b == 32) line ≡ Some i → digits ≡ take i line → ((n : ℕ) → n < 2 ^ 64 → digits ≢ decimal n) → spoken count line ≡ None
-spoken-unnumbered count i line digits fits e front h = spoken-none count i line fits e (λ j w f. h j (omega (arith, w, fits)) (front ∙ f))
+spoken-unnumbered count i line digits fits e prefix h = spoken-none count i line fits e (λ j w f. h j (omega (arith, w, fits)) (prefix ∙ f))
 
 -- or one too large
 
 pub spoken-beyond : (count i n : ℕ) (line digits : List ℕ) → count < 2 ^ 64 → n < 2 ^ 64 → position (λ b. b == 32) line ≡ Some i → digits ≡ take i line → digits ≡ decimal n → count ≤ n → spoken count line ≡ None
-spoken-beyond count i n line digits fits w e front spelled beyond =
-    spoken-none count i line fits e (λ j v f. absurd (too_large count j n v beyond (decimal_injective j n (omega (arith, v, fits)) w (sym f ∙ sym front ∙ spelled))))
+spoken-beyond count i n line digits fits w e prefix spelled beyond =
+    spoken-none count i line fits e (λ j v f. absurd (too_large count j n v beyond (decimal_injective j n (omega (arith, v, fits)) w (sym f ∙ sym prefix ∙ spelled))))
 
 -- or this one
 
@@ -208,8 +208,8 @@ found k (suc n) m line text low high w f =
 
 pub spoken-some : (count n i : ℕ) (line digits rest text : List ℕ) → n < count → count < 2 ^ 64 → position (λ b. b == 32) line ≡ Some i → digits ≡ take i line → rest ≡ drop i line →
     text ≡ drop 1 rest → digits ≡ decimal n → spoken count line ≡ Some (record { number = n; text = text })
-spoken-some count n i line digits rest text w fits e front back behind_it spelled =
-    found 0 count n line (drop 1 (drop i line)) (omega arith) (omega (arith, w)) (omega (arith, w, fits)) (line-split i n line e (sym front ∙ spelled))
+spoken-some count n i line digits rest text w fits e prefix back behind_it spelled =
+    found 0 count n line (drop 1 (drop i line)) (omega arith) (omega (arith, w)) (omega (arith, w, fits)) (line-split i n line e (sym prefix ∙ spelled))
     ∙ ap (said n) (sym (behind_it ∙ ap (drop 1) back))
 
 pub ruleset speaking = (spoken-unsplit, spoken-unnumbered, spoken-beyond, spoken-some)

@@ -8,7 +8,7 @@ after_lines-append way s [] ys = refl
 after_lines-append way s (line ∷ xs) ys = after_lines-append way (way.after_line s line) xs ys
 
 module _ {S : Type 0} (way : Way S) (order : IsInOrder way) where
-  -- lines leave in front what stood to be written
+  -- lines leave first what stood to be written
 
   quiet-lines : (s : S) (lines : List (List ℕ)) → way.quiet (after_lines way (way.quiet s) lines) ≡ way.quiet (after_lines way s lines)
   quiet-lines s [] = order.still s
@@ -24,7 +24,7 @@ module _ {S : Type 0} (way : Way S) (order : IsInOrder way) where
       let own : S = way.after_line (way.quiet s) line in
       let rest : S → List ℕ = λ t. way.unwritten (after_lines way t lines) in
       front-lines made lines
-      ∙ ap (λ (x : List ℕ). x ++ rest (way.quiet made)) ((order.lines line).front s)
+      ∙ ap (λ (x : List ℕ). x ++ rest (way.quiet made)) ((order.lines line).prefix s)
       ∙ append_assoc (way.unwritten s) (way.unwritten own) (rest (way.quiet made))
       ∙ ap (λ (t : S). way.unwritten s ++ (way.unwritten own ++ rest t)) (sym ((order.lines line).state s))
       ∙ ap (λ (x : List ℕ). way.unwritten s ++ x) (sym (front-lines own lines))
@@ -55,8 +55,8 @@ module _ {S : Type 0} (way : Way S) (order : IsInOrder way) where
   transcript-end s t xs ys e =
       let after : S = after_lines way t ys in
       let last : S → List ℕ = λ x. way.unwritten (way.at_end x) in
-      order.end.front (after_lines way s (xs ++ ys))
+      order.end.prefix (after_lines way s (xs ++ ys))
       ∙ ap (λ (x : S). transcript_of way s (xs ++ ys) ++ last x) (sym (quiet-append s t xs ys e))
       ∙ ap (λ (x : List ℕ). x ++ last (way.quiet after)) (transcript-append s t xs ys e)
       ∙ append_assoc (transcript_of way s xs) (way.unwritten after) (last (way.quiet after))
-      ∙ ap (λ (x : List ℕ). transcript_of way s xs ++ x) (sym (order.end.front after))
+      ∙ ap (λ (x : List ℕ). transcript_of way s xs ++ x) (sym (order.end.prefix after))

@@ -48,23 +48,23 @@ pub labelled-split : (label : List ℕ) (n : ℕ) (lines : List OutLine) → lab
 labelled-split label n lines = ap (labelled label) (sym (take-append-drop n lines)) ∙ labelled-append label (take n lines) (drop n lines)
 
 -- the first of the lines that are left are written
-pub wrote-lines : (label old mid new text : List ℕ) (lines left front rest : List OutLine) (n : ℕ) → front ≡ take n left → rest ≡ drop n left →
-    Wrote old mid (labelled label lines) (labelled label left) → text ≡ labelled label front → new ≡ mid ++ text → Wrote old new (labelled label lines) (labelled label rest)
-wrote-lines label old mid new text lines left front rest n first others w spelled e =
+pub wrote-lines : (label old mid new text : List ℕ) (lines left prefix rest : List OutLine) (n : ℕ) → prefix ≡ take n left → rest ≡ drop n left →
+    Wrote old mid (labelled label lines) (labelled label left) → text ≡ labelled label prefix → new ≡ mid ++ text → Wrote old new (labelled label lines) (labelled label rest)
+wrote-lines label old mid new text lines left prefix rest n first others w spelled e =
     wrote-more old mid new (labelled label lines) (labelled label left) (labelled label rest) w (record {
-      front = labelled label front;
+      prefix = labelled label prefix;
       spelled = labelled-split label n left ∙ ap (λ (f : List OutLine). labelled label f ++ labelled label (drop n left)) (sym first)
-          ∙ ap (λ (r : List OutLine). labelled label front ++ labelled label r) (sym others);
+          ∙ ap (λ (r : List OutLine). labelled label prefix ++ labelled label r) (sym others);
       added = e ∙ ap (λ (t : List ℕ). mid ++ t) spelled;
     })
 
--- a front of the first of the lines that are left
-pub extends-lines : (label old mid new text : List ℕ) (lines left front : List OutLine) (n : ℕ) → front ≡ take n left →
-    Wrote old mid (labelled label lines) (labelled label left) → text ≡ labelled label front → Extends mid new text → Extends old new (labelled label lines)
-extends-lines label old mid new text lines left front n first w spelled e =
+-- a prefix of the first of the lines that are left
+pub extends-lines : (label old mid new text : List ℕ) (lines left prefix : List OutLine) (n : ℕ) → prefix ≡ take n left →
+    Wrote old mid (labelled label lines) (labelled label left) → text ≡ labelled label prefix → Extends mid new text → Extends old new (labelled label lines)
+extends-lines label old mid new text lines left prefix n first w spelled e =
     extends-rest old mid new (labelled label lines) (labelled label left) w
     (subst (λ (t : List ℕ). Extends mid new t) (sym (labelled-split label n left ∙ ap (λ (f : List OutLine). labelled label f ++ labelled label (drop n left)) (sym first)))
-    (extends-first mid new (labelled label front) (labelled label (drop n left)) (subst (λ (t : List ℕ). Extends mid new t) spelled e)))
+    (extends-first mid new (labelled label prefix) (labelled label (drop n left)) (subst (λ (t : List ℕ). Extends mid new t) spelled e)))
 
 pub ruleset writing = (wrote-none, wrote-all, wrote-more, wrote-take, extends-wrote, extends-none, extends-first, extends-second, wrote-lines, extends-lines)
 

@@ -22,8 +22,8 @@ label k = decimal k ++ 32 ∷ []
 -- what follows a prefix of a line, if the line begins with that
 abbrev pub behind : List ℕ → List ℕ → Option (List ℕ)
 behind [] line = Some line
-behind (c ∷ front) [] = None
-behind (c ∷ front) (d ∷ line) = if d == c then behind front line else None
+behind (c ∷ prefix) [] = None
+behind (c ∷ prefix) (d ∷ line) = if d == c then behind prefix line else None
 
 -- what a line says: the number of a session, and what is typed to it
 pub record Spoken : Type 0 where

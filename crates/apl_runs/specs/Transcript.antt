@@ -2,15 +2,15 @@
 use Rattle.std.specs.Prelude.{ℕ, List, [], ◌∷◌, ◌++◌, ◌-◌, ◌==◌, if◌then◌else◌, length, map, take, slice_index}
 use Rattle.apl_runs.specs.Ways.{Way}
 
--- the pieces of the input that a line feed ends, behind a front of the first
+-- the pieces of the input that a line feed ends, behind a prefix of the first
 abbrev pub ended_behind : List ℕ → List ℕ → List (List ℕ)
-ended_behind front [] = []
-ended_behind front (b ∷ input) = if b == 10 then front ∷ ended_behind [] input else ended_behind (front ++ b ∷ []) input
+ended_behind prefix [] = []
+ended_behind prefix (b ∷ input) = if b == 10 then prefix ∷ ended_behind [] input else ended_behind (prefix ++ b ∷ []) input
 
 -- what follows the last line feed
 abbrev pub unfinished_behind : List ℕ → List ℕ → List ℕ
-unfinished_behind front [] = front
-unfinished_behind front (b ∷ input) = if b == 10 then unfinished_behind [] input else unfinished_behind (front ++ b ∷ []) input
+unfinished_behind prefix [] = prefix
+unfinished_behind prefix (b ∷ input) = if b == 10 then unfinished_behind [] input else unfinished_behind (prefix ++ b ∷ []) input
 
 -- the bytes before each line feed, from the one before on
 abbrev pub ended : List ℕ → List (List ℕ)

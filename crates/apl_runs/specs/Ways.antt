@@ -8,12 +8,12 @@ pub record Way (S : Type 0) : Type 0 where
   pub unwritten : S → List ℕ
   pub quiet : S → S
 
--- What stood to be written before stays in front, and changes nothing else.
+-- What stood to be written before stays first, and changes nothing else.
 pub record KeepsFront {S : Type 0} (way : Way S) (does : S → S) : Type 0 where
   pub state : (s : S) → way.quiet (does (way.quiet s)) ≡ way.quiet (does s)
-  pub front : (s : S) → way.unwritten (does s) ≡ way.unwritten s ++ way.unwritten (does (way.quiet s))
+  pub prefix : (s : S) → way.unwritten (does s) ≡ way.unwritten s ++ way.unwritten (does (way.quiet s))
 
--- Lines and the end of the input leave in front what stood to be written, and in a quiet state nothing does.
+-- Lines and the end of the input leave first what stood to be written, and in a quiet state nothing does.
 pub record IsInOrder {S : Type 0} (way : Way S) : Type 0 where
   pub lines : (line : List ℕ) → KeepsFront way (λ s. way.after_line s line)
   pub end : KeepsFront way way.at_end

@@ -114,8 +114,8 @@ pub fn write_lines<W: Sink>(
     let mut text = String::new(alloc);
     let mut left = lines;
     while !left.is_empty() {
-        let (front, rest) = left.split_at(left.len().min(AT_ONCE));
-        spell(&mut text, label, front)?;
+        let (prefix, rest) = left.split_at(left.len().min(AT_ONCE));
+        spell(&mut text, label, prefix)?;
         write_text(writer, text.as_bytes())?;
         left = rest;
     }

@@ -7,10 +7,10 @@ use Rattle.apl_charset.specs.Set.{is_member}
 use Rattle.apl_charset.specs.Text.{IsLine, bytes}
 use Rattle.apl_charset.proofs.Lines.{IsText-push}
 
-line_push : (line front : List ℕ) (c : ℕ) → IsLine line front → is_member c ≡ true → IsLine (line ++ encode_utf8 c) (front ++ c ∷ [])
-line_push line front c h m = record {
-  in_set = IsText-push front c h.in_set m;
-  spelled = encodes-append front (c ∷ []) ∙ ap (λ bs. bs ++ bytes (c ∷ [])) h.spelled ∙ ap (λ bs. line ++ bs) (append-nil (encode_utf8 c));
+line_push : (line prefix : List ℕ) (c : ℕ) → IsLine line prefix → is_member c ≡ true → IsLine (line ++ encode_utf8 c) (prefix ++ c ∷ [])
+line_push line prefix c h m = record {
+  in_set = IsText-push prefix c h.in_set m;
+  spelled = encodes-append prefix (c ∷ []) ∙ ap (λ bs. bs ++ bytes (c ∷ [])) h.spelled ∙ ap (λ bs. line ++ bs) (append-nil (encode_utf8 c));
 }
 
 pub line_more : (line new text : List ℕ) (i c x : ℕ) → IsLine line (take i text) → new ≡ line ++ encode_utf8 c → c ≡ x → is_member x ≡ true → i < length text → x ≡ get_or text i x → IsLine new (take (i + 1) text)

@@ -7,12 +7,12 @@ pub room_size : {A : Type 0} (old grown shown back filled : List A) (x : A) (n b
 room_size old grown shown back filled x n before g b e h f = grind (arith, common_steps)
 
 -- what was there stays, and the room has what was written
-pub written_over : {A : Type 0} (old grown front filled : List A) (x : A) (n before len : ℕ) → grown ≡ old ++ replicate n x → before ≡ length old → front ≡ take before grown → length filled ≡ n → len ≡ length grown →
-    take len (front ++ filled ++ drop (length (front ++ filled)) grown) ≡ old ++ filled
-written_over old grown front filled x n before len g b f s l =
-    let same : front ≡ old = grind (arith, common_steps) in
-    let whole : length (front ++ filled) ≡ length grown = grind (arith, common_steps) in
-    let none : drop (length (front ++ filled)) grown ≡ [] = grind (arith, common_steps) in
-    let all : len ≡ length (front ++ filled) = grind (arith, common_steps) in
-    let kept : take len (front ++ filled) ≡ front ++ filled = grind (arith, common_steps) in
+pub written_over : {A : Type 0} (old grown prefix filled : List A) (x : A) (n before len : ℕ) → grown ≡ old ++ replicate n x → before ≡ length old → prefix ≡ take before grown → length filled ≡ n → len ≡ length grown →
+    take len (prefix ++ filled ++ drop (length (prefix ++ filled)) grown) ≡ old ++ filled
+written_over old grown prefix filled x n before len g b f s l =
+    let same : prefix ≡ old = grind (arith, common_steps) in
+    let whole : length (prefix ++ filled) ≡ length grown = grind (arith, common_steps) in
+    let none : drop (length (prefix ++ filled)) grown ≡ [] = grind (arith, common_steps) in
+    let all : len ≡ length (prefix ++ filled) = grind (arith, common_steps) in
+    let kept : take len (prefix ++ filled) ≡ prefix ++ filled = grind (arith, common_steps) in
     rw (none, append-nil, kept, same)

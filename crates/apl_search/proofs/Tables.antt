@@ -23,8 +23,8 @@ here_or_behind y z zs n m here behind = each (int_eq y z) refl
 pub entered : (smallest : ℤ) (slots : List ℕ) (n slot : ℕ) (zs : List ℤ) → AreFirsts smallest slots (n + 1) (drop (n + 1) zs) → n < length zs → slot < length slots →
     smallest +ℤ pos slot ≡ get_or zs n (pos 0) → AreFirsts smallest (set slots slot n) n (drop n zs)
 entered smallest slots n slot zs h l s e = λ k m.
-    let front : drop n zs ≡ get_or zs n (pos 0) ∷ drop (n + 1) zs = rw (add_one n) (drop-cons zs n (pos 0) l) in
-    rw front
+    let prefix : drop n zs ≡ get_or zs n (pos 0) ∷ drop (n + 1) zs = rw (add_one n) (drop-cons zs n (pos 0) l) in
+    rw prefix
     (here_or_behind (smallest +ℤ pos k) (get_or zs n (pos 0)) (drop (n + 1) zs) n (get_or (set slots slot n) k 0)
     (λ same. let at : k ≡ slot = omega (arith, ints) in rw at (get_or-set_same slots slot n 0 s))
     (λ other. let at : k ≢ slot = λ q. other (ap (λ (j : ℕ). smallest +ℤ pos j) q ∙ e) in

@@ -37,7 +37,7 @@ line-behind-read : (piece old rest new more : List ℕ) (b : ℕ) → old ≡ pi
 line-behind-read piece old rest new more b is (inl fed) = inl (is ∙ ap (λ (m : List ℕ). piece ++ b ∷ m) fed ∙ sym (append_assoc piece (b ∷ more) (10 ∷ new)))
 line-behind-read piece old rest new more b is (inr ended) = inr (is ∙ ap (λ (m : List ℕ). piece ++ b ∷ m) ended.0, ended.1)
 
--- some bytes stand at the front
+-- some bytes stand at the start
 some-append : (xs ys : List ℕ) (b : ℕ) (old : List ℕ) → old ≡ xs ++ b ∷ ys → old ≢ []
 some-append [] ys b old is none = cc
 some-append (x ∷ xs) ys b old is none = cc

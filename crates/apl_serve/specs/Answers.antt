@@ -4,8 +4,8 @@ use Rattle.serde_json.specs.Data.{Data}
 use Rattle.serde_json.specs.Find.{as_null}
 use Rattle.apl_charset.specs.Decoding.{decoded}
 use Rattle.apl_defn.specs.Definitions.{Text}
-use Rattle.apl_machine_state.specs.Objects.{levels}
 use Rattle.apl_machine_state.specs.State.{State, clear, interrupt, is_idle, steps, value_of}
+use Rattle.apl_machine.specs.Counts.{steps_made}
 use Rattle.apl_session.specs.Defining.{closed, name_in}
 use Rattle.apl_session.specs.Events.{typed}
 use Rattle.apl_workspace_file.specs.Json.{IsJson}
@@ -14,11 +14,12 @@ use Rattle.apl_workspace.specs.Refusals.{IsUnloaded}
 use Rattle.apl_workspace.specs.Saved.{IsLoaded, IsSaved, IsSavedAs, settled}
 use Rattle.apl_workspace.specs.declared.error.LoadError.{LoadError}
 use Rattle.apl_workspace.specs.declared.error.LoadError.TheVariants as load
+use Rattle.apl_kept.specs.Indicator.{indicator}
 use Rattle.apl_kept.specs.Keeping.{IsOneLine}
 use Rattle.apl_kept.specs.Names.{names_of, function_named, source_of}
 use Rattle.apl_serve.specs.Requests.{Request, Line, Advance, Interrupt, Names, Indicator, Listing, Value, Save, Open, request_of}
 use Rattle.apl_serve.specs.Refusals.{refusal_tree}
-use Rattle.apl_serve.specs.Trees.{told_tree, level_tree, named_tree, array_tree, text_tree, answer_tree, line_of}
+use Rattle.apl_serve.specs.Trees.{told_tree, call_tree, named_tree, array_tree, text_tree, answer_tree, line_of}
 use Rattle.apl_serve.specs.declared.error.Refusal.{Refusal}
 use Rattle.apl_serve.specs.declared.error.Refusal.TheVariants as refusal
 
@@ -26,28 +27,29 @@ use Rattle.apl_serve.specs.declared.error.Refusal.TheVariants as refusal
 abbrev pub Outcome : Type 0
 Outcome = Result (List ℕ) Refusal
 
--- A session in this state tells how it stands, and what it has written is taken; or there is no memory for that, and the state stays.
-abbrev pub Tells : State → Outcome → State → Type 0
-Tells s (Ok text) s' = (text ≡ line_of (told_tree s)) × (s' ≡ record s { output = [] })
-Tells s (Err refusal.Answer) s' = s' ≡ s
-Tells s (Err e) s' = ⊥
+-- A session in this state tells how it stands, and how many steps were made where some were asked for, and what it has written is taken; or there is
+-- no memory for that, and the state stays.
+abbrev pub Tells : Option ℕ → State → Outcome → State → Type 0
+Tells steps s (Ok text) s' = (text ≡ line_of (told_tree steps s)) × (s' ≡ record s { output = [] })
+Tells steps s (Err refusal.Answer) s' = s' ≡ s
+Tells steps s (Err e) s' = ⊥
 
 -- A line is typed where it can be and nothing runs. Its steps are still to be made.
 abbrev pub Types : List ℕ → State → Outcome → State → Type 0
 Types line s (Err refusal.Line) s' = (¬ IsOneLine line) × (s' ≡ s)
 Types line s (Err refusal.Running) s' = IsOneLine line × IsFalse (is_idle s) × (s' ≡ s)
 Types line s (Err refusal.Memory) s' = IsOneLine line × IsTrue (is_idle s) × (s' ≡ s)
-Types line s outcome s' = IsOneLine line × IsTrue (is_idle s) × Tells (typed s line) outcome s'
+Types line s outcome s' = IsOneLine line × IsTrue (is_idle s) × Tells None (typed s line) outcome s'
 
 -- At most so many steps are made, or less where memory runs out.
 abbrev pub Advances : ℕ → State → Outcome → State → Type 0
 Advances count s (Err refusal.Memory) s' = (done : ℕ) × (done < count) × (s' ≡ steps done s)
-Advances count s outcome s' = Tells (steps count s) outcome s'
+Advances count s outcome s' = Tells (Some (steps_made count s)) (steps count s) outcome s'
 
 -- What runs is abandoned.
 abbrev pub Interrupts : State → Outcome → State → Type 0
 Interrupts s (Err refusal.Memory) s' = s' ≡ s
-Interrupts s outcome s' = Tells (interrupt s) outcome s'
+Interrupts s outcome s' = Tells None (interrupt s) outcome s'
 
 abbrev pub IsOpenedBy : Option ⊤ → Data → State → Type 0
 IsOpenedBy None tree s = IsSaved tree s
@@ -65,7 +67,7 @@ IsUnopened tree e = ((s : State) → ¬ IsOpened tree s) × ((bytes : List ℕ) 
 abbrev pub Opens : Data → State → Outcome → State → Type 0
 Opens tree s (Err (refusal.Load e)) s' = IsUnopened tree e × (s' ≡ s)
 Opens tree s (Err refusal.Memory) s' = s' ≡ s
-Opens tree s outcome s' = (t : State) × IsOpened tree t × Tells t outcome s'
+Opens tree s outcome s' = (t : State) × IsOpened tree t × Tells None t outcome s'
 
 -- What is asked for is answered by this tree, or there is nothing such, which is refused so.
 abbrev pub Answered : Option Data → Refusal → Outcome → Type 0
@@ -99,7 +101,7 @@ Does (Some (Advance count)) s outcome s' = Advances count s outcome s'
 Does (Some Interrupt) s outcome s' = Interrupts s outcome s'
 Does (Some (Open tree)) s outcome s' = Opens tree s outcome s'
 Does (Some Names) s outcome s' = Answered (Some (answer_tree (codes "names") (list_tree named_tree (names_of s)))) refusal.Memory outcome × (s' ≡ s)
-Does (Some Indicator) s outcome s' = Answered (Some (answer_tree (codes "indicator") (list_tree level_tree (levels s.contexts)))) refusal.Memory outcome × (s' ≡ s)
+Does (Some Indicator) s outcome s' = Answered (Some (answer_tree (codes "indicator") (list_tree call_tree (indicator s.contexts)))) refusal.Memory outcome × (s' ≡ s)
 Does (Some (Listing name)) s outcome s' = Answered (listing_answer s name) refusal.Function outcome × (s' ≡ s)
 Does (Some (Value name)) s outcome s' = Answered (value_answer s name) refusal.Value outcome × (s' ≡ s)
 Does (Some Save) s outcome s' = Saves s outcome × (s' ≡ s)

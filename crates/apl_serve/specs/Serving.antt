@@ -11,7 +11,7 @@ use Rattle.apl_serve.specs.declared.error.ServeError.TheVariants.{Read, Write, T
 abbrev pub is_unbroken : List ℕ → Bool
 is_unbroken piece = list_all (λ b. not (b == 10)) piece
 
--- A piece of a line stands at the front, and is all of it: a line feed stands behind it, or the end.
+-- A piece of a line stands at the start, and is all of it: a line feed stands behind it, or the end.
 pub record EndsLine (piece old new : List ℕ) : Type 0 where
   pub unbroken : is_unbroken piece ≡ true
   pub read : (old ≡ piece ++ 10 ∷ new) ⊎ ((old ≡ piece) × (new ≡ []))
@@ -24,7 +24,7 @@ BeginsWith request old new = EndsLine request old new × (old ≢ [])
 abbrev pub ReadPiece : List ℕ → List ℕ → List ℕ → Type 0
 ReadPiece piece old new = (is_unbroken piece ≡ true) × (old ≡ piece ++ new)
 
--- The requests stand at the front of the bytes, and others behind them.
+-- The requests stand at the start of the bytes, and others behind them.
 abbrev pub BeginWith : List (List ℕ) → List ℕ → List ℕ → Type 0
 BeginWith [] old new = new ≡ old
 BeginWith (request ∷ requests) old new = (rest : List ℕ) × BeginsWith request old rest × BeginWith requests rest new
@@ -59,7 +59,7 @@ pub record StoppedReading (s s' : State) (before after : List ℕ) (tells : Bool
 abbrev pub endless : ℕ
 endless = 18446744073709551615
 
--- The writer failed: the answers to all requests before the last that was read are written, and a front of the answer to that; nothing behind it was read.
+-- The writer failed: the answers to all requests before the last that was read are written, and a prefix of the answer to that; nothing behind it was read.
 pub record FailedToWrite (s s' : State) (before after : List ℕ) (tells : Bool) (old new : List ℕ) : Type 0 where
   pub requests : List (List ℕ)
   pub rest : List ℕ

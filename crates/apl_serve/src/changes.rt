@@ -6,45 +6,23 @@ ghost use Rattle.serde_json.specs.View.{view};
 ghost use Rattle.apl_machine_state.specs.State.{clear};
 ghost use Rattle.apl_kept.specs.Keeping.{BeginsWith};
 ghost use Rattle.apl_serve.specs.Answers.{Advances, Interrupts, IsOpened, Opens, Tells, Types};
-ghost use Rattle.apl_serve.specs.Trees.{line_of, standing_tree, told_tree};
 ghost use Rattle.apl_serve.specs.inside.Parts.{IsClosed, IsShut};
 
 use crate::answer::line_of;
 use crate::error::Refusal;
-use crate::shown::{show_list, word_of};
-use apl_kept::{Kept, KeptError, Told, open};
+use crate::telling::told;
+use apl_kept::{Kept, KeptError, open};
 use apl_session::Bytes;
 use apl_workspace::LoadError;
-use serde_json::{Value, json};
+use serde_json::Value;
 use std::alloc::{AllocError, Global};
 
-/// The tree of what a session tells that stands so.
-fn show_standing(alloc: Global, kept: &Kept, told: Told) -> Result<Value, AllocError>
-    ensures { IfOk result (λ v. view v ≡ standing_tree kept.now told) }
+/// Tells how a session stands, and how many steps were made, where some were asked for; what it has written is taken then. Answer: there
+/// is no memory for that.
+fn tell(alloc: Global, kept: &mut Kept, steps: Option<u64>) -> Result<Bytes, Refusal>
+    ensures { Tells steps kept.old result kept.new }
 {
-    let lines = show_list(alloc, kept.output())?;
-    let (next, state) = (kept.next_line(), word_of(told));
-    match told {
-        Told::Fault(fault) => {
-            json!(in alloc; {"fault": usize::from(fault.number()), "lines": lines, "next": next, "state": state})
-        }
-        _ => json!(in alloc; {"lines": lines, "next": next, "state": state}),
-    }
-}
-
-/// What a session tells.
-fn standing(alloc: Global, kept: &Kept) -> Result<Bytes, AllocError>
-    ensures { IfOk result (λ b. b ≡ line_of (told_tree kept.now)) }
-{
-    let tree = show_standing(alloc, kept, kept.told())?;
-    line_of(alloc, &tree)
-}
-
-/// Tells how a session stands; what it has written is taken then. Answer: there is no memory for that.
-fn tell(alloc: Global, kept: &mut Kept) -> Result<Bytes, Refusal>
-    ensures { Tells kept.old result kept.new }
-{
-    match standing(alloc, kept) {
+    match told(alloc, kept, steps) {
         Ok(text) => {
             drop(kept.take_output());
             Ok(text)
@@ -58,7 +36,7 @@ pub(crate) fn type_line(alloc: Global, kept: &mut Kept, line: &str) -> Result<By
     ensures { Types line.now kept.old result kept.new }
 {
     match kept.type_line(line.as_bytes()) {
-        Ok(()) => tell(alloc, kept),
+        Ok(()) => tell(alloc, kept, None),
         Err(KeptError::LineTooLong | KeptError::LineFeed) => Err(Refusal::Line),
         Err(KeptError::Running) => Err(Refusal::Running),
         Err(KeptError::Memory) => Err(Refusal::Memory),
@@ -69,8 +47,8 @@ pub(crate) fn type_line(alloc: Global, kept: &mut Kept, line: &str) -> Result<By
 pub(crate) fn advance(alloc: Global, kept: &mut Kept, count: u64) -> Result<Bytes, Refusal>
     ensures { Advances count kept.old result kept.new }
 {
-    match kept.advance(count) {
-        Ok(_) => tell(alloc, kept),
+    match kept.make_steps(count) {
+        Ok(made) => tell(alloc, kept, Some(made.steps)),
         Err(AllocError) => Err(Refusal::Memory),
     }
 }
@@ -80,7 +58,7 @@ pub(crate) fn interrupt(alloc: Global, kept: &mut Kept) -> Result<Bytes, Refusal
     ensures { Interrupts kept.old result kept.new }
 {
     match kept.interrupt() {
-        Ok(()) => tell(alloc, kept),
+        Ok(()) => tell(alloc, kept, None),
         Err(AllocError) => Err(Refusal::Memory),
     }
 }
@@ -126,5 +104,5 @@ pub(crate) fn open_anew(alloc: Global, kept: &mut Kept, tree: &Value) -> Result<
     ensures { Opens (view tree.now) kept.old result kept.new }
 {
     *kept = open_tree(alloc, tree)?;
-    tell(alloc, kept)
+    tell(alloc, kept, None)
 }

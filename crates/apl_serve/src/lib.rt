@@ -9,6 +9,7 @@ mod requests;
 mod serving;
 mod shown;
 mod sights;
+mod telling;
 
 pub use error::ServeError;
 pub use serving::serve;

@@ -1,17 +1,18 @@
 //! The trees of what a session tells.
-ghost use Rattle.std.specs.Prelude.{◌≡◌, IfOk, string_bytes};
+ghost use Rattle.std.specs.Prelude.{◌≡◌, IfOk, OnOk, string_bytes};
 ghost use Rattle.apl_charset.specs.Text.{bytes};
 ghost use Rattle.serde_json.specs.Data.{Data};
-ghost use Rattle.serde_json.specs.View.{view};
+ghost use Rattle.serde_json.specs.View.{members_view, view};
 ghost use Rattle.apl_workspace_file.specs.Trees.{whole_tree, number_tree, list_tree};
 ghost use Rattle.apl_arrays.specs.Left.{listed};
-ghost use Rattle.apl_serve.specs.Trees.{text_tree, kind_word, line_tree, level_tree, named_tree, array_tree, items_tree, word_of};
+ghost use Rattle.apl_serve.specs.Trees.{text_tree, kind_word, line_tree, call_tree, named_tree, place_tree, array_tree, items_tree, with_column};
 
 use apl_arrays::{Array, Elements};
 use apl_charset::{Ch, Text};
-use apl_kept::{Named, Reading, Told};
-use apl_machine::{Level, LineKind, OutLine};
-use serde_json::{Value, json};
+use apl_kept::{Named, Place, Reading, StandingCall};
+use apl_machine::{LineKind, OutLine};
+use apl_symbols::Name;
+use serde_json::{Map, Value, json, put};
 use std::alloc::{AllocError, Global};
 
 /// What a tree tells.
@@ -100,15 +101,6 @@ impl Shown for OutLine {
     }
 }
 
-impl Shown for Level {
-    ghost tree = { level_tree };
-
-    fn show(&self, alloc: Global) -> Result<Value, AllocError> {
-        let name = show_text(alloc, self.name.as_slice())?;
-        json!(in alloc; {"line": self.line, "name": name, "suspended": self.suspended})
-    }
-}
-
 impl Shown for Named {
     ghost tree = { named_tree };
 
@@ -128,6 +120,70 @@ impl Shown for Named {
                 json!(in alloc; {"name": name, "shape": shape, "type": "characters"})
             }
             Reading::Unset => json!(in alloc; {"name": name}),
+        }
+    }
+}
+
+/// Puts a column, where there is one.
+fn put_column(
+    alloc: Global,
+    members: &mut Map<String, Value>,
+    column: Option<usize>,
+) -> Result<(), AllocError>
+    ensures { OnOk result (members_view members.new.entries ≡ with_column column (members_view members.old.entries)) }
+{
+    match column {
+        Some(column) => put(members, alloc, "column", column.show(alloc)?),
+        None => Ok(()),
+    }
+}
+
+impl Shown for StandingCall {
+    ghost tree = { call_tree };
+
+    fn show(&self, alloc: Global) -> Result<Value, AllocError> {
+        let mut members = Map::new(alloc);
+        put(&mut members, alloc, "line", self.line.show(alloc)?)?;
+        let locals = show_list(alloc, self.locals.as_slice())?;
+        put(&mut members, alloc, "locals", locals)?;
+        let name = show_text(alloc, self.name.as_slice())?;
+        put(&mut members, alloc, "name", name)?;
+        put(
+            &mut members,
+            alloc,
+            "suspended",
+            Value::Bool(self.suspended),
+        )?;
+        put(&mut members, alloc, "text", self.text.show(alloc)?)?;
+        put_column(alloc, &mut members, self.column)?;
+        Ok(Value::Object(members))
+    }
+}
+
+/// The tree of a place at a line of a call.
+fn show_call_place(
+    alloc: Global,
+    name: &Name,
+    line: usize,
+    column: Option<usize>,
+) -> Result<Value, AllocError>
+    ensures { IfOk result (λ v. view v ≡ place_tree (Place.Call name.now line column)) }
+{
+    let mut members = Map::new(alloc);
+    put(&mut members, alloc, "line", line.show(alloc)?)?;
+    let name = show_text(alloc, name.as_slice())?;
+    put(&mut members, alloc, "name", name)?;
+    put_column(alloc, &mut members, column)?;
+    Ok(Value::Object(members))
+}
+
+impl Shown for Place {
+    ghost tree = { place_tree };
+
+    fn show(&self, alloc: Global) -> Result<Value, AllocError> {
+        match self {
+            Place::Typed(column) => json!(in alloc; {"column": *column}),
+            Place::Call { name, line, column } => show_call_place(alloc, name, *line, *column),
         }
     }
 }
@@ -154,17 +210,5 @@ impl Shown for Array {
 
     fn show(&self, alloc: Global) -> Result<Value, AllocError> {
         show_items(alloc, self.shape(), self.items())
-    }
-}
-
-/// The word for how a session stands.
-pub(crate) fn word_of(told: Told) -> &'static str
-    ensures { result.now ≡ word_of told }
-{
-    match told {
-        Told::Running => "running",
-        Told::Stopped => "stopped",
-        Told::Fault(_) => "fault",
-        Told::Idle => "idle",
     }
 }

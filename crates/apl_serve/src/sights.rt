@@ -2,10 +2,10 @@
 ghost use Rattle.std.specs.Prelude.{◌≡◌, IfOk, Some, codes, option_map, option_and_then};
 ghost use Rattle.apl_charset.specs.Decoding.{decoded};
 ghost use Rattle.apl_workspace_file.specs.Trees.{list_tree};
+ghost use Rattle.apl_kept.specs.Indicator.{indicator};
 ghost use Rattle.apl_kept.specs.Names.{names_of};
-ghost use Rattle.apl_machine_state.specs.Objects.{levels};
 ghost use Rattle.apl_serve.specs.Answers.{Answered, Saves, listing_answer, value_answer};
-ghost use Rattle.apl_serve.specs.Trees.{answer_tree, level_tree, named_tree};
+ghost use Rattle.apl_serve.specs.Trees.{answer_tree, call_tree, named_tree};
 
 use crate::answer::{answer_array, answer_list};
 use crate::error::Refusal;
@@ -25,10 +25,10 @@ pub(crate) fn names(alloc: Global, kept: &Kept) -> Result<Bytes, Refusal>
 
 /// The state indicator.
 pub(crate) fn indicator(alloc: Global, kept: &Kept) -> Result<Bytes, Refusal>
-    ensures { Answered (Some (answer_tree (codes "indicator") (list_tree level_tree (levels kept.now.contexts)))) Refusal.Memory result }
+    ensures { Answered (Some (answer_tree (codes "indicator") (list_tree call_tree (indicator kept.now.contexts)))) Refusal.Memory result }
 {
-    let levels = kept.levels()?;
-    Ok(answer_list(alloc, "indicator", &levels)?)
+    let calls = kept.indicator()?;
+    Ok(answer_list(alloc, "indicator", &calls)?)
 }
 
 /// The characters of a word, if it has only such of the set.

@@ -33,38 +33,38 @@ before-blank d text e = take_while-cons (λ c. not (c == 32)) d text ∙ ap (λ 
 from-blank : (d : ℕ) (text : Text) → (d == 32) ≡ true → from_blank (d ∷ text) ≡ d ∷ text
 from-blank d text e = ap (λ (w : Text). drop (length w) (d ∷ text)) (before-blank d text e)
 
-behind-blank : (front : Text) (d : ℕ) (text : Text) → (d == 32) ≡ true → words_behind front (d ∷ text) ≡ with_word front (words_of text)
-behind-blank front d text e = ap (λ (b : Bool). cond b (with_word front (words_of text)) (words_behind (front ++ d ∷ []) text)) e
+behind-blank : (prefix : Text) (d : ℕ) (text : Text) → (d == 32) ≡ true → words_behind prefix (d ∷ text) ≡ with_word prefix (words_of text)
+behind-blank prefix d text e = ap (λ (b : Bool). cond b (with_word prefix (words_of text)) (words_behind (prefix ++ d ∷ []) text)) e
 
-behind-other : (front : Text) (d : ℕ) (text : Text) → (d == 32) ≡ false → words_behind front (d ∷ text) ≡ words_behind (front ++ d ∷ []) text
-behind-other front d text e = ap (λ (b : Bool). cond b (with_word front (words_of text)) (words_behind (front ++ d ∷ []) text)) e
+behind-other : (prefix : Text) (d : ℕ) (text : Text) → (d == 32) ≡ false → words_behind prefix (d ∷ text) ≡ words_behind (prefix ++ d ∷ []) text
+behind-other prefix d text e = ap (λ (b : Bool). cond b (with_word prefix (words_of text)) (words_behind (prefix ++ d ∷ []) text)) e
 
 -- a word that has begun ends at the first blank
 
-ends-at_once : (c : ℕ) (front : Text) (d : ℕ) (text : Text) → (d == 32) ≡ true → words_behind (c ∷ front) (d ∷ text) ≡ (c ∷ front ++ before_blank (d ∷ text)) ∷ words_of (from_blank (d ∷ text))
-ends-at_once c front d text e =
-    behind-blank (c ∷ front) d text e
-    ∙ ap (λ (ws : List Text). (c ∷ front) ∷ ws) (sym (ap words_of (from-blank d text e) ∙ behind-blank [] d text e))
-    ∙ ap (λ (w : Text). w ∷ words_of (from_blank (d ∷ text))) (sym (ap (λ (w : Text). c ∷ front ++ w) (before-blank d text e) ∙ append-nil (c ∷ front)))
+ends-at_once : (c : ℕ) (prefix : Text) (d : ℕ) (text : Text) → (d == 32) ≡ true → words_behind (c ∷ prefix) (d ∷ text) ≡ (c ∷ prefix ++ before_blank (d ∷ text)) ∷ words_of (from_blank (d ∷ text))
+ends-at_once c prefix d text e =
+    behind-blank (c ∷ prefix) d text e
+    ∙ ap (λ (ws : List Text). (c ∷ prefix) ∷ ws) (sym (ap words_of (from-blank d text e) ∙ behind-blank [] d text e))
+    ∙ ap (λ (w : Text). w ∷ words_of (from_blank (d ∷ text))) (sym (ap (λ (w : Text). c ∷ prefix ++ w) (before-blank d text e) ∙ append-nil (c ∷ prefix)))
 
-ends-later : (c : ℕ) (front : Text) (d : ℕ) (text : Text) → (d == 32) ≡ false →
-    words_behind (c ∷ (front ++ d ∷ [])) text ≡ (c ∷ (front ++ d ∷ []) ++ before_blank text) ∷ words_of (from_blank text) →
-    words_behind (c ∷ front) (d ∷ text) ≡ (c ∷ front ++ before_blank (d ∷ text)) ∷ words_of (from_blank (d ∷ text))
-ends-later c front d text e h =
-    behind-other (c ∷ front) d text e
+ends-later : (c : ℕ) (prefix : Text) (d : ℕ) (text : Text) → (d == 32) ≡ false →
+    words_behind (c ∷ (prefix ++ d ∷ [])) text ≡ (c ∷ (prefix ++ d ∷ []) ++ before_blank text) ∷ words_of (from_blank text) →
+    words_behind (c ∷ prefix) (d ∷ text) ≡ (c ∷ prefix ++ before_blank (d ∷ text)) ∷ words_of (from_blank (d ∷ text))
+ends-later c prefix d text e h =
+    behind-other (c ∷ prefix) d text e
     ∙ h
-    ∙ ap (λ (w : Text). w ∷ words_of (from_blank text)) (append_assoc (c ∷ front) (d ∷ []) (before_blank text) ∙ ap (λ (w : Text). c ∷ front ++ w) (sym (before-other d text e)))
-    ∙ ap (λ (r : Text). (c ∷ front ++ before_blank (d ∷ text)) ∷ words_of r) (sym (from-other d text e))
+    ∙ ap (λ (w : Text). w ∷ words_of (from_blank text)) (append_assoc (c ∷ prefix) (d ∷ []) (before_blank text) ∙ ap (λ (w : Text). c ∷ prefix ++ w) (sym (before-other d text e)))
+    ∙ ap (λ (r : Text). (c ∷ prefix ++ before_blank (d ∷ text)) ∷ words_of r) (sym (from-other d text e))
 
-ends : (t : Bool) (c : ℕ) (front : Text) (d : ℕ) (text : Text) → (d == 32) ≡ t →
-    words_behind (c ∷ (front ++ d ∷ [])) text ≡ (c ∷ (front ++ d ∷ []) ++ before_blank text) ∷ words_of (from_blank text) →
-    words_behind (c ∷ front) (d ∷ text) ≡ (c ∷ front ++ before_blank (d ∷ text)) ∷ words_of (from_blank (d ∷ text))
-ends true c front d text e h = ends-at_once c front d text e
-ends false c front d text e h = ends-later c front d text e h
+ends : (t : Bool) (c : ℕ) (prefix : Text) (d : ℕ) (text : Text) → (d == 32) ≡ t →
+    words_behind (c ∷ (prefix ++ d ∷ [])) text ≡ (c ∷ (prefix ++ d ∷ []) ++ before_blank text) ∷ words_of (from_blank text) →
+    words_behind (c ∷ prefix) (d ∷ text) ≡ (c ∷ prefix ++ before_blank (d ∷ text)) ∷ words_of (from_blank (d ∷ text))
+ends true c prefix d text e h = ends-at_once c prefix d text e
+ends false c prefix d text e h = ends-later c prefix d text e h
 
-word-ends : (text : Text) (c : ℕ) (front : Text) → words_behind (c ∷ front) text ≡ (c ∷ front ++ before_blank text) ∷ words_of (from_blank text)
-word-ends [] c front = ap (λ (w : Text). w ∷ []) (sym (append-nil (c ∷ front)))
-word-ends (d ∷ text) c front = ends (d == 32) c front d text refl (word-ends text c (front ++ d ∷ []))
+word-ends : (text : Text) (c : ℕ) (prefix : Text) → words_behind (c ∷ prefix) text ≡ (c ∷ prefix ++ before_blank text) ∷ words_of (from_blank text)
+word-ends [] c prefix = ap (λ (w : Text). w ∷ []) (sym (append-nil (c ∷ prefix)))
+word-ends (d ∷ text) c prefix = ends (d == 32) c prefix d text refl (word-ends text c (prefix ++ d ∷ []))
 
 -- the first word of a text that begins with it
 word-first : (d : ℕ) (text : Text) → (d == 32) ≡ false → words_of (d ∷ text) ≡ before_blank (d ∷ text) ∷ words_of (from_blank (d ∷ text))

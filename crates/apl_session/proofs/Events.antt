@@ -15,7 +15,7 @@ pub after-more : (s : State) (events : List CodeEvent) (i : ℕ) (x : CodeEvent)
     after_event (after s (take i (event_list events))) (event x) ≡ after s (take (i + 1) (event_list events))
 after-more s events i x within read =
     sym (after-append s (take i (event_list events)) (event x ∷ []))
-    ∙ ap (after s) (ap (λ (front : List Event). front ++ event x ∷ []) (take-map event i events)
+    ∙ ap (after s) (ap (λ (prefix : List Event). prefix ++ event x ∷ []) (take-map event i events)
     ∙ sym (map-append event (take i events) (x ∷ []))
     ∙ ap (λ (y : CodeEvent). map event (take i events ++ y ∷ [])) read
     ∙ ap (map event) (sym (take_more events i x within))

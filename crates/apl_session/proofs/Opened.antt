@@ -9,6 +9,7 @@ use Rattle.apl_machine_state.specs.declared.watch.Watch.TheVariants.{Stop, Trace
 use Rattle.apl_machine_state.specs.Changes.{Change, Rests, Moves, Asks, Arrives, change}
 use Rattle.apl_machine_state.specs.State.{State, is_idle, step, steps, steps_progress, last_progress, progress_at, progress, turn, applied, arrived, comes_to}
 use Rattle.apl_vectors.specs.Vectors.{has_line}
+use Rattle.apl_machine.specs.Counts.{steps_made}
 
 -- the state with that definition open, if any
 abbrev pub within : Option (List Text) → State → State
@@ -62,4 +63,11 @@ last_progress-within d before (suc n) s =
 pub progress-within : (d : Option (List Text)) (n : ℕ) (s : State) → steps_progress n (within d s) ≡ steps_progress n s
 progress-within d n s = last_progress-within d (progress_at s) n s
 
-pub ruleset same_steps = (steps-within, progress-within)
+-- and they are as many
+pub made-within : (d : Option (List Text)) (n : ℕ) (s : State) → steps_made n (within d s) ≡ steps_made n s
+made-within d zero s = refl
+made-within d (suc n) s =
+    ap (λ (t : State). cond (is_idle s) 0 (suc (steps_made n t))) (applied-within d s (change s.world s.contexts))
+    ∙ ap (λ (m : ℕ). cond (is_idle s) 0 (suc m)) (made-within d n (step s))
+
+pub ruleset same_steps = (steps-within, progress-within, made-within)

@@ -26,10 +26,10 @@ abbrev pub with_word : Text → List Text → List Text
 with_word [] words = words
 with_word (c ∷ word) words = (c ∷ word) ∷ words
 
--- the words that blanks divide, behind a front of the first
+-- the words that blanks divide, behind a prefix of the first
 abbrev pub words_behind : Text → Text → List Text
-words_behind front [] = with_word front []
-words_behind front (c ∷ text) = if c == 32 then with_word front (words_behind [] text) else words_behind (front ++ c ∷ []) text
+words_behind prefix [] = with_word prefix []
+words_behind prefix (c ∷ text) = if c == 32 then with_word prefix (words_behind [] text) else words_behind (prefix ++ c ∷ []) text
 
 abbrev pub words_of : Text → List Text
 words_of text = words_behind [] text

@@ -2,6 +2,7 @@
 ghost use Rattle.std.specs.Prelude.{◌≡◌, ◌↔◌, [], ◌∷◌, ℕ, ◌<◌, take, option_copied, slice_get, not, ◌==◌, find, true, Some, None, IfErr, IfOk, OnOk, OnErr, IsErrOf, IsFalse};
 ghost use Rattle.apl_machine_state.specs.State.{is_idle, steps, steps_progress, interrupt};
 ghost use Rattle.apl_order.specs.Kept.{IsKept};
+ghost use Rattle.apl_machine.specs.Counts.{steps_made};
 ghost use Rattle.apl_session.specs.Commands.{commanded};
 ghost use Rattle.apl_session.specs.Defining.{refused, closed, next_line, open_header, typed_behind_del};
 ghost use Rattle.apl_session.specs.Events as model;
@@ -13,7 +14,7 @@ use crate::definition::{OpenDefinition, behind_mark, close, is_close, refuse, sh
 use apl_charset::{Ch, CharFault, Text, decode_line};
 use apl_defn::trimmed;
 use apl_faults::Fault;
-use apl_machine::{BeginError, Machine, OutLine, Progress};
+use apl_machine::{BeginError, Machine, Made, OutLine, Progress};
 use std::alloc::{AllocError, Global};
 use std::marker::Model;
 use thiserror::Error;
@@ -295,17 +296,18 @@ impl Session {
         }
     }
 
-    /// At most `count` steps, and where the session stands after them. Out of memory it gives the
-    /// number of those that are done.
+    /// The same as [`Session::advance`], and how many steps were made: fewer than `count` where the session is idle after them. Out of
+    /// memory it gives the number of those that are done.
     #[tactic(auto, using(crate::proofs::Opened::same_steps))]
-    fn make_steps(&mut self, count: u64) -> Result<Progress, u64>
+    pub fn make_steps(&mut self, count: u64) -> Result<Made, u64>
         ensures ok { OnOk result (self.new ≡ steps count self.old) }
-        ensures progress { IfOk result (λ p. p ≡ steps_progress count self.old) }
+        ensures steps { IfOk result (λ m. m.steps ≡ steps_made count self.old) }
+        ensures progress { IfOk result (λ m. m.progress ≡ steps_progress count self.old) }
         ensures err { IfErr result (λ done. self.new ≡ steps done self.old) }
         ensures part { IfErr result (λ done. done < count) }
     {
-        let progress = self.machine.advance(count)?;
-        Ok(progress)
+        let made = self.machine.make_steps(count)?;
+        Ok(made)
     }
 
     /// At most `count` steps, until the machine is idle, and where it stands after them. Out of
@@ -316,7 +318,7 @@ impl Session {
         ensures err { OnErr result ((done : ℕ) × (done < count) × (self.new ≡ steps done self.old)) }
     {
         match self.make_steps(count) {
-            Ok(progress) => Ok(progress),
+            Ok(made) => Ok(made.progress),
             Err(_) => Err(AllocError),
         }
     }

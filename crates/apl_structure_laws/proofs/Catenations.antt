@@ -177,29 +177,29 @@ drops_first along origin k a b c q j = of (parts along origin k a b c j) j
 -- ---- joining what was taken and what is left
 
 module _ (k n : ℕ) (s : List ℕ) (below : k < length s) (few : n ≤ get_or s k 0) where
-  front : List ℕ
-  front = on_axis k (λ m. n) s
+  prefix : List ℕ
+  prefix = on_axis k (λ m. n) s
 
   rest : List ℕ
   rest = on_axis k (λ m. m - n) s
 
-  front-length : get_or front k 0 ≡ n
-  unfolding front
+  front-length : get_or prefix k 0 ≡ n
+  unfolding prefix
   front-length = get_or-on_axis k (λ m. n) s below
 
   rest-length : get_or rest k 0 ≡ get_or s k 0 - n
   unfolding rest
   rest-length = get_or-on_axis k (λ m. m - n) s below
 
-  again : joined_shape k front rest ≡ s
-  unfolding front rest
+  again : joined_shape k prefix rest ≡ s
+  unfolding prefix rest
   again =
-      let a : get_or front k 0 ≡ n = front-length in
+      let a : get_or prefix k 0 ≡ n = front-length in
       let b : get_or rest k 0 ≡ get_or s k 0 - n = rest-length in
-      on_axis-to k (λ m. m + get_or rest k 0) front s (without-on_axis k (λ m. n) s) (length-on_axis k (λ m. n) s) (omega (arith, length-on_axis k (λ m. n) s)) (omega arith)
+      on_axis-to k (λ m. m + get_or rest k 0) prefix s (without-on_axis k (λ m. n) s) (length-on_axis k (λ m. n) s) (omega (arith, length-on_axis k (λ m. n) s)) (omega arith)
 
-  front_within : (i : List ℕ) → is_within s i ≡ true → get_or i k 0 < n → is_within front i ≡ true
-  unfolding front
+  front_within : (i : List ℕ) → is_within s i ≡ true → get_or i k 0 < n → is_within prefix i ≡ true
+  unfolding prefix
   front_within i w h = ap (is_within (on_axis k (λ m. n) s)) (sym (on_axis-stays k (λ j. j) i (λ h. refl))) ∙ within-on_axis k (λ m. n) (λ j. j) s i w (λ g. h)
 
   rest_within : (i : List ℕ) → is_within s i ≡ true → n ≤ get_or i k 0 → is_within rest (on_axis k (λ j. j - n) i) ≡ true
@@ -209,27 +209,27 @@ module _ (k n : ℕ) (s : List ℕ) (below : k < length s) (few : n ≤ get_or s
       less : (i m n : ℕ) → n ≤ i → i < m → i - n < m - n
       less i m n h g = omega arith
 
-  front_inside : (i : List ℕ) → is_within front i ≡ true → is_within s i ≡ true
-  unfolding front
+  front_inside : (i : List ℕ) → is_within prefix i ≡ true → is_within s i ≡ true
+  unfolding prefix
   front_inside i w =
       ap (is_within s) (sym (on_axis-stays k (λ j. j) i (λ h. refl)))
-      ∙ ap (λ t. is_within t (on_axis k (λ j. j) i)) (sym (on_axis-to k (λ m. get_or s k 0) front s (without-on_axis k (λ m. n) s) (length-on_axis k (λ m. n) s) (omega (arith, length-on_axis k (λ m. n) s)) refl))
-      ∙ within-on_axis k (λ m. get_or s k 0) (λ j. j) front i w (λ h. let g : get_or i k 0 < get_or front k 0 = within-at front i k w h in omega (arith, front-length))
+      ∙ ap (λ t. is_within t (on_axis k (λ j. j) i)) (sym (on_axis-to k (λ m. get_or s k 0) prefix s (without-on_axis k (λ m. n) s) (length-on_axis k (λ m. n) s) (omega (arith, length-on_axis k (λ m. n) s)) refl))
+      ∙ within-on_axis k (λ m. get_or s k 0) (λ j. j) prefix i w (λ h. let g : get_or i k 0 < get_or prefix k 0 = within-at prefix i k w h in omega (arith, front-length))
 
   -- the elements of either part
   abbrev fronts : {A : Type 0} → A → List A → List A
-  fronts d zs = map (λ i. get_or zs (position_in s i) d) (indices front)
+  fronts d zs = map (λ i. get_or zs (position_in s i) d) (indices prefix)
 
   abbrev rests : {A : Type 0} → A → List A → List A
   rests d zs = map (λ i. get_or zs (position_in s (on_axis k (λ j. j + n) i)) d) (indices rest)
 
   abbrev either : {A : Type 0} → A → List A → List ℕ → A
-  either d zs i = joined_at k (get_or front k 0) (position_in front) (position_in rest) d (fronts d zs) (rests d zs) i
+  either d zs i = joined_at k (get_or prefix k 0) (position_in prefix) (position_in rest) d (fronts d zs) (rests d zs) i
 
   low : {A : Type 0} (d : A) (zs : List A) (i : List ℕ) → is_within s i ≡ true → get_or i k 0 < n → either d zs i ≡ get_or zs (position_in s i) d
   low d zs i w h =
-      first-at k (get_or front k 0) (position_in front) (position_in rest) d (fronts d zs) (rests d zs) i (omega (arith, front-length))
-      ∙ at_place (λ i. get_or zs (position_in s i) d) d front i (front_within i w h)
+      first-at k (get_or prefix k 0) (position_in prefix) (position_in rest) d (fronts d zs) (rests d zs) i (omega (arith, front-length))
+      ∙ at_place (λ i. get_or zs (position_in s i) d) d prefix i (front_within i w h)
 
   back : (i : List ℕ) → n ≤ get_or i k 0 → on_axis k (λ j. j + n) (on_axis k (λ j. j - n) i) ≡ i
   back i h = on_axis-on_axis k (λ j. j + n) (λ j. j - n) i ∙ on_axis-stays k (λ j. (j - n) + n) i (λ g. more (get_or i k 0) n h)
@@ -239,8 +239,8 @@ module _ (k n : ℕ) (s : List ℕ) (below : k < length s) (few : n ≤ get_or s
 
   high : {A : Type 0} (d : A) (zs : List A) (i : List ℕ) → is_within s i ≡ true → n ≤ get_or i k 0 → either d zs i ≡ get_or zs (position_in s i) d
   high d zs i w h =
-      ap (λ m. joined_at k m (position_in front) (position_in rest) d (fronts d zs) (rests d zs) i) front-length
-      ∙ second-at k n (position_in front) (position_in rest) d (fronts d zs) (rests d zs) i h
+      ap (λ m. joined_at k m (position_in prefix) (position_in rest) d (fronts d zs) (rests d zs) i) front-length
+      ∙ second-at k n (position_in prefix) (position_in rest) d (fronts d zs) (rests d zs) i h
       ∙ at_place (λ i. get_or zs (position_in s (on_axis k (λ j. j + n) i)) d) d rest (on_axis k (λ j. j - n) i) (rest_within i w h)
       ∙ ap (λ i. get_or zs (position_in s i) d) (back i h)
 
@@ -248,7 +248,7 @@ module _ (k n : ℕ) (s : List ℕ) (below : k < length s) (few : n ≤ get_or s
   elements d zs full = listed (either d zs) zs d s full (λ i w. ⊎_elim (low d zs i w) (high d zs i w) (cases_lt (get_or i k 0) n))
 
   items : (zs : Items) → length (cells_of zs) ≡ size_of s →
-      items_of_both k front rest (picked zs (λ i. position_in s i) (indices front)) (picked zs (λ i. position_in s (on_axis k (λ j. j + n) i)) (indices rest)) (indices s) ≡ zs
+      items_of_both k prefix rest (picked zs (λ i. position_in s i) (indices prefix)) (picked zs (λ i. position_in s (on_axis k (λ j. j + n) i)) (indices rest)) (indices s) ≡ zs
   items (Numbers zs) full = ap (λ l. Numbers l) (elements (pos 0) zs (sym (length-map zs Num) ∙ full))
   items (Characters cs) full = ap (λ l. Characters l) (elements 0 cs (sym (length-map cs Char) ∙ full))
 
@@ -257,7 +257,7 @@ type_picked (Numbers zs) f g is js = refl
 type_picked (Characters cs) f g is js = refl
 
 pub rejoins : Rejoins
-unfolding front rest
+unfolding prefix rest
 rejoins along origin k n a q r h g few c d =
     let first : Arr = selected a (on_axis k (λ m. n) a.shape) (λ i. i) in
     let others : Arr = selected a (on_axis k (λ m. m - n) a.shape) (on_axis k (λ j. j + n)) in

@@ -211,7 +211,7 @@ one_deeper (Opens b) open_ones new e = let same : b ∷ open_ones ≡ new = cc i
 one_deeper (Closes b) [] new e = absurd cc
 one_deeper (Closes b) (o ∷ open_ones) new e = one_less (same_bracket b o) o open_ones new e
 
--- the blank in front is passed over
+-- the leading blank is passed over
 blank_front : (c : ℕ) (after : List ℕ) (b : Bool) → is_blank (class_of c) ≡ b → b ≡ true → after_blanks (c ∷ after) ≡ after_blanks after
 blank_front c after b e t =
     let one : 1 + run_len run.Blanks after ≡ suc (run_len run.Blanks after) = omega arith in

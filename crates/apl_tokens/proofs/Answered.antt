@@ -48,7 +48,7 @@ real_fault fault.Quote after column = λ e. cc
 real_fault fault.Stray after column = λ e. cc
 real_fault fault.Limit after column = λ e. cc
 
--- one token more in front
+-- one token more at the start
 told_token : (end : ℕ) (place : Place) (t : Token) (text after : List ℕ) (later : Answer) → Step end place t text after → Told end (next_place place t.kind) after later → Told end place text (with_token t later)
 told_token end place t text after (Ok ts) step told = record { rest = told.rest; row = (after, step, told.row); blank = told.blank }
 told_token end place t text after (Err e) step told = record { pieces = t ∷ told.pieces; rest = told.rest; row = (after, step, told.row); breaks = told.breaks; real = told.real }
@@ -56,8 +56,8 @@ told_token end place t text after (Err e) step told = record { pieces = t ∷ to
 told_reading : (end : ℕ) (place : Place) (text : List ℕ) (later : Place → List ℕ → Answer) (read : Reading) → length text < end → 0 < length (word_of text) → next_at place (word_of text) ≡ read → AllTold end (length text) later
     → Told end place text (from_reading (end - length (word_of text)) place (word_of text) read later)
 told_reading end place text later (Ok piece) lt some e all =
-    let front = front_len place piece.0 piece.1 (word_of text) (next_front place (word_of text) piece.0 piece.1 e) in
-    let short : length (drop piece.1 (word_of text)) < length text = omega (arith, front, word_le text, length-drop piece.1 (word_of text)) in
+    let prefix = front_len place piece.0 piece.1 (word_of text) (next_front place (word_of text) piece.0 piece.1 e) in
+    let short : length (drop piece.1 (word_of text)) < length text = omega (arith, prefix, word_le text, length-drop piece.1 (word_of text)) in
     told_token end place (record { kind = piece.0; at = end - length (word_of text) }) text (drop piece.1 (word_of text)) (later (next_place place piece.0) (drop piece.1 (word_of text)))
     (step_is end place text piece.0 piece.1 lt e) (all (next_place place piece.0) (drop piece.1 (word_of text)) short)
 told_reading end place text later (Err f) lt some e all = record {

@@ -146,7 +146,7 @@ spelled_symbol : (s : Symbol) (after : List ℕ) (place : Place) → Ends (kind.
 unfolding next_at next_of
 spelled_symbol s after place ends stands = rw (glyph_class s) (symbol_again s after place (is_quad s) refl ends stands)
 
--- a token at the front is read
+-- a token at the start is read
 pub spelled_read : (k : Kind) (word after : List ℕ) (place : Place) → IsSpelled k word → Ends k after → may_stand place k ≡ true → next_at place (word ++ after) ≡ Ok (k, length word)
 spelled_read (kind.Constant []) word after place h ends stands = absurd h
 spelled_read (kind.Constant (n ∷ [])) word after place h ends stands = spelled_number n word after place h ends

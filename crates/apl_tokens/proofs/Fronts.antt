@@ -1,4 +1,4 @@
--- A token at the front of a text.
+-- A token at the start of a text.
 use Rattle.std.proofs.Common.{◌≡◌, ℕ, ◌<◌, true, List, ◌++◌, length}
 use Rattle.apl_tokens.specs.declared.token.Kind.{Kind}
 use Rattle.apl_tokens.specs.declared.place.Place.{Place}

@@ -10,10 +10,10 @@ abbrev token : Kind → ℕ → Token
 token k n = record { kind = k; at = n }
 
 -- what is pushed goes to the last
-pub push_last : (front : List Token) (u t : Token) → push_joined (front ++ u ∷ []) t ≡ front ++ join u (t ∷ [])
+pub push_last : (prefix : List Token) (u t : Token) → push_joined (prefix ++ u ∷ []) t ≡ prefix ++ join u (t ∷ [])
 push_last [] u t = refl
 push_last (v ∷ []) u t = refl
-push_last (v ∷ w ∷ front) u t = ap (λ (ts : List Token). v ∷ ts) (push_last (w ∷ front) u t)
+push_last (v ∷ w ∷ prefix) u t = ap (λ (ts : List Token). v ∷ ts) (push_last (w ∷ prefix) u t)
 
 pub constants : (ns ms : List ℤ) (m n : ℕ) → join (token (Constant ns) m) (token (Constant ms) n ∷ []) ≡ token (Constant (ns ++ ms)) m ∷ []
 constants ns ms m n = refl
@@ -47,8 +47,8 @@ joined_push [] t = refl
 joined_push (p ∷ ps) t = ap (λ (ts : List Token). join p ts) (joined_push ps t) ∙ join_push p (joined ps) t
 
 -- what a push leaves
-two : (front : List Token) (u t : Token) → (front ++ u ∷ []) ++ t ∷ [] ≡ front ++ (u ∷ t ∷ [])
-two front u t = simp append_assoc
+two : (prefix : List Token) (u t : Token) → (prefix ++ u ∷ []) ++ t ∷ [] ≡ prefix ++ (u ∷ t ∷ [])
+two prefix u t = simp append_assoc
 
 -- a token that is no constant stays apart
 push_apart : (old : List Token) (k : Kind) (n : ℕ) → ((ns : List ℤ) → k ≡ Constant ns → ⊥) → push_joined old (token k n) ≡ old ++ token k n ∷ []
@@ -59,9 +59,9 @@ push_apart (u ∷ v ∷ us) k n apart = ap (λ (ts : List Token). u ∷ ts) (pus
 pub pushed_apart : (old new : List Token) (k : Kind) (n : ℕ) → new ≡ old ++ token k n ∷ [] → ((ns : List ℤ) → k ≡ Constant ns → ⊥) → new ≡ push_joined old (token k n)
 pushed_apart old new k n is apart = is ∙ sym (push_apart old k n apart)
 
-pub pushed_first : (old front one both : List Token) (k : Kind) (m : ℕ) (t : Token) → old ≡ front ++ token k m ∷ [] → one ≡ front ++ token k m ∷ [] → both ≡ one ++ t ∷ [] → ((ns : List ℤ) → k ≡ Constant ns → ⊥) → both ≡ push_joined old t
-pushed_first old front one both k m t was first second apart =
-    second ∙ ap (λ (ts : List Token). ts ++ t ∷ []) first ∙ two front (token k m) t ∙ ap (λ (ts : List Token). front ++ ts) (sym (apart_first k m t apart)) ∙ sym (push_last front (token k m) t) ∙ ap (λ (ts : List Token). push_joined ts t) (sym was)
+pub pushed_first : (old prefix one both : List Token) (k : Kind) (m : ℕ) (t : Token) → old ≡ prefix ++ token k m ∷ [] → one ≡ prefix ++ token k m ∷ [] → both ≡ one ++ t ∷ [] → ((ns : List ℤ) → k ≡ Constant ns → ⊥) → both ≡ push_joined old t
+pushed_first old prefix one both k m t was first second apart =
+    second ∙ ap (λ (ts : List Token). ts ++ t ∷ []) first ∙ two prefix (token k m) t ∙ ap (λ (ts : List Token). prefix ++ ts) (sym (apart_first k m t apart)) ∙ sym (push_last prefix (token k m) t) ∙ ap (λ (ts : List Token). push_joined ts t) (sym was)
 
-pub pushed_constant : (old front new : List Token) (k : Kind) (ns ms all : List ℤ) (m n : ℕ) → old ≡ front ++ token k m ∷ [] → k ≡ Constant ns → all ≡ ns ++ ms → new ≡ front ++ token (Constant all) m ∷ [] → new ≡ push_joined old (token (Constant ms) n)
-pushed_constant old front new k ns ms all m n was first sum last = rw (last, sum, was, first) (sym (push_last front (token (Constant ns) m) (token (Constant ms) n)))
+pub pushed_constant : (old prefix new : List Token) (k : Kind) (ns ms all : List ℤ) (m n : ℕ) → old ≡ prefix ++ token k m ∷ [] → k ≡ Constant ns → all ≡ ns ++ ms → new ≡ prefix ++ token (Constant all) m ∷ [] → new ≡ push_joined old (token (Constant ms) n)
+pushed_constant old prefix new k ns ms all m n was first sum last = rw (last, sum, was, first) (sym (push_last prefix (token (Constant ns) m) (token (Constant ms) n)))

@@ -109,9 +109,9 @@ led_reading : (n end : ℕ) (place : Place) (text : List ℕ) (read : Reading) �
     → ((p : Place) (rest : List ℕ) → length rest < n → length rest < end → Led (faults_from n end p rest) (pieces_of n end p rest))
     → Led (faults_of_reading (end - length (word_of text)) place (word_of text) read (λ p rest. faults_from n end p rest)) (from_reading (end - length (word_of text)) place (word_of text) read (λ p rest. pieces_of n end p rest))
 led_reading n end place text (Ok piece) room lt some e all =
-    let front = front_len place piece.0 piece.1 (word_of text) (next_front place (word_of text) piece.0 piece.1 e) in
+    let prefix = front_len place piece.0 piece.1 (word_of text) (next_front place (word_of text) piece.0 piece.1 e) in
     let rest = drop piece.1 (word_of text) in
-    let shorter : length rest < length text = omega (arith, front, word_le text, length-drop piece.1 (word_of text)) in
+    let shorter : length rest < length text = omega (arith, prefix, word_le text, length-drop piece.1 (word_of text)) in
     led_token (faults_from n end (next_place place piece.0) rest) (token piece.0 (end - length (word_of text))) (pieces_of n end (next_place place piece.0) rest) (all (next_place place piece.0) rest (omega arith) (omega arith))
 led_reading n end place text (Err f) room lt some e all =
     let at : IsSharp (word_of text) f.0 f.1 = subst (λ (r : Reading). Sharp (word_of text) r) e (sharp place (word_of text)) in

@@ -1,4 +1,4 @@
--- Runs of characters at the front.
+-- Runs of characters at the start.
 use Rattle.std.proofs.Common.{◌≡◌, ℕ, suc, ◌+◌, Bool, true, false, cond, List, [], ◌∷◌, ◌++◌, length, take, drop, get_or, refl, arith}
 use Rattle.std.specs.List.{list_all, prefix_len}
 use Rattle.apl_tokens.specs.declared.class.Class.TheVariants as class

@@ -1,4 +1,4 @@
--- How far from the front of a word its fault stands.
+-- How far from the start of a word its fault stands.
 use Rattle.std.proofs.Common.{◌≡◌, ℕ, ◌+◌, ◌<◌, ◌≤◌, Bool, true, false, not, ◌&&◌, cond, List, [], ◌∷◌, length, take, drop, Option, Some, None, Ok, Err, refl, sym, subst, arith, eqb, leb}
 use Rattle.std.proofs.lemmas.Bool.{eqb-false, leb-false}
 use Rattle.std.proofs.lemmas.List.Sums.{prefix_len-le-length}

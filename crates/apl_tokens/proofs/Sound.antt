@@ -336,7 +336,7 @@ next_front-of (class.Symbol symbol) place c rest k m h e = symbol_front symbol c
 next_front-of class.Other place c rest k m h e = absurd cc
 next_front-of class.Blank place c rest k m h e = absurd cc
 
--- the token that is read stands at the front
+-- the token that is read stands at the start
 pub next_front : (place : Place) (text : List ℕ) (k : Kind) (m : ℕ) → next_at place text ≡ Ok (k, m) → Front place k m text
 unfolding next_at
 next_front place [] k m e = absurd cc

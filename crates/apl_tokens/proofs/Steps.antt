@@ -19,7 +19,7 @@ use Rattle.apl_tokens.proofs.Runs.{run_passes, run_stops}
 use Rattle.apl_tokens.proofs.Fronts.{Front}
 use Rattle.apl_tokens.proofs.Sound.{next_front}
 
--- the blanks in front
+-- the leading blanks
 abbrev pub gap_of : List ℕ → List ℕ
 gap_of text = take (run_len run.Blanks text) text
 

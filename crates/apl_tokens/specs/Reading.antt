@@ -30,7 +30,7 @@ takes run.Blanks class = is_blank class
 takes run.Digits class = is_digit class
 takes run.Name class = is_in_name class
 
--- how many characters in front are of the run
+-- how many of the first characters are of the run
 abbrev pub run_len : Run → List ℕ → ℕ
 run_len run = prefix_len (λ c. takes run (class_of c))
 
@@ -57,7 +57,7 @@ number_at negative rest = number_of_len negative rest (run_len run.Digits rest)
 abbrev pub name_of_len : List ℕ → ℕ → Reading
 name_of_len rest n = if nat_le n 32 then Ok (kind.Name (take n rest), n) else Err (Limit, 0)
 
--- the name at the front
+-- the name at the start
 unfoldable pub name_at : List ℕ → Reading
 name_at rest = name_of_len rest (run_len run.Name rest)
 

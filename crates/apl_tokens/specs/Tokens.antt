@@ -26,7 +26,7 @@ token kind at = record { kind = kind; at = at }
 abbrev pub Answer : Type 0
 Answer = Result (List Token) TokenError
 
--- what stands after the blanks in front
+-- what stands after the leading blanks
 abbrev pub after_blanks : List ℕ → List ℕ
 after_blanks text = drop (run_len run.Blanks text) text
 

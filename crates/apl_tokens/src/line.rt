@@ -91,7 +91,7 @@ fn error_at(halt: Halt, column: usize) -> TokenError
     }
 }
 
-/// The token after the blanks in front, if one is there, and what is after it.
+/// The token after the leading blanks, if one is there, and what is after it.
 fn piece(
     alloc: Global,
     end: usize,
@@ -163,8 +163,8 @@ fn push_numbers(out: &mut Vec<Token>, more: Numbers, at: usize) -> Result<(), Al
     };
     let Token { kind, at: place } = last;
     match kind {
-        Kind::Constant(front) => {
-            let numbers = front.followed_by(more)?;
+        Kind::Constant(prefix) => {
+            let numbers = prefix.followed_by(more)?;
             out.push(Token {
                 kind: Kind::Constant(numbers),
                 at: place,

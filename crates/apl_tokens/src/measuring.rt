@@ -1,4 +1,4 @@
-// How long the token at the front of a text is, without making it.
+// How long the token at the start of a text is, without making it.
 ghost use Rattle.std.specs.Prelude.{◌≡◌, ℕ, ◌<◌, ◌≤◌, ◌∷◌, length, false, IfSome};
 ghost use Rattle.apl_tokens.specs.declared.class.Class.TheVariants.{Letter};
 ghost use Rattle.apl_tokens.specs.Characters.{class_of};
@@ -147,7 +147,7 @@ fn symbol_len(symbol: Symbol, place: Place, rest: &[Ch]) -> Option<Measure>
     }
 }
 
-/// The token at the front, if one is there.
+/// The token at the start, if one is there.
 #[tactic(auto, unfolding(crate::specs::Reading::next_at, crate::specs::Reading::next_of))]
 pub fn next_len(place: Place, rest: &[Ch]) -> Option<Measure>
     requires { length rest.now < 1000 }

@@ -1,4 +1,4 @@
-// The token at the front of a text.
+// The token at the start of a text.
 ghost use Rattle.std.specs.Prelude.{◌≡◌, ◌+◌, ◌*◌, ◌^◌, ◌<◌, ◌≤◌, length, take, drop, true, false, IfSome, IfNone, IfOk, IfErr};
 ghost use Rattle.std.specs.Str.Parse.{digits_value};
 ghost use Rattle.apl_tokens.specs.Spelling.{class_at, all_digits, signed_value, in_range, is_quad, is_colon};
@@ -77,7 +77,7 @@ impl Run {
         }
     }
 
-    /// How many characters in front are of the run.
+    /// How many of the first characters are of the run.
     pub fn len(self, rest: &[Ch]) -> usize
         ensures is { result ≡ run_len self rest.now }
         ensures within { result ≤ length rest.now }
@@ -157,7 +157,7 @@ fn number_at(alloc: Global, negative: bool, rest: &[Ch]) -> Result<(Kind, usize)
     }
 }
 
-/// The name at the front.
+/// The name at the start.
 #[tactic(auto, unfolding(crate::specs::Reading::name_at))]
 fn name_at(rest: &[Ch]) -> Result<(Kind, usize), Halt>
     ensures is { Gives result (name_at rest.now) }
@@ -259,7 +259,7 @@ fn symbol_at(symbol: Symbol, place: Place, rest: &[Ch]) -> Result<(Kind, usize),
     }
 }
 
-/// The token or the fault at the front.
+/// The token or the fault at the start.
 #[tactic(auto, unfolding(crate::specs::Reading::next_at, crate::specs::Reading::next_of))]
 pub fn next_at(alloc: Global, place: Place, rest: &[Ch]) -> Result<(Kind, usize), Halt>
     requires { length rest.now < 1000 }

@@ -69,9 +69,9 @@ fn push_turned<T: Copy>(out: &mut Vec<T>, plane: &[T], from: usize) -> Result<()
     requires { from ≤ length plane.now }
     ensures { OnOk result (out.new.items ≡ out.old.items ++ (drop from plane.now ++ take from plane.now)) }
 {
-    let (front, back) = plane.split_at(from);
+    let (prefix, back) = plane.split_at(from);
     out.extend_from_slice(back)?;
-    out.extend_from_slice(front)?;
+    out.extend_from_slice(prefix)?;
     Ok(())
 }
 

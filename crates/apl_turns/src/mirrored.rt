@@ -52,9 +52,9 @@ fn put_eight<T: Copy>(out: &mut Vec<T>, eight: &[T])
     ensures count { vec_len out.new ≡ vec_len out.old + 8 }
     ensures room { vec_capacity out.new ≡ vec_capacity out.old }
 {
-    let (front, back) = eight.split_at(4);
+    let (prefix, back) = eight.split_at(4);
     put_four(out, back);
-    put_four(out, front);
+    put_four(out, prefix);
 }
 
 /// The same of a block.
@@ -66,9 +66,9 @@ fn put_block<T: Copy>(out: &mut Vec<T>, block: &[T])
     ensures count { vec_len out.new ≡ vec_len out.old + BLOCK }
     ensures room { vec_capacity out.new ≡ vec_capacity out.old }
 {
-    let (front, back) = block.split_at(8);
+    let (prefix, back) = block.split_at(8);
     put_eight(out, back);
-    put_eight(out, front);
+    put_eight(out, prefix);
 }
 
 /// Appends whole blocks the other way, for which there is room.
@@ -82,9 +82,9 @@ fn put_blocks<T: Copy>(out: &mut Vec<T>, blocks: &[T])
 {
     let mut rest = blocks;
     while rest.len() >= BLOCK {
-        let (front, block) = rest.split_at(rest.len() - BLOCK);
+        let (prefix, block) = rest.split_at(rest.len() - BLOCK);
         put_block(out, block);
-        rest = front;
+        rest = prefix;
     }
 }
 

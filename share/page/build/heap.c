@@ -67,11 +67,11 @@ static void release(block *b) {
         b->size += after->size;
     }
     if (b->before) {
-        block *front = (block *)((char *)b - b->before);
-        if (!is_used(front)) {
-            drop(front);
-            front->size += b->size;
-            b = front;
+        block *previous = (block *)((char *)b - b->before);
+        if (!is_used(previous)) {
+            drop(previous);
+            previous->size += b->size;
+            b = previous;
         }
     }
     behind(b)->before = b->size;

@@ -35,7 +35,7 @@ def number(n: int) -> bytes:
 
 
 class Reader:
-    """Bytes of a module, read from the front."""
+    """Bytes of a module, read from the start."""
 
     def __init__(self, data: bytes, at: int = 0) -> None:
         self.data, self.at = data, at

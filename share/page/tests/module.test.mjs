@@ -106,7 +106,7 @@ test('the limits are reached without a trap, on a part of the stack', () => {
     assert.ok(new Uint8Array(memory.buffer, 0, STACK / 2).every(it => it === 0xA5), 'over half of the stack is used');
 });
 
-test('where memory is refused the number is 8, and the next call works', () => {
+test('where memory runs out the number is 8, and the next call works', () => {
     const machine = opened(new Uint8Array(), 6n << 20n);
     assert.deepStrictEqual([machine.type('⍳1000000'), machine.advance(100)], [0, MEMORY]);
     assert.strictEqual(machine.interrupt(), 0);

@@ -20,6 +20,7 @@ def show_lines(tab: Tab) -> None:
 def pictures(folder: Path, to: Path) -> None:
     """Takes pictures of the page with a session: page.png, page-dark.png, page-narrow.png, page-narrow-dark.png, page-reference.png,
     page-menu.png and page-guide.png."""
+    to.mkdir(parents=True, exist_ok=True)
     trial = Trial(folder, None)
     try:
         tab = trial.tab("class")

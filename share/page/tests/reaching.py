@@ -23,8 +23,8 @@ CONTRASTS = """(() => {
     while (walk.nextNode()) if (walk.currentNode.data.trim()) seen.push(walk.currentNode.parentElement);
     const shown = [...new Set(seen)].filter(it => it.checkVisibility({ visibilityProperty: true }) && !it.closest('.unseen, option, script, [type=file]'));
     const weak = shown.map(it => {
-        const back = behind(it), front = parsed(getComputedStyle(it).color);
-        const [a, b] = [light(over([...front.slice(0, 3), front[3] * opacity(it)], back)), light(back)].sort((x, y) => y - x);
+        const behindIt = behind(it), own = parsed(getComputedStyle(it).color);
+        const [a, b] = [light(over([...own.slice(0, 3), own[3] * opacity(it)], behindIt)), light(behindIt)].sort((x, y) => y - x);
         return [(a + .05) / (b + .05), it];
     });
     return [shown.length, weak.filter(it => it[0] < 4.5).map(([ratio, it]) => `${ratio.toFixed(2)} ${it.tagName} ${it.id} ${it.className} ${it.textContent.slice(0, 20)}`)];

@@ -23,7 +23,7 @@ class Told {
 
     /** All that was written. On a slow machine a part of it is told while a line runs. */
     written() {
-        return this.messages.map(it => it.front ?? '').join('');
+        return this.messages.map(it => it.prefix ?? '').join('');
     }
 
     async until(what, count = 1) {
@@ -69,7 +69,7 @@ test('an interrupt ends what runs, and gives back the lines that were to follow'
     assert.deepStrictEqual((await told.until('left')).lines, ['A←1', 'B←2']);
 });
 
-test('where memory is refused the line is told by its number, and the next one is done', async () => {
+test('where memory runs out the line is told by its number, and the next one is done', async () => {
     const told = begun([], 6n << 20n);
     told.send({ what: 'lines', lines: ['⍳1000000', '2+3'] });
     await told.until('ended', 2);
@@ -137,7 +137,7 @@ test('where the worker dies, its lines and those that waited are told, and anoth
     say({ what: 'saved', number: 0, bytes: file, calls: [] });
     session.type(['A', 'B', 'C']);
     say({ what: 'typed', line: 'A', number: 0 });
-    say({ what: 'ended', number: 0, next: 0, front: '', cut: 0, back: '' });
+    say({ what: 'ended', number: 0, next: 0, prefix: '', cut: 0, suffix: '' });
     say({ what: 'typed', line: 'B', number: 0 });
     say({ what: 'died', why: 'a trap' });
     assert.deepStrictEqual(seen.undone, [['A', 'B', 'C']]);
@@ -165,7 +165,7 @@ test('lines that were typed since the file was made are told when it is opened a
     const { seen, session, say } = stood();
     session.type(['∇F', 'LOOP']);
     say({ what: 'typed', line: '∇F', number: 0 });
-    say({ what: 'ended', number: 0, next: 1, front: '', cut: 0, back: '' });
+    say({ what: 'ended', number: 0, next: 1, prefix: '', cut: 0, suffix: '' });
     await wait(100);
     const [notes] = seen.puts.at(-1);
     assert.deepStrictEqual([notes.since, notes.open, notes.written], [['∇F', 'LOOP'], [], 1]);

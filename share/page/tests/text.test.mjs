@@ -84,8 +84,8 @@ test('what is pasted is typed line by line, but for the last', () => {
 test('of what is too long the middle is left out', () => {
     const written = new Written();
     for (let i = 0; i < 30; i++) written.add('x'.repeat(9999) + '\n');
-    const { front, cut, back } = written.take();
-    assert.strictEqual(front.length + cut + back.length, 300000);
-    assert.ok(cut > 0 && front.length === 100000);
-    assert.deepStrictEqual(written.take(), { front: '', cut: 0, back: '' });
+    const { prefix, cut, suffix } = written.take();
+    assert.strictEqual(prefix.length + cut + suffix.length, 300000);
+    assert.ok(cut > 0 && prefix.length === 100000);
+    assert.deepStrictEqual(written.take(), { prefix: '', cut: 0, suffix: '' });
 });

@@ -1,15 +1,12 @@
 """What a session answers."""
 from __future__ import annotations
 
-import re
 from dataclasses import dataclass
-from typing import Optional, Sequence, Tuple, Union
+from typing import Any, Dict, Optional, Sequence, Tuple, Union
 
 # The numbers of the faults whose report is their name alone.
 DEFN, CHARACTER, COMMAND = 9, 11, 12
 ALONE = (DEFN, CHARACTER, COMMAND)
-# What stands before the line in a report: six blanks, or the call.
-BEFORE = re.compile(r" {6}|(\S+)\[(\d+)\] ")
 
 
 @dataclass(frozen=True)
@@ -36,14 +33,12 @@ class Fault:
     column: int = 0
 
     @classmethod
-    def of(cls, number: int, written: Sequence[Line]) -> Fault:
-        """Returns the fault of a number whose report is the last that was written."""
-        if number in ALONE:
+    def of(cls, number: int, written: Sequence[Line], place: Optional[Dict[str, Any]]) -> Fault:
+        """Returns the fault of a number, whose report is the last that was written, and of a place, as an answer tells it. One without a
+        place is reported by its name alone."""
+        if place is None:
             return cls(number, written[-1].text)
-        name, line, caret = (it.text for it in written[-3:])
-        before = BEFORE.match(line)
-        assert before
-        return cls(number, name, before[1] or "", int(before[2] or 0), len(caret) - len(before[0]))
+        return cls(number, written[-3].text, place.get("name", ""), place.get("line", 0), place["column"])
 
 
 @dataclass(frozen=True)
@@ -52,7 +47,8 @@ class Result:
 
     told is "idle" where it ended, "fault" where it ended with one, "stopped" where it ended at a line that ⎕STOP names, "interrupted"
     where it was abandoned, and "definition" where a definition is open, whose next line has the number next_line. fault is that of a line
-    that faulted or was interrupted. steps is how many steps an interrupted line had made: `run(line, steps)` interrupts it there again.
+    that faulted or was interrupted. steps is how many steps the line made: `run(line, steps)` interrupts it there again if it was
+    interrupted.
     """
 
     lines: Tuple[Line, ...]
@@ -99,8 +95,15 @@ Name = Union[Function, Variable, Unset]
 
 @dataclass(frozen=True)
 class Level:
-    """A call that stands: the function's name, the number of its line, and whether it is suspended there."""
+    """A call that stands: the function's name, the number and the text of its line, and whether it is suspended before that line.
+
+    column is that of the call or `⍎` whose answer the line awaits, from 1, and 0 where it awaits none. locals are the call's own names with
+    what they stand for there: the result, the arguments, the locals, and the labels.
+    """
 
     name: str
     line: int
     suspended: bool
+    text: str = ""
+    column: int = 0
+    locals: Tuple[Name, ...] = ()

@@ -103,7 +103,7 @@ class Array:
         yield f"{name}←{len(self.items)}⍴{spelled(self.items[:0])}"
         start = 0
         while start < len(self.items):
-            piece = front(self.items[start:start + MOST_OF_ITEMS])
+            piece = prefix(self.items[start:start + MOST_OF_ITEMS])
             yield f"{name}[{start}+⍳{len(piece)}]←{spelled(piece)}"
             start += len(piece)
 
@@ -115,7 +115,7 @@ def spelled(items: Items) -> str:
     return " ".join(map(str, items)).replace("-", "¯") or "0"
 
 
-def front(items: Items) -> Items:
+def prefix(items: Items) -> Items:
     """Returns as many of the first elements as have room in a line."""
     sizes = [2 if it == "'" else 1 for it in items] if isinstance(items, str) else [len(str(n)) + 1 for n in items]
     return items[:bisect_right(list(accumulate(sizes)), MOST_OF_ITEMS)]

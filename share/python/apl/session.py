@@ -37,7 +37,7 @@ class Session:
         Refused as `open` does.
         """
         self._seconds = seconds
-        self._state, self._next = "idle", 0
+        self._state, self._next, self._steps = "idle", 0, 0
         self._fault: Optional[Fault] = None
         self._wants_interrupt = False
         self._line = threading.Lock()
@@ -97,8 +97,8 @@ class Session:
         return [name_of(it) for it in self._pipe.ask("look", "names")["names"]]
 
     def indicator(self) -> List[Level]:
-        """Returns the state indicator: the calls that stand, the newest first."""
-        return [Level(it["name"], it["line"], it["suspended"]) for it in self._pipe.ask("look", "indicator")["indicator"]]
+        """Returns the state indicator: the calls that stand, the newest first, each with its line and its own names."""
+        return [level_of(it) for it in self._pipe.ask("look", "indicator")["indicator"]]
 
     def listing(self, name: str) -> List[str]:
         """Returns a function's header and lines. Raises Refused where there is none of this name."""
@@ -220,7 +220,7 @@ class Session:
                 write(self._note(self._pipe.ask("interrupt", True)))
             raise Refused(refused.reason, lines=tuple(lines)) from None
         told = told or ("definition" if self._next and self._state == "idle" else self._state)
-        return Result(tuple(lines), told, self._next, made if told == "interrupted" else 0, self._fault)
+        return Result(tuple(lines), told, self._next, made + self._steps, self._fault)
 
     def _assign(self, line: str, keyboard: Keyboard) -> None:
         """Types an assignment."""
@@ -248,8 +248,8 @@ class Session:
     def _note(self, answer: Dict[str, Any]) -> List[Line]:
         """Keeps what an answer tells of the session, and returns its lines."""
         lines = [Line(it["text"], it["kind"]) for it in answer["lines"]]
-        self._state, self._next = answer["state"], answer["next"]
-        self._fault = Fault.of(answer["fault"], lines) if "fault" in answer else None
+        self._state, self._next, self._steps = answer["state"], answer["next"], answer.get("steps", 0)
+        self._fault = Fault.of(answer["fault"], lines, answer.get("place")) if "fault" in answer else None
         return lines
 
 
@@ -258,6 +258,11 @@ def name_of(told: Dict[str, Any]) -> Name:
     if "header" in told:
         return Function(told["name"], told["header"])
     return Variable(told["name"], tuple(told["shape"]), told["type"]) if "type" in told else Unset(told["name"])
+
+
+def level_of(told: Dict[str, Any]) -> Level:
+    """Returns a call that stands, as an answer tells it."""
+    return Level(told["name"], told["line"], told["suspended"], told["text"], told.get("column", 0), tuple(map(name_of, told["locals"])))
 
 
 def next_count(count: int, took: float) -> int:

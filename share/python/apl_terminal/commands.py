@@ -39,7 +39,7 @@ class Commands(Shared):
         super().__init__({
             ")SAVE": self.save, ")LOAD": self.load, ")COPY": self.copy, ")LIB": self.lib, ")WSID": self.wsid, ")EDIT": self.edit,
             ")HELP": self.help, ")OFF": self.off, ")CLEAR": self.clear})
-        self.work, self.front, self.manual, self.keys = work, work.front, manual, keys
+        self.work, self.front_end, self.manual, self.keys = work, work.front_end, manual, keys
         self.is_over = False
 
     def is_done(self, line: str) -> bool:
@@ -49,7 +49,7 @@ class Commands(Shared):
         except NotDone as error:
             told = [str(error)]
         if told:
-            self.front.tell("\n".join(told))
+            self.front_end.tell("\n".join(told))
         return told is not None
 
     def clear(self, rest: str) -> Optional[List[str]]:
@@ -95,10 +95,10 @@ class Commands(Shared):
 
     def help(self, word: str) -> List[str]:
         if not word:
-            return [wrapped(it, self.front.width(), COLUMN if it.startswith(")") else 0) for it in HELP.splitlines()]
+            return [wrapped(it, self.front_end.width(), COLUMN if it.startswith(")") else 0) for it in HELP.splitlines()]
         if word.upper() == "KEYS":
             return table(self.keys)
-        return reference.help_text(self.manual, word, min(100, self.front.width()))
+        return reference.help_text(self.manual, word, min(100, self.front_end.width()))
 
     def edit(self, name: str) -> List[str]:
         """Opens a function's text in the editor until it is taken or given up."""
@@ -133,7 +133,7 @@ class Commands(Shared):
     def wants_more(self) -> bool:
         """Asks whether the text is to be edited again."""
         try:
-            return self.front.ask("Edit it again?", True)
+            return self.front_end.ask("Edit it again?", True)
         except Gone:
             return False
 
@@ -168,7 +168,7 @@ class Commands(Shared):
             if not self.work.fault:
                 return True
             told = fault_of(self.work.program, lines, is_known=True)
-        self.front.tell("\n".join(["DEFN ERROR", *told]))
+        self.front_end.tell("\n".join(["DEFN ERROR", *told]))
         return False
 
 

@@ -15,7 +15,7 @@ from apl_terminal.journal import Past
 SHOWN = 8
 
 
-class Front(Protocol):
+class FrontEnd(Protocol):
     """What the user sees and answers."""
 
     def show(self, lines: List[Line]) -> None:

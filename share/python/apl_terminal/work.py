@@ -1,6 +1,6 @@
 """The workspace that a terminal works on: a session, the file that it is saved in, and the journal of what was typed since.
 
-What is told to the user goes through `Front`, so that all this is tried without a terminal.
+What is told to the user goes through `FrontEnd`, so that all this is tried without a terminal.
 """
 from __future__ import annotations
 
@@ -19,7 +19,7 @@ from apl.errors import why
 from apl.files import save_file
 from apl_terminal import library, places
 from apl_terminal.journal import Busy, Foreign, Journal, Past, Typed, set_aside
-from apl_terminal.telling import SHOWN, Front, Gone, hint, prompted, question
+from apl_terminal.telling import SHOWN, FrontEnd, Gone, hint, prompted, question
 
 IS_OPEN = "a definition is open: ∇ closes it"
 CLEAR = b'{"contexts":[],"functions":[],"io":1,"variables":[],"version":2}'
@@ -32,9 +32,9 @@ PATIENCE = 1.0
 class Work:
     """A session with the file and the journal of its workspace."""
 
-    def __init__(self, program: str, front: Front) -> None:
+    def __init__(self, program: str, front_end: FrontEnd) -> None:
         """Begins a session on nothing yet: `open` is to follow. Raises what `Session` does."""
-        self.program, self.front = program, front
+        self.program, self.front_end = program, front_end
         self.session = Session(program)
         self.file: Optional[str] = None
         self.journal: Journal
@@ -80,7 +80,7 @@ class Work:
             return
         self.journal.ended(result.steps if result.told == "interrupted" else None)
         if is_shown and result.fault and result.fault.number in ALONE and not (was_open and result.fault.number == DEFN):
-            self.front.tell(hint(line, result.fault, self.next_line))
+            self.front_end.tell(hint(line, result.fault, self.next_line))
         if time.monotonic() - began > LONG and not self.next_line:
             self.keep_state()
         self.tell_fault()
@@ -94,7 +94,7 @@ class Work:
                 self.session.interrupt()
             last[:] = [*last, *(it.text for it in lines)][-SHOWN:]
             if is_shown:
-                self.front.show(lines)
+                self.front_end.show(lines)
 
         self.last, self.fault = last, None
         self.is_running = True
@@ -115,11 +115,11 @@ class Work:
         """Keeps the lines of a definition that was refused where it was closed."""
         with suppress(OSError), open(places.draft(), "w", encoding="utf-8") as file:
             file.write("\n".join([self.open_lines[0].strip()[1:], *self.open_lines[1:], ""]))
-            self.front.tell("the definition is refused, but its text is kept: )EDIT opens it")
+            self.front_end.tell("the definition is refused, but its text is kept: )EDIT opens it")
 
     def refuse(self, refused: Refused) -> None:
         """Tells of a line that was refused, and has the journal know what stands."""
-        self.front.tell(f"not done: {refused}")
+        self.front_end.tell(f"not done: {refused}")
         if refused.reason == "memory" and not self.next_line:
             # how far it came until memory ran out is known to nobody
             self.keep_state()
@@ -135,14 +135,14 @@ class Work:
         """Tells where the journal can't be written any more, or can again."""
         had, self.fault_told = self.fault_told, self.journal.fault
         if self.journal.fault and not had:
-            self.front.tell(f"the journal can't be written ({self.journal.fault}): )SAVE, since what is typed now is lost if this terminal is killed")
+            self.front_end.tell(f"the journal can't be written ({self.journal.fault}): )SAVE, since what is typed now is lost if this terminal is killed")
         elif had and not self.journal.fault:
-            self.front.tell("the journal is written again")
+            self.front_end.tell("the journal is written again")
 
     def begin_again(self, died: Died) -> None:
         """Begins the program again, and plays the lines of the journal to it."""
         lines = self.journal.past.lines
-        self.front.tell(f"{died}. It is begun again, and what was typed before is there; the last line isn't done.")
+        self.front_end.tell(f"{died}. It is begun again, and what was typed before is there; the last line isn't done.")
         self.session.close()
         self.session, self.struck = Session(self.program), 0.0
         self.next_line, self.open_lines = 0, []
@@ -217,11 +217,11 @@ class Work:
         try:
             return Journal(path)
         except Foreign:
-            self.front.tell(f"{path} is no journal of this terminal: it is kept as {set_aside(path)}")
+            self.front_end.tell(f"{path} is no journal of this terminal: it is kept as {set_aside(path)}")
             return Journal(path)
         except OSError as error:
             other = os.path.join(tempfile.mkdtemp(prefix="apl-"), "journal")
-            self.front.tell(f"{path} can't be written ({reason(error)}): what is typed is kept in {other}")
+            self.front_end.tell(f"{path} can't be written ({reason(error)}): what is typed is kept in {other}")
             return Journal(other)
 
     @staticmethod
@@ -241,7 +241,7 @@ class Work:
             self.journal.begin(base)
             return
         is_changed = past.base != base
-        if not self.front.ask(question(past, self.name, self.journal.path, is_changed), not is_changed):
+        if not self.front_end.ask(question(past, self.name, self.journal.path, is_changed), not is_changed):
             self.anew(base)
             return
         is_same = past.is_whole and not is_changed
@@ -254,7 +254,7 @@ class Work:
         path = self.journal.path
         to = set_aside(path)
         self.journal.release()
-        self.front.tell(f"what was typed then stays in {places.shown(to)}")
+        self.front_end.tell(f"what was typed then stays in {places.shown(to)}")
         self.journal = self.journal_at(path)
         self.journal.begin(base)
 
@@ -270,7 +270,7 @@ class Work:
             try:
                 result = self.run(it.line, it.steps, False)
             except Refused as refused:
-                self.front.tell(f"not done: {refused}")
+                self.front_end.tell(f"not done: {refused}")
                 continue
             if self.is_closing:
                 raise Gone
@@ -285,14 +285,14 @@ class Work:
                 if number < len(past.lines) or steps != it.steps:
                     self.cut(past, number, steps, is_noted)
                 break
-        self.front.show([Line(it) for it in told[-3 * SHOWN:]])
+        self.front_end.show([Line(it) for it in told[-3 * SHOWN:]])
 
     def cut(self, past: Past, number: int, steps: Optional[int], is_noted: bool) -> None:
         """Has the journal end with the line of this number, at which the playing was interrupted."""
         if not is_noted:
             return
         typed = [*past.lines[:number - 1], Typed(past.lines[number - 1].line, True, steps)]
-        self.front.tell(f"{len(past.lines) - number} lines are not played again")
+        self.front_end.tell(f"{len(past.lines) - number} lines are not played again")
         self.anew(past.base)
         self.journal.begin(past.base, typed, past.workspace)
 
@@ -389,7 +389,7 @@ class Work:
         self.journal.release()
         count = len(self.journal.past.lines)
         what = f"{count} line{'s' * (count != 1)}" if count else "what was done"
-        self.front.tell(f"{what} since {self.name + ' was saved' if self.digest else 'the beginning'}: not saved, but kept, and offered when "
+        self.front_end.tell(f"{what} since {self.name + ' was saved' if self.digest else 'the beginning'}: not saved, but kept, and offered when "
                         f"{self.name if self.file else 'the terminal'} is opened again")
 
     def close(self) -> None:

@@ -72,7 +72,12 @@ class Interrupts(OfSession):
             result = self.session.run(LONG, steps)
             self.assertEqual((result.told, result.steps), ("interrupted", steps))
         result = self.session.run("2+3", 2)
-        self.assertEqual((result.told, result.text, result.steps), ("idle", "5", 0))
+        self.assertEqual((result.told, result.text, result.steps), ("idle", "5", 2))
+
+    def test_how_many_steps(self) -> None:
+        self.typed(*LOOP)
+        for line, steps in (("LOOP 20000", 140_002), ("1÷0", 1), (")SI", 0)):
+            self.assertEqual(self.session.run(line).steps, steps, line)
 
     def test_lines_as_they_are_written(self) -> None:
         self.typed("∇SHOW N", "N", "N←N-1", "→N>0", "∇")

@@ -5,7 +5,7 @@ from unittest import mock
 
 from apl_terminal import journal
 from apl_terminal.journal import Busy, Foreign, Journal, Typed, read, set_aside
-from tests.front import OfTerminal
+from tests.front_end import OfTerminal
 
 
 class Records(OfTerminal):

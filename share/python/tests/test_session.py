@@ -15,21 +15,20 @@ from tests.support import LOOP, PROGRAM, OfSession
 
 class Reports(unittest.TestCase):
     def test_what_a_report_tells(self) -> None:
-        for number, texts, fault in [
-            (3, ["DOMAIN ERROR", "      1÷0", "       ^"], Fault(3, "DOMAIN ERROR", "", 0, 2)),
-            (1, ["SYNTAX ERROR", "            A[2] B", "            ^"], Fault(1, "SYNTAX ERROR", "", 0, 7)),
-            (6, ["INDEX ERROR", "∆F_1[10] A[1]+B[2] ", "              ^"], Fault(6, "INDEX ERROR", "∆F_1", 10, 6)),
-            (10, ["INTERRUPT", "F[2] ", "     ^"], Fault(10, "INTERRUPT", "F", 2, 1)),
-            (9, ["DEFN ERROR"], Fault(9, "DEFN ERROR")),
+        for number, texts, place, fault in [
+            (3, ["DOMAIN ERROR", "      1÷0", "       ^"], {"column": 2}, Fault(3, "DOMAIN ERROR", "", 0, 2)),
+            (6, ["INDEX ERROR", "∆F_1[10] A[1]+B[2] ", "              ^"], {"column": 6, "line": 10, "name": "∆F_1"},
+             Fault(6, "INDEX ERROR", "∆F_1", 10, 6)),
+            (9, ["DEFN ERROR"], None, Fault(9, "DEFN ERROR")),
         ]:
             written = [Line("1"), *(Line(it, "report") for it in texts)]
-            self.assertEqual(Fault.of(number, written), fault)
+            self.assertEqual(Fault.of(number, written, place), fault)
 
 
 class Lines(OfSession):
     def test_a_statement(self) -> None:
         result = self.session.run("2+3×4")
-        self.assertEqual(result, Result((Line("14", "shown"),), "idle"))
+        self.assertEqual(result, Result((Line("14", "shown"),), "idle", steps=3))
         self.assertEqual(str(result), "14")
 
     def test_many_lines(self) -> None:
@@ -79,7 +78,7 @@ class Lines(OfSession):
         self.typed("∇F", "A←1", "A←2", "∇", "2 ⎕STOP 'F'")
         result = self.session.run("F")
         self.assertEqual((result.told, result.lines[-1]), ("stopped", Line("F[2]", "stop")))
-        self.assertEqual(self.session.indicator(), [Level("F", 2, True)])
+        self.assertEqual(self.session.indicator(), [Level("F", 2, True, "A←2")])
         self.assertEqual(self.session.run("→⎕LC").told, "idle")
         self.assertEqual(self.session.value("A"), 2)
 
@@ -130,9 +129,16 @@ class Looks(OfSession):
 
     def test_the_indicator(self) -> None:
         self.typed("∇Z←F N", "Z←1÷N", "∇", "∇G", "2+F 0", "∇", "G")
-        self.assertEqual(self.session.indicator(), [Level("F", 1, True), Level("G", 1, False)])
+        self.assertEqual(self.session.indicator(), [
+            Level("F", 1, True, "Z←1÷N", 0, (Unset("Z"), Variable("N", (), "numbers"))), Level("G", 1, False, "2+F 0", 3)])
         self.assertEqual(self.session.value("N"), 0)
         self.assertEqual(self.typed("N←1", "→⎕LC"), "3\n")
+
+    def test_names_of_each_call(self) -> None:
+        self.typed("∇Z←A F B;L", "P:→0×⍳0=1↑⍴B", "L←'ABC'", "Z←A F 1↓B", "∇", "∇G", "⍎'7 F 2 2⍴0'", "∇", "3 ⎕STOP 'F'", "G")
+        of_it = Level("F", 3, True, "Z←A F 1↓B", 0, (
+            Unset("Z"), Variable("A", (), "numbers"), Variable("B", (2, 2), "numbers"), Variable("L", (3,), "characters"), Unset("P")))
+        self.assertEqual(self.session.indicator(), [of_it, Level("G", 1, False, "⍎'7 F 2 2⍴0'", 1)])
 
     def test_what_is_not_there(self) -> None:
         for look, reason in ((self.session.listing, "function"), (self.session.value, "value"), (self.session.array, "value")):

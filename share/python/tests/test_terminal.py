@@ -16,7 +16,7 @@ from apl_terminal.complete import completions
 from apl_terminal.edit import fault_of
 from apl_terminal.telling import laid, wrapped
 from apl_terminal.work import Work
-from tests.front import OfTerminal
+from tests.front_end import OfTerminal
 from tests.support import PROGRAM, TOP
 
 MANUAL = TOP / "docs/REFERENCE.md"

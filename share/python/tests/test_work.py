@@ -11,7 +11,7 @@ from apl.commands import NotDone
 from apl_terminal import places
 from apl_terminal.telling import Gone
 from apl_terminal.work import Work
-from tests.front import OfTerminal, Said
+from tests.front_end import OfTerminal, Said
 from tests.support import LOOP, striking
 
 LONG = "LOOP 10000000000"

@@ -37,7 +37,7 @@ abbrev pub past : ℕ → List ℕ → List ℕ
 past mark [] = []
 past mark (c ∷ cs) = if c == mark then cs else past mark cs
 
--- a character in front of the first word
+-- a character before the first word
 abbrev pub onto : ℕ → List (List ℕ) → List (List ℕ)
 onto c [] = (c ∷ []) ∷ []
 onto c (w ∷ ws) = (c ∷ w) ∷ ws
@@ -150,9 +150,9 @@ abbrev pub refilled : Option ℕ → List (Option Source) → Option (List (Opti
 refilled None ss = Some ss
 refilled (Some p) ss = if nat_le p (length ss) then Some (insert ss p (Some Stack)) else None
 
--- the instruction of a line without its number: front stands before the @, and place behind it
+-- the instruction of a line without its number: prefix stands before the @, and place behind it
 abbrev pub instr_of : List ℕ → List ℕ → Action → Option Instr
-instr_of front place a = refilled (action_list a) (map source_of (words (behind a front))) >>= λ ss. Some (record { action = a; arguments = ss; at = number_of place })
+instr_of prefix place a = refilled (action_list a) (map source_of (words (behind a prefix))) >>= λ ss. Some (record { action = a; arguments = ss; at = number_of place })
 
 abbrev pub instr_at : List ℕ → Option Instr
 instr_at text = action_at (until 64 text) >>= instr_of (until 64 text) (past 64 text)

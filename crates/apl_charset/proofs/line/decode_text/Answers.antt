@@ -12,8 +12,8 @@ loop-c-preserved c = rw (c.in_ok-push-in-Some-new.ensures.items) (record {
 })
 
 -- the bytes of the text are those before the character, its own, and those after it
-sizes : (text front rest after own : List ℕ) → text ≡ bytes front ++ rest → rest ≡ own ++ after → length text ≡ length (bytes front) + length own + length after
-sizes text front rest after own e f = omega (arith, ap length e, ap length f, length-append (bytes front) rest, length-append own after)
+sizes : (text prefix rest after own : List ℕ) → text ≡ bytes prefix ++ rest → rest ≡ own ++ after → length text ≡ length (bytes prefix) + length own + length after
+sizes text prefix rest after own e f = omega (arith, ap length e, ap length f, length-append (bytes prefix) rest, length-append own after)
 
 pub overflow_sub-result-in-None : goal.overflow_sub-result-in-None
 overflow_sub-result-in-None c = omega (arith, ap length c.as_str.ensures, sizes c.args.text.now c.loop-c.out.items c.loop-c.chars.rest.now c.next.new.self.rest.now (encode_utf8 c.in-Some.c) c.loop-c.invariant.parts c.in-Some.ensures.steps.0)
@@ -23,7 +23,7 @@ overflow_sub-result c = omega (arith, ap length c.as_str.ensures, sizes c.args.t
 
 pub returns-in-None-clause-fault : goal.returns-in-None-clause-fault
 returns-in-None-clause-fault c = record {
-  front = c.loop-c.out.items;
+  prefix = c.loop-c.out.items;
   rest = c.loop-c.chars.rest.now;
   in_set = c.loop-c.invariant.in_set;
   parts = c.loop-c.invariant.parts;

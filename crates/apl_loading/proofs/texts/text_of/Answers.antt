@@ -12,10 +12,10 @@ is_fault : (at : ℕ) → ¬ (NotInSet at ≡ Memory)
 is_fault at e = absurd cc
 
 -- where a character outside the set comes behind some of it, bytes are no text
-no_text : (line front rest after : List ℕ) (c : ℕ) → IsText front → line ≡ bytes front ++ rest → rest ≡ encode_utf8 c ++ after → is_member c ≡ false → IsScalar c → (text : List ℕ) → ¬ IsLine line text
-no_text line front rest after c in_set parts begins out scalar text is =
-    is_fault (length (bytes front)) (text_or_fault line text (NotInSet (length (bytes front))) is
-    (record { front = front; rest = rest; in_set = in_set; parts = parts; before = refl; begins = (c, after, scalar, out, begins) }))
+no_text : (line prefix rest after : List ℕ) (c : ℕ) → IsText prefix → line ≡ bytes prefix ++ rest → rest ≡ encode_utf8 c ++ after → is_member c ≡ false → IsScalar c → (text : List ℕ) → ¬ IsLine line text
+no_text line prefix rest after c in_set parts begins out scalar text is =
+    is_fault (length (bytes prefix)) (text_or_fault line text (NotInSet (length (bytes prefix))) is
+    (record { prefix = prefix; rest = rest; in_set = in_set; parts = parts; before = refl; begins = (c, after, scalar, out, begins) }))
 
 pub returns-in_default-member-clause-none : goal.returns-in_default-member-clause-none
 returns-in_default-member-clause-none c =

@@ -3,7 +3,7 @@ use Rattle.apl_tokens.specs.declared.token.Kind.TheVariants.{Constant}
 use Rattle.apl_tokens.proofs.line.push_numbers.Goals as goal
 
 pub returns-in-Constant : goal.returns-in-Constant
-returns-in-Constant c = pushed_constant c.args.out.now.items c.pop.new.self.items c.push-in-Constant.new.self.items c.in-Some.last.kind c.in-Constant.front c.args.more c.in_ok-numbers-in-Constant.numbers c.in-Some.last.at c.args.at
+returns-in-Constant c = pushed_constant c.args.out.now.items c.pop.new.self.items c.push-in-Constant.new.self.items c.in-Some.last.kind c.in-Constant.prefix c.args.more c.in_ok-numbers-in-Constant.numbers c.in-Some.last.at c.args.at
     c.in-Some.ensures.items c.in-Constant.is c.in_ok-numbers-in-Constant.ensures c.in_ok-push-in-Constant.ensures.items
 
 pub returns-in_default-kind : goal.returns-in_default-kind
