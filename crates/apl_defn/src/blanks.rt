@@ -1,12 +1,12 @@
 //! Blanks round a text.
 ghost use Rattle.std.specs.Prelude.{◌≡◌, reverse};
-ghost use Rattle.apl_defn.specs.Blanks.{trimmed, without_front};
+ghost use Rattle.apl_defn.specs.Blanks.{trimmed, without_leading};
 
 use apl_charset::Ch;
 
 /// The text without its leading blanks.
-fn without_front(text: &[Ch]) -> &[Ch]
-    ensures { result.now ≡ without_front text.now }
+fn without_leading(text: &[Ch]) -> &[Ch]
+    ensures { result.now ≡ without_leading text.now }
 {
     let mut rest = text;
     while let Some((first, behind)) = rest.split_first() {
@@ -20,7 +20,7 @@ fn without_front(text: &[Ch]) -> &[Ch]
 
 /// The text without the blanks behind it.
 fn without_back(text: &[Ch]) -> &[Ch]
-    ensures { result.now ≡ reverse (without_front (reverse text.now)) }
+    ensures { result.now ≡ reverse (without_leading (reverse text.now)) }
 {
     let mut rest = text;
     while let Some((last, prefix)) = rest.split_last() {
@@ -36,5 +36,5 @@ fn without_back(text: &[Ch]) -> &[Ch]
 pub fn trimmed(text: &[Ch]) -> &[Ch]
     ensures { result.now ≡ trimmed text.now }
 {
-    without_back(without_front(text))
+    without_back(without_leading(text))
 }

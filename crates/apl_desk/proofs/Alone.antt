@@ -83,9 +83,9 @@ left_at before pairs i done now left p w here within eq part err =
     let many : length now ≡ length before = ap (λ xs. length xs) eq ∙ as_many_after all before in
     let beneath : p.0 < length before = subst (λ q. q.0 < length before) (sym here) (within i p w) in
     let inside : p.0 < length now = rw (many) beneath in
-    let fronts : all ≡ take i (addressed_list pairs) = sym (take-map addressed i pairs) in
+    let starts : all ≡ take i (addressed_list pairs) = sym (take-map addressed i pairs) in
     let stands : (k : ℕ) → k < length before → session now k ≡ after (session before k) (own k (take i (addressed_list pairs))) =
-    λ k inside_k. ap (λ xs. session xs k) eq ∙ each_alone all before k inside_k ∙ ap (λ xs. after (session before k) (own k xs)) fronts in
+    λ k inside_k. ap (λ xs. session xs k) eq ∙ each_alone all before k inside_k ∙ ap (λ xs. after (session before k) (own k xs)) starts in
     record {
       as_many = ap (λ xs. length xs) err ∙ as_many_set now p.0 (steps done (session now p.0)) ∙ many;
       next = addressed p;

@@ -31,7 +31,7 @@ use Rattle.apl_listing.specs.Listing.{fields, function_word, variable_word, oper
 use Rattle.apl_listing.specs.inside.Reading.{until, past, words, ◌>>=◌, number_of, source_of, name_of, primitive_in, function_of, variable_of, operator_of, along, function_named, row_named, action_at, behind, refilled}
 use Rattle.std.proofs.Math.Nat.{min-eq_left}
 use Rattle.apl_listing.proofs.Fields.{fields_then}
-use Rattle.apl_listing.proofs.Lists.{drop_front}
+use Rattle.apl_listing.proofs.Lists.{drop_prefix}
 use Rattle.apl_listing.proofs.Words.{words_step}
 use Rattle.apl_listing.proofs.Signs.{is_sign, AreSigns, sign_blank, sign_at, glyph_sign, glyph_letter, glyph_quad, name_signs, decimal_signs, system_signs}
 
@@ -374,7 +374,7 @@ behind_words a rest =
     let prefix = fields (action_words a) [] in
     let e : fields (action_words a) rest ≡ prefix ++ rest = fields_then (action_words a) rest in
     let le : length prefix ≤ length (fields (action_words a) rest) = omega (arith, ap length e, length-append prefix rest) in
-    ap (λ (n : ℕ). drop n (fields (action_words a) rest)) (min-eq_left le) ∙ ap (drop (length prefix)) e ∙ drop_front (length prefix) prefix rest refl
+    ap (λ (n : ℕ). drop n (fields (action_words a) rest)) (min-eq_left le) ∙ ap (drop (length prefix)) e ∙ drop_prefix (length prefix) prefix rest refl
 
 -- the words of an instruction
 abbrev pub all_words : Instr → List (List ℕ)

@@ -8,7 +8,7 @@ use Rattle.apl_code.specs.declared.instr.Instr.{Instr}
 use Rattle.apl_code.specs.Instr.{IsInstr}
 use Rattle.apl_listing.specs.Listing.{body, line}
 use Rattle.apl_listing.specs.inside.Reading.{past, instr_at}
-use Rattle.apl_listing.proofs.Lists.{drop_front}
+use Rattle.apl_listing.proofs.Lists.{drop_prefix}
 use Rattle.apl_listing.proofs.Lines.{body_again, body_text}
 
 -- what is read of an instruction's line is that instruction
@@ -32,6 +32,6 @@ found_line n i text first rest e h f =
     let prefix : List ℕ = first ++ 10 ∷ [] in
     let l : length first + 1 ≡ length prefix = sym (length-append first (10 ∷ [])) in
     let s : text ≡ prefix ++ rest = e ∙ sym (append_assoc first (10 ∷ []) rest) in
-    let d : drop (length first + 1) text ≡ rest = ap (drop (length first + 1)) s ∙ drop_front (length first + 1) prefix rest l in
+    let d : drop (length first + 1) text ≡ rest = ap (drop (length first + 1)) s ∙ drop_prefix (length first + 1) prefix rest l in
     let k : length first + 1 ≤ length text = omega (arith, ap length s, length-append prefix rest) in
     (h, k, s ∙ ap (λ b. (b ++ 10 ∷ []) ++ rest) f ∙ ap (λ r. line n i ++ r) (sym d))

@@ -22,8 +22,8 @@ got_take (x ∷ xs) zero k h = absurd (omega arith)
 got_take (x ∷ xs) (suc n) zero h = refl
 got_take (x ∷ xs) (suc n) (suc k) h = got_take xs n k (omega arith)
 
-pub drop_front : {X : Type 0} (n : ℕ) (xs ys : List X) → n ≡ length xs → drop n (xs ++ ys) ≡ ys
-drop_front n xs ys e = subst (λ (m : ℕ). drop m (xs ++ ys) ≡ ys) (sym e) (drop-append_seam xs ys)
+pub drop_prefix : {X : Type 0} (n : ℕ) (xs ys : List X) → n ≡ length xs → drop n (xs ++ ys) ≡ ys
+drop_prefix n xs ys e = subst (λ (m : ℕ). drop m (xs ++ ys) ≡ ys) (sym e) (drop-append_seam xs ys)
 
 -- without the last n elements, from the end
 pub reverse_take : {X : Type 0} (xs : List X) (n : ℕ) → reverse (take (length xs - n) xs) ≡ drop n (reverse xs)
@@ -38,7 +38,7 @@ reverse_take xs n = ⊎_elim (λ lt. past lt) (λ le. within le) (cases_lt (leng
     within le =
         let m = length xs - n in
         let e : n ≡ length (reverse (drop m xs)) = omega (arith, length-reverse (drop m xs), length-drop m xs) in
-        sym (ap (λ ys. drop n (reverse ys)) (sym (take-append-drop m xs)) ∙ ap (drop n) (reverse-append (take m xs) (drop m xs)) ∙ drop_front n (reverse (drop m xs)) (reverse (take m xs)) e)
+        sym (ap (λ ys. drop n (reverse ys)) (sym (take-append-drop m xs)) ∙ ap (drop n) (reverse-append (take m xs) (drop m xs)) ∙ drop_prefix n (reverse (drop m xs)) (reverse (take m xs)) e)
 
 -- and with one more
 pub reverse_push : {X : Type 0} (xs : List X) (x : X) → reverse (xs ++ x ∷ []) ≡ x ∷ reverse xs

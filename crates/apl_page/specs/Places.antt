@@ -55,11 +55,11 @@ abbrev pub gathered : Option Keeping → Option Keeping
 gathered place = option_map gathered_of place
 
 -- so many of the bytes that wait are taken
-abbrev pub without_front : ℕ → Keeping → Keeping
-without_front count k = record k { unsaid = drop count k.unsaid }
+abbrev pub without_leading : ℕ → Keeping → Keeping
+without_leading count k = record k { unsaid = drop count k.unsaid }
 
 abbrev pub taken : ℕ → Option Keeping → Option Keeping
-taken count place = option_map (without_front count) place
+taken count place = option_map (without_leading count) place
 
 -- the number of a call that any session does, and none refuses but for memory
 abbrev pub session_number : Option Keeping → ℕ

@@ -9,7 +9,7 @@ use apl_session::Bytes;
 const TOO_SMALL: u32 = 9;
 
 /// Lays bytes at the start of a buffer.
-pub(crate) fn lay_front(bytes: &[u8], buffer: &mut [u8])
+pub(crate) fn lay_prefix(bytes: &[u8], buffer: &mut [u8])
     requires { length bytes.now ≤ length buffer.old }
     ensures { buffer.new ≡ laid bytes.now buffer.old }
 {
@@ -30,6 +30,6 @@ pub(crate) fn give(outcome: Result<Bytes, Refusal>, buffer: &mut [u8], size: &mu
     if bytes.len() > buffer.len() {
         return TOO_SMALL;
     }
-    lay_front(bytes, buffer);
+    lay_prefix(bytes, buffer);
     0
 }

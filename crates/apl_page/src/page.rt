@@ -5,9 +5,9 @@ ghost use Rattle.apl_kept.specs.Keeping.{BeginsWith};
 ghost use Rattle.apl_workspace.specs.Refusals.{IsUnloaded};
 ghost use Rattle.apl_workspace.specs.declared.error.LoadError.TheVariants as load_refusal;
 ghost use Rattle.apl_page.specs.Answers.{laid};
-ghost use Rattle.apl_page.specs.Places.{begun, gathered_of, without_front};
+ghost use Rattle.apl_page.specs.Places.{begun, gathered_of, without_leading};
 
-use crate::giving::lay_front;
+use crate::giving::lay_prefix;
 use crate::spelling::spelled_output;
 use apl_kept::{Kept, open};
 use apl_workspace::LoadError;
@@ -62,17 +62,17 @@ impl Page {
     pub(crate) fn take(&mut self, buffer: &mut [u8]) -> usize
         ensures count { result ≡ min (length self.old.unsaid) (length buffer.old) }
         ensures laid { buffer.new ≡ laid (take result self.old.unsaid) buffer.old }
-        ensures rest { self.new ≡ without_front result self.old }
+        ensures rest { self.new ≡ without_leading result self.old }
     {
         let count = self.unsaid.len().min(buffer.len());
-        lay_front(&self.unsaid[..count], buffer);
-        drop_front(&mut self.unsaid, count);
+        lay_prefix(&self.unsaid[..count], buffer);
+        drop_prefix(&mut self.unsaid, count);
         count
     }
 }
 
 /// Drops the first elements.
-fn drop_front(bytes: &mut Vec<u8>, count: usize)
+fn drop_prefix(bytes: &mut Vec<u8>, count: usize)
     requires { count ≤ length bytes.old.items }
     ensures { bytes.new.items ≡ drop count bytes.old.items }
 {

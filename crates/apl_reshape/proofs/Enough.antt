@@ -10,7 +10,7 @@ use Rattle.apl_arrays.specs.Views.{picked}
 use Rattle.apl_arrays.proofs.InOrder.{map_same}
 use Rattle.apl_arrays.proofs.Order.{all_within, within_cons}
 use Rattle.apl_arrays.proofs.Places.{both, position_in-lt, rest_of}
-use Rattle.apl_reshape.specs.inside.Asked.{has_enough, taken_front}
+use Rattle.apl_reshape.specs.inside.Asked.{has_enough, taken_start}
 use Rattle.apl_reshape.specs.Take.{added, each_axis, element_or, found_or_filled, on_axes, part, place_taken, taken_by, taken_index, widened, with_axes}
 
 -- whether there are enough, an axis at a time
@@ -40,7 +40,7 @@ same_axes (suc n) [] e = absurd (omega arith)
 same_axes n (m ∷ s) e = refl
 
 -- what is taken of an axis lies on it
-pub taken_within : (s : List ℕ) (zs : List ℤ) (k : ℕ) → has_enough s (map unsigned_abs zs) ≡ true → k < length s → get_or (each_axis taken_front s zs) k 0 + get_or (map unsigned_abs zs) k 0 ≤ get_or s k 0
+pub taken_within : (s : List ℕ) (zs : List ℤ) (k : ℕ) → has_enough s (map unsigned_abs zs) ≡ true → k < length s → get_or (each_axis taken_start s zs) k 0 + get_or (map unsigned_abs zs) k 0 ≤ get_or s k 0
 taken_within [] zs k h l = absurd (omega arith)
 taken_within (n ∷ s) [] k h l = absurd (cc)
 taken_within (n ∷ s) (z ∷ zs) zero h l = at (is_negative z) (leb-true (unsigned_abs z) n (both (nat_le (unsigned_abs z) n) (has_enough s (map unsigned_abs zs)) h).0)
@@ -51,7 +51,7 @@ taken_within (n ∷ s) (z ∷ zs) zero h l = at (is_negative z) (leb-true (unsig
 taken_within (n ∷ s) (z ∷ zs) (suc k) h l = taken_within s zs k (both (nat_le (unsigned_abs z) n) (has_enough s (map unsigned_abs zs)) h).1 (omega arith)
 
 -- the element that is taken for an index stands as far behind the start
-index_taken : (n : ℕ) (z : ℤ) (i : ℕ) → unsigned_abs z ≤ n → i < unsigned_abs z → (taken_index n z i ≡ i + taken_front n z) × (i + taken_front n z < n)
+index_taken : (n : ℕ) (z : ℤ) (i : ℕ) → unsigned_abs z ≤ n → i < unsigned_abs z → (taken_index n z i ≡ i + taken_start n z) × (i + taken_start n z < n)
 index_taken n z i h l = at (is_negative z)
   where
     at : (b : Bool) → (place_taken b n (unsigned_abs z) i ≡ i + cond b (n - unsigned_abs z) 0) × (i + cond b (n - unsigned_abs z) 0 < n)
@@ -62,7 +62,7 @@ index_taken n z i h l = at (is_negative z)
     at false = (omega arith, omega arith)
 
 list_taken : (s : List ℕ) (zs : List ℤ) (i : List ℕ) → has_enough s (map unsigned_abs zs) ≡ true → is_within (map unsigned_abs zs) i ≡ true →
-    (on_axes taken_index s zs i ≡ added (each_axis taken_front s zs) i) × (is_within s (on_axes taken_index s zs i) ≡ true)
+    (on_axes taken_index s zs i ≡ added (each_axis taken_start s zs) i) × (is_within s (on_axes taken_index s zs i) ≡ true)
 list_taken [] [] [] h w = (refl, refl)
 list_taken [] [] (i ∷ is) h w = absurd (cc)
 list_taken [] (z ∷ zs) i h w = absurd (cc)
@@ -73,17 +73,17 @@ list_taken (n ∷ s) (z ∷ zs) (i ∷ is) h w =
     let q = both (nat_lt i (unsigned_abs z)) (is_within (map unsigned_abs zs) is) w in
     let one = index_taken n z i (leb-true (unsigned_abs z) n p.0) (ltb-true i (unsigned_abs z) q.0) in
     let others = list_taken s zs is p.1 q.1 in (
-      ap (λ (k : ℕ). k ∷ on_axes taken_index s zs is) one.0 ∙ ap (λ (l : List ℕ). (i + taken_front n z) ∷ l) others.0,
+      ap (λ (k : ℕ). k ∷ on_axes taken_index s zs is) one.0 ∙ ap (λ (l : List ℕ). (i + taken_start n z) ∷ l) others.0,
       within_cons n (taken_index n z i) s (on_axes taken_index s zs is) (omega (arith, one.0, one.1)) others.1,
     )
 
 element_taken : {A : Type 0} (s : List ℕ) (zs : List ℤ) (xs : List A) (fill d : A) → length xs ≡ size_of s → has_enough s (map unsigned_abs zs) ≡ true →
-    map (λ i. get_or xs (position_in s (added (each_axis taken_front s zs) i)) d) (indices (map unsigned_abs zs)) ≡ map (λ i. element_or s xs fill (on_axes taken_index s zs i)) (indices (map unsigned_abs zs))
+    map (λ i. get_or xs (position_in s (added (each_axis taken_start s zs) i)) d) (indices (map unsigned_abs zs)) ≡ map (λ i. element_or s xs fill (on_axes taken_index s zs i)) (indices (map unsigned_abs zs))
 element_taken s zs xs fill d full h =
-    sym (map_same (λ i. is_within (map unsigned_abs zs) i ≡ true) (λ i. element_or s xs fill (on_axes taken_index s zs i)) (λ i. get_or xs (position_in s (added (each_axis taken_front s zs) i)) d)
+    sym (map_same (λ i. is_within (map unsigned_abs zs) i ≡ true) (λ i. element_or s xs fill (on_axes taken_index s zs i)) (λ i. get_or xs (position_in s (added (each_axis taken_start s zs) i)) d)
     here (indices (map unsigned_abs zs)) (all_within (map unsigned_abs zs)))
   where
-    here : (i : List ℕ) → is_within (map unsigned_abs zs) i ≡ true → element_or s xs fill (on_axes taken_index s zs i) ≡ get_or xs (position_in s (added (each_axis taken_front s zs) i)) d
+    here : (i : List ℕ) → is_within (map unsigned_abs zs) i ≡ true → element_or s xs fill (on_axes taken_index s zs i) ≡ get_or xs (position_in s (added (each_axis taken_start s zs) i)) d
     here i w =
         let t = list_taken s zs i h w in
         ap (λ (b : Bool). cond b (get_or xs (position_in s (on_axes taken_index s zs i)) fill) fill) t.1
@@ -91,21 +91,21 @@ element_taken s zs xs fill d full h =
         ∙ ap (λ (j : List ℕ). get_or xs (position_in s j) d) t.0
 
 items_taken : (s : List ℕ) (zs : List ℤ) (items : Items) → length (cells_of items) ≡ size_of s → has_enough s (map unsigned_abs zs) ≡ true →
-    picked items (λ i. position_in s (added (each_axis taken_front s zs) i)) (indices (map unsigned_abs zs)) ≡ found_or_filled s items (on_axes taken_index s zs) (indices (map unsigned_abs zs))
+    picked items (λ i. position_in s (added (each_axis taken_start s zs) i)) (indices (map unsigned_abs zs)) ≡ found_or_filled s items (on_axes taken_index s zs) (indices (map unsigned_abs zs))
 items_taken s zs (Numbers xs) full h = ap (λ (l : List ℤ). Numbers l) (element_taken s zs xs (pos 0) (pos 0) (sym (length-map xs Num) ∙ full) h)
 items_taken s zs (Characters cs) full h = ap (λ (l : List ℕ). Characters l) (element_taken s zs cs 32 0 (sym (length-map cs Char) ∙ full) h)
 
 -- what is taken is a part
-pub taken_part : (b : Arr) (zs : List ℤ) (fronts lens : List ℕ) → fronts ≡ each_axis taken_front b.shape zs → lens ≡ map unsigned_abs zs → length (cells_of b.items) ≡ size_of b.shape → has_enough b.shape lens ≡ true →
-    part fronts lens b ≡ taken_by zs (widened (length zs) b)
-taken_part b zs fronts lens e f full h =
+pub taken_part : (b : Arr) (zs : List ℤ) (starts lens : List ℕ) → starts ≡ each_axis taken_start b.shape zs → lens ≡ map unsigned_abs zs → length (cells_of b.items) ≡ size_of b.shape → has_enough b.shape lens ≡ true →
+    part starts lens b ≡ taken_by zs (widened (length zs) b)
+taken_part b zs starts lens e f full h =
     ap (λ (l : List ℕ). part l lens b) e
-    ∙ ap (λ (l : List ℕ). part (each_axis taken_front b.shape zs) l b) f
+    ∙ ap (λ (l : List ℕ). part (each_axis taken_start b.shape zs) l b) f
     ∙ ap (λ (i : Items). record { shape = map unsigned_abs zs; items = i }) (items_taken b.shape zs b.items full enough)
     ∙ ap (λ (s : List ℕ). taken_by zs (record { shape = s; items = b.items })) (sym (same_axes (length zs) b.shape (enough_axes b.shape (map unsigned_abs zs) enough ∙ length-map zs unsigned_abs)))
   where
     enough : has_enough b.shape (map unsigned_abs zs) ≡ true
     enough = let P : List ℕ → Type 0 = λ l. has_enough b.shape l ≡ true in subst P f h
 
-pub fits_taken : (fs ls s : List ℕ) (zs : List ℤ) → fs ≡ each_axis taken_front s zs → ls ≡ map unsigned_abs zs → has_enough s ls ≡ true → (k : ℕ) → k < length s → get_or fs k 0 + get_or ls k 0 ≤ get_or s k 0
+pub fits_taken : (fs ls s : List ℕ) (zs : List ℤ) → fs ≡ each_axis taken_start s zs → ls ≡ map unsigned_abs zs → has_enough s ls ≡ true → (k : ℕ) → k < length s → get_or fs k 0 + get_or ls k 0 ≤ get_or s k 0
 fits_taken fs ls s zs e f h k l = rw (e, f) (taken_within s zs k (let P : List ℕ → Type 0 = λ t. has_enough s t ≡ true in subst P f h) l)

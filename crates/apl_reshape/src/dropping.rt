@@ -17,9 +17,9 @@ fn left_of(alloc: Global, counts: &[i64], b: &Array) -> Result<Array, AllocError
     ensures { IfOk result (λ r. r ≡ dropped_by counts.now b.now) }
 {
     let shape = b.shape();
-    let fronts = asked_of_each(Asked::FrontLeft, shape, counts);
+    let starts = asked_of_each(Asked::StartLeft, shape, counts);
     let lengths = asked_of_each(Asked::Left, shape, counts);
-    part_of(alloc, b, fronts.as_slice(), lengths.as_slice())
+    part_of(alloc, b, starts.as_slice(), lengths.as_slice())
 }
 
 /// What is left of a scalar with as many axes of length 1 as there are counts: its element, or none.

@@ -49,9 +49,9 @@ pub(crate) enum Asked {
     /// How many are left without so many.
     Left,
     /// How many of those that are dropped stand before what is left.
-    FrontLeft,
+    StartLeft,
     /// How many stand before those that are taken.
-    FrontTaken,
+    StartTaken,
 }
 
 /// What is asked of an axis.
@@ -63,9 +63,9 @@ fn asked_at(asked: Asked, shape: &[usize], counts: &[i64], axis: usize) -> usize
     let length = shape[axis];
     let magnitude = counts[axis].unsigned_abs() as usize;
     match (asked, counts[axis] < 0) {
-        (Asked::Left, _) | (Asked::FrontTaken, true) => length.saturating_sub(magnitude),
-        (Asked::FrontLeft, false) => magnitude.min(length),
-        (Asked::FrontLeft, true) | (Asked::FrontTaken, false) => 0,
+        (Asked::Left, _) | (Asked::StartTaken, true) => length.saturating_sub(magnitude),
+        (Asked::StartLeft, false) => magnitude.min(length),
+        (Asked::StartLeft, true) | (Asked::StartTaken, false) => 0,
     }
 }
 

@@ -196,8 +196,8 @@ fn part_taken(
     requires enough { has_enough b.now.shape lengths.now ≡ true }
     ensures { IfOk result (λ r. r ≡ taken_by counts.now (widened (length counts.now) b.now)) }
 {
-    let fronts = asked_of_each(Asked::FrontTaken, b.shape(), counts);
-    part_of(alloc, b, fronts.as_slice(), lengths)
+    let starts = asked_of_each(Asked::StartTaken, b.shape(), counts);
+    part_of(alloc, b, starts.as_slice(), lengths)
 }
 
 /// The first so many elements of B along each axis, or the last where the number in A is below 0, with fills, 0 or blank, where there are

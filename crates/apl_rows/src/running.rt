@@ -5,7 +5,7 @@
 //! |---|---|
 //! | `run STEPS READER WRITER TEXT` | what a run on a clear workspace writes, its error, and how many of nine bytes are left |
 //! | `resumed STEPS READER WRITER TEXT` | the same of a run whose stops are answered |
-//! | `tape read TAPE TEXT`, `tape write TAPE FRONT;TEXT` | what a byte and then nine are read as; what a tape holds after a text is written |
+//! | `tape read TAPE TEXT`, `tape write TAPE HELD;TEXT` | what a byte and then nine are read as; what a tape holds after a text is written |
 
 use crate::page::Page;
 use crate::words::{count, next_half, next_word, number};

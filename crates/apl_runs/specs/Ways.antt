@@ -9,13 +9,13 @@ pub record Way (S : Type 0) : Type 0 where
   pub quiet : S → S
 
 -- What stood to be written before stays first, and changes nothing else.
-pub record KeepsFront {S : Type 0} (way : Way S) (does : S → S) : Type 0 where
+pub record KeepsPrefix {S : Type 0} (way : Way S) (does : S → S) : Type 0 where
   pub state : (s : S) → way.quiet (does (way.quiet s)) ≡ way.quiet (does s)
   pub prefix : (s : S) → way.unwritten (does s) ≡ way.unwritten s ++ way.unwritten (does (way.quiet s))
 
 -- Lines and the end of the input leave first what stood to be written, and in a quiet state nothing does.
 pub record IsInOrder {S : Type 0} (way : Way S) : Type 0 where
-  pub lines : (line : List ℕ) → KeepsFront way (λ s. way.after_line s line)
-  pub end : KeepsFront way way.at_end
+  pub lines : (line : List ℕ) → KeepsPrefix way (λ s. way.after_line s line)
+  pub end : KeepsPrefix way way.at_end
   pub still : (s : S) → way.quiet (way.quiet s) ≡ way.quiet s
   pub nothing : (s : S) → way.unwritten (way.quiet s) ≡ []

@@ -29,11 +29,11 @@ position_front [] i j w = refl
 position_front (n ∷ ns) [] j w = absurd (cc)
 position_front (n ∷ ns) (i ∷ is) j w = ap (λ p. i * size_of ns + p) (position_front ns is j (both (nat_lt i n) (is_within ns is) w).1)
 
-pub drop_front : (s i j : List ℕ) → is_within s i ≡ true → drop (length s) (i ++ j) ≡ j
-drop_front [] [] j w = refl
-drop_front [] (i ∷ is) j w = absurd (cc)
-drop_front (n ∷ ns) [] j w = absurd (cc)
-drop_front (n ∷ ns) (i ∷ is) j w = drop_front ns is j (both (nat_lt i n) (is_within ns is) w).1
+pub drop_prefix : (s i j : List ℕ) → is_within s i ≡ true → drop (length s) (i ++ j) ≡ j
+drop_prefix [] [] j w = refl
+drop_prefix [] (i ∷ is) j w = absurd (cc)
+drop_prefix (n ∷ ns) [] j w = absurd (cc)
+drop_prefix (n ∷ ns) (i ∷ is) j w = drop_prefix ns is j (both (nat_lt i n) (is_within ns is) w).1
 
 -- the places on the way from a start, by index lists of what is joined
 abbrev pub onward : List ℕ → List Places → ℕ → List ℕ
@@ -47,7 +47,7 @@ onward_step n ns p ps s full =
     ∙ flat_map_same (λ i. is_within p.shape i ≡ true) (λ i. map (λ j. whole (i ++ j)) (indices (joined_shape ps))) (λ i. row (position_in p.shape i))
     (λ i w. map_equal (λ j. whole (i ++ j)) (λ j. (s * n + get_or p.places (position_in p.shape i) 0) * size_of ns + position_in ns (led_to ps j))
     (λ j. ap (λ q. s * (n * size_of ns) + (get_or p.places q 0 * size_of ns + position_in ns (led_to ps (drop (length p.shape) (i ++ j))))) (position_front p.shape i j w)
-    ∙ ap (λ (l : List ℕ). s * (n * size_of ns) + (get_or p.places (position_in p.shape i) 0 * size_of ns + position_in ns (led_to ps l))) (drop_front p.shape i j w)
+    ∙ ap (λ (l : List ℕ). s * (n * size_of ns) + (get_or p.places (position_in p.shape i) 0 * size_of ns + position_in ns (led_to ps l))) (drop_prefix p.shape i j w)
     ∙ ring s n (size_of ns) (get_or p.places (position_in p.shape i) 0) (position_in ns (led_to ps j)))
     (indices (joined_shape ps)))
     (indices p.shape) (all_within p.shape)

@@ -217,18 +217,18 @@ module _ (k n : ℕ) (s : List ℕ) (below : k < length s) (few : n ≤ get_or s
       ∙ within-on_axis k (λ m. get_or s k 0) (λ j. j) prefix i w (λ h. let g : get_or i k 0 < get_or prefix k 0 = within-at prefix i k w h in omega (arith, front-length))
 
   -- the elements of either part
-  abbrev fronts : {A : Type 0} → A → List A → List A
-  fronts d zs = map (λ i. get_or zs (position_in s i) d) (indices prefix)
+  abbrev starts : {A : Type 0} → A → List A → List A
+  starts d zs = map (λ i. get_or zs (position_in s i) d) (indices prefix)
 
   abbrev rests : {A : Type 0} → A → List A → List A
   rests d zs = map (λ i. get_or zs (position_in s (on_axis k (λ j. j + n) i)) d) (indices rest)
 
   abbrev either : {A : Type 0} → A → List A → List ℕ → A
-  either d zs i = joined_at k (get_or prefix k 0) (position_in prefix) (position_in rest) d (fronts d zs) (rests d zs) i
+  either d zs i = joined_at k (get_or prefix k 0) (position_in prefix) (position_in rest) d (starts d zs) (rests d zs) i
 
   low : {A : Type 0} (d : A) (zs : List A) (i : List ℕ) → is_within s i ≡ true → get_or i k 0 < n → either d zs i ≡ get_or zs (position_in s i) d
   low d zs i w h =
-      first-at k (get_or prefix k 0) (position_in prefix) (position_in rest) d (fronts d zs) (rests d zs) i (omega (arith, front-length))
+      first-at k (get_or prefix k 0) (position_in prefix) (position_in rest) d (starts d zs) (rests d zs) i (omega (arith, front-length))
       ∙ at_place (λ i. get_or zs (position_in s i) d) d prefix i (front_within i w h)
 
   back : (i : List ℕ) → n ≤ get_or i k 0 → on_axis k (λ j. j + n) (on_axis k (λ j. j - n) i) ≡ i
@@ -239,8 +239,8 @@ module _ (k n : ℕ) (s : List ℕ) (below : k < length s) (few : n ≤ get_or s
 
   high : {A : Type 0} (d : A) (zs : List A) (i : List ℕ) → is_within s i ≡ true → n ≤ get_or i k 0 → either d zs i ≡ get_or zs (position_in s i) d
   high d zs i w h =
-      ap (λ m. joined_at k m (position_in prefix) (position_in rest) d (fronts d zs) (rests d zs) i) front-length
-      ∙ second-at k n (position_in prefix) (position_in rest) d (fronts d zs) (rests d zs) i h
+      ap (λ m. joined_at k m (position_in prefix) (position_in rest) d (starts d zs) (rests d zs) i) front-length
+      ∙ second-at k n (position_in prefix) (position_in rest) d (starts d zs) (rests d zs) i h
       ∙ at_place (λ i. get_or zs (position_in s (on_axis k (λ j. j + n) i)) d) d rest (on_axis k (λ j. j - n) i) (rest_within i w h)
       ∙ ap (λ i. get_or zs (position_in s i) d) (back i h)
 

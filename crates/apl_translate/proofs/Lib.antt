@@ -6,7 +6,7 @@ pub mod Bindings
 pub mod Sizes
 mod Same
 mod Keeps
-mod Fronts
+mod Promoting
 pub mod Made
 pub mod Spelt
 mod Table

@@ -1,9 +1,7 @@
-use Rattle.std.proofs.Common.{reverse, sym, ap, subst}
-use Rattle.apl_code.specs.declared.instr.Action.{Action}
+use Rattle.std.proofs.Common.{reverse}
 use Rattle.apl_operands.specs.Operands.{fetched}
 use Rattle.apl_primitives.specs.Taken.{as_taken}
 use Rattle.apl_phrases.specs.Effects.{seen}
-use Rattle.apl_phrases.specs.Frequent.{IsValued}
 use Rattle.apl_phrases.proofs.OfPrimitives.{row_gives}
 use Rattle.apl_phrases.proofs.values.valued.Goals as goal
 
