@@ -12,11 +12,12 @@ use Rattle.apl_contexts.specs.Typed.{IsTyped}
 use Rattle.apl_phrases.specs.Effects.{acted}
 use Rattle.apl_phrases.specs.Executing.{IsExecution}
 use Rattle.apl_machine.specs.Spaces.{Space, IsSound, executed_in, state_of}
-use Rattle.apl_machine.specs.inside.Next.{ComesToNo, IsFaulty, IsLineOf}
+use Rattle.apl_machine.specs.inside.Next.{ComesToNo, IsFaulty, IsLineOf, IsMade}
 use Rattle.apl_machine.specs.inside.Paces.{IsPace}
 use Rattle.apl_machine.specs.declared.stepping.Pace.TheVariants.{Goes}
 use Rattle.apl_machine.specs.Worlds.{settings}
-use Rattle.apl_machine.proofs.Frequently.{comes_to_no, executes_done, executing_goes, faults_done, text_given, text_refused, unready_comes_to_no}
+use Rattle.apl_machine.proofs.Changed.{suspended_sound}
+use Rattle.apl_machine.proofs.Frequently.{comes_to_no, executes_done, executing_goes, failed_made, faults_done, phrase_placed, text_given, text_refused, unready_comes_to_no}
 use Rattle.apl_machine.proofs.workspace.Workspace.execute_in_place.Goals as goal
 
 pub returns-in_default-clause-other : goal.returns-in_default-clause-other
@@ -27,26 +28,53 @@ returns-in_default-executed-clause-other c = λ none. subst (λ (x : Space). Com
 
 -- ---- a fault, of an array that is no text, and of a text
 
-pub fail_at-requires-clause-faulty : goal.fail_at-requires-clause-faulty
-fail_at-requires-clause-faulty c =
+pub fail_at-requires-clause-stacked : goal.fail_at-requires-clause-stacked
+fail_at-requires-clause-stacked c = c.requires.contexts.stacked
+
+pub fail_at-requires-clause-column : goal.fail_at-requires-clause-column
+fail_at-requires-clause-column c = phrase_placed c.self.inside.contexts c.in-Some.instr.now _ _ c.in-Some.ensures.is (executing_goes c.in-Some.instr.now.action c.in-Some-executed.ensures.executes)
+
+pub returns-in-Err-clause-sound : goal.returns-in-Err-clause-sound
+returns-in-Err-clause-sound c = suspended_sound c.args.self.now c.fail_at.new.self _ c.requires c.in_ok-fail_at-in-Err.ensures.ok
+
+pub returns-in-Err-clause-made : goal.returns-in-Err-clause-made
+returns-in-Err-clause-made c =
     let s : Space = record { maps = c.self.inside.names; kept = settings c.self.inside.stops c.self.inside.traces (origin_number c.self.inside.io); contexts = c.self.inside.contexts; output = c.self.inside.output.items } in
     let sound : IsSound s = subst IsSound (sym c.self.view_is) c.requires in
     let os = fetched c.in-Some.operands.constants.now c.as_slice-sources.result.now (reverse c.in-Some.operands.stack.now) in
-    subst (λ (x : Space). IsFaulty x c.in-Err.fault c.in-Some.instr.now.at) c.self.view_is
+    λ made. failed_made c.args.self.now c.fail_at.new.self c.in-Err.fault c.in-Some.instr.now.at c.in_ok-fail_at-in-Err.ensures.ok
+    (subst (λ (x : Space). IsFaulty x c.in-Err.fault c.in-Some.instr.now.at) c.self.view_is
     (faults_done s c.in-Some.instr.now c.in-Some.operands.constants.now c.in-Some.operands.stack.now (standing s.contexts) c.as_slice-sources.result.now c.in-Err.fault sound c.in-Some.ensures.is (executing_goes c.in-Some.instr.now.action c.in-Some-executed.ensures.executes) refl c.as_slice-sources.ensures
-    (λ lines. text_refused c.in-Some-executed.answer c.in-Err.fault (λ v. acted v c.in-Some.instr.now.action os) c.in-Err.is c.in-Some-executed.ensures.is (record { maps = s.maps; io = s.kept.origin; lines = lines; standing = standing s.contexts })))
+    (λ lines. text_refused c.in-Some-executed.answer c.in-Err.fault (λ v. acted v c.in-Some.instr.now.action os) c.in-Err.is c.in-Some-executed.ensures.is (record { maps = s.maps; io = s.kept.origin; lines = lines; standing = standing s.contexts }))))
 
-pub fail_at-requires-in-Err-line_executed-clause-faulty : goal.fail_at-requires-in-Err-line_executed-clause-faulty
-fail_at-requires-in-Err-line_executed-clause-faulty c =
+pub fail_at-requires-in-Err-line_executed-clause-stacked : goal.fail_at-requires-in-Err-line_executed-clause-stacked
+fail_at-requires-in-Err-line_executed-clause-stacked c =
+    let s : Space = record { maps = c.self.inside.names; kept = settings c.self.inside.stops c.self.inside.traces (origin_number c.self.inside.io); contexts = c.self.inside.contexts; output = c.self.inside.output.items } in
+    let sound : IsSound s = subst IsSound (sym c.self.view_is) c.requires in
+    sound.contexts.stacked
+
+pub fail_at-requires-in-Err-line_executed-clause-column : goal.fail_at-requires-in-Err-line_executed-clause-column
+fail_at-requires-in-Err-line_executed-clause-column c = phrase_placed c.self.inside.contexts c.in-Some.instr.now _ _ c.in-Some.ensures.is (executing_goes c.in-Some.instr.now.action c.in-Some-executed.ensures.executes)
+
+pub returns-in-Err-line_executed-clause-sound : goal.returns-in-Err-line_executed-clause-sound
+returns-in-Err-line_executed-clause-sound c =
+    let s : Space = record { maps = c.self.inside.names; kept = settings c.self.inside.stops c.self.inside.traces (origin_number c.self.inside.io); contexts = c.self.inside.contexts; output = c.self.inside.output.items } in
+    let sound : IsSound s = subst IsSound (sym c.self.view_is) c.requires in
+    suspended_sound s c.fail_at-in-Err-line_executed.new.self _ sound c.in_ok-fail_at-in-Err-line_executed.ensures.ok
+
+pub returns-in-Err-line_executed-clause-made : goal.returns-in-Err-line_executed-clause-made
+returns-in-Err-line_executed-clause-made c =
     let s : Space = record { maps = c.self.inside.names; kept = settings c.self.inside.stops c.self.inside.traces (origin_number c.self.inside.io); contexts = c.self.inside.contexts; output = c.self.inside.output.items } in
     let sound : IsSound s = subst IsSound (sym c.self.view_is) c.requires in
     let text = c.in-Ok.text.now in
     let os = fetched c.in-Some.operands.constants.now c.as_slice-sources.result.now (reverse c.in-Some.operands.stack.now) in
-    faults_done s c.in-Some.instr.now c.in-Some.operands.constants.now c.in-Some.operands.stack.now c.standing.result c.as_slice-sources.result.now c.in-Err-line_executed.fault sound c.in-Some.ensures.is (executing_goes c.in-Some.instr.now.action c.in-Some-executed.ensures.executes) c.standing.ensures c.as_slice-sources.ensures
+    λ made. subst (λ (x : Space). IsMade x c.fail_at-in-Err-line_executed.new.self) c.self.view_is
+    (failed_made s c.fail_at-in-Err-line_executed.new.self c.in-Err-line_executed.fault c.in-Some.instr.now.at c.in_ok-fail_at-in-Err-line_executed.ensures.ok
+    (faults_done s c.in-Some.instr.now c.in-Some.operands.constants.now c.in-Some.operands.stack.now c.standing.result c.as_slice-sources.result.now c.in-Err-line_executed.fault sound c.in-Some.ensures.is (executing_goes c.in-Some.instr.now.action c.in-Some-executed.ensures.executes) c.standing.ensures c.as_slice-sources.ensures
     (λ lines.
     let here : Scene = record { maps = s.maps; io = s.kept.origin; lines = lines; standing = c.standing.result } in
     text_given c.in-Some-executed.answer c.in-Ok.text (λ v. acted v c.in-Some.instr.now.action os) c.in-Ok.is c.in-Some-executed.ensures.is here
-    ∙ subst (λ r. IsLineOf s.maps text (executed_by here text (tokens_of text)) r) c.in-Err-line_executed.is (c.line_executed.ensures s.maps text lines c.in_ok-read.ensures))
+    ∙ subst (λ r. IsLineOf s.maps text (executed_by here text (tokens_of text)) r) c.in-Err-line_executed.is (c.line_executed.ensures s.maps text lines c.in_ok-read.ensures))))
 
 -- ---- its line begins
 
