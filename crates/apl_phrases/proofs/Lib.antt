@@ -1,7 +1,6 @@
 mod Entering
 mod NoNumbers
 mod NumbersRead
-mod Assigning
 mod Passing
 pub mod Effects
 pub mod Marks

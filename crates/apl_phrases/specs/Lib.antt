@@ -1,4 +1,5 @@
 pub mod Effects
+pub mod Assigning
 pub mod Calling
 pub mod Executing
 pub mod Frequent

@@ -2,6 +2,7 @@
 #![tactic(auto)]
 
 mod assign;
+mod assigning;
 mod calling;
 mod calls;
 mod effect;
@@ -16,12 +17,11 @@ mod values;
 mod watch;
 
 pub use assign::origin_scalar;
+pub use assigning::{assigned, assigned_indexed};
 pub use calling::{FunctionCalled, called};
 pub use effect::{Deed, Effect};
 pub use execute::executed;
-pub use frequent::{
-    NumberAssigned, assigned, assigned_indexed, number_assigned, number_given, number_kept,
-};
+pub use frequent::{NumberAssigned, number_assigned, number_given, number_kept};
 pub use lines::said;
 pub use phrase::{perform, slot_given, slots_given, written};
 pub use scene::{Scene, origin_name};

@@ -228,13 +228,12 @@ fn perform_row(
             let arguments = arguments(sources, operands);
             Ok(Some(dyadic(alloc, scene, *system, arguments)?))
         }
-        Row::Assign(variable) => {
-            let arguments = arguments(sources, operands);
-            Ok(Some(assign(scene, variable, arguments)?))
+        Row::Assign(Variable::System(system)) => {
+            Ok(Some(assign(scene, *system, arguments(sources, operands))))
         }
-        Row::AssignIndexed(variable) => {
+        Row::AssignIndexed(Variable::System(system)) => {
             let arguments = arguments(sources, operands);
-            Ok(Some(assign_indexed(alloc, scene, variable, arguments)?))
+            Ok(Some(assign_indexed(alloc, scene, *system, arguments)?))
         }
         Row::Show => Ok(Some(show(alloc, arguments(sources, operands))?)),
         _ => Ok(None),
