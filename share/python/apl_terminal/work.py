@@ -33,7 +33,7 @@ class Work:
     """A session with the file and the journal of its workspace."""
 
     def __init__(self, program: str, front_end: FrontEnd) -> None:
-        """Begins a session on nothing yet: `open` is to follow. Raises what `Session` does."""
+        """Begins a session with an empty workspace: `open` is to follow. Raises what `Session` does."""
         self.program, self.front_end = program, front_end
         self.session = Session(program)
         self.file: Optional[str] = None
