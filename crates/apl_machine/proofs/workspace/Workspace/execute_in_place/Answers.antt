@@ -70,13 +70,9 @@ begin_executed-requires-clause-can c =
 pub begin_executed-requires-clause-line : goal.begin_executed-requires-clause-line
 begin_executed-requires-clause-line c =
     let s : Space = record { maps = c.self.inside.names; kept = settings c.self.inside.stops c.self.inside.traces (origin_number c.self.inside.io); contexts = c.self.inside.contexts; output = c.self.inside.output.items } in
-    let sound : IsSound s = subst IsSound (sym c.self.view_is) c.requires in
     let text = c.in-Ok.text.now in
     let here : Scene = record { maps = s.maps; io = s.kept.origin; lines = lines_in s.contexts; standing = c.standing.result } in
-    let says = rw c.in-Ok.is at c.in-Some-executed.ensures.is in
     let t = subst (λ r. IsLineOf s.maps text (executed_by here text (tokens_of text)) r) c.in-Ok-line_executed.is (c.line_executed.ensures s.maps text (lines_in s.contexts) c.in_ok-read.ensures) in
-    let executes = says here ∙ t.3 in
-    let done = executes_done s c.in-Some.instr.now c.in-Some.operands.constants.now c.in-Some.operands.stack.now c.standing.result c.as_slice-sources.result.now text t.0 c.left_of-left.result sound c.in-Some.ensures.is c.standing.ensures c.as_slice-sources.ensures executes t.1.0 t.1.1 c.left_of-left.ensures.within c.left_of-left.ensures.left in
     let same : c.new-text.result ≡ text = c.new-text.ensures ∙ c.in_ok-from_slice.ensures.items in
     subst (λ (x : Text). IsTyped s.maps x c.in-Ok-line_executed.line.value.bound) (sym same) (t.0, t.1, t.2)
 
