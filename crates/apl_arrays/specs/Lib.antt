@@ -1,5 +1,7 @@
 pub mod Index
 pub mod Cells
+pub mod Numbers
+pub mod Widths
 pub mod Ravels
 pub mod Simple
 pub mod Dense

@@ -5,6 +5,8 @@ ghost use Rattle.apl_arrays.specs.Equality.{array_eq, array_equiv, array_same, i
 
 use crate::array::Array;
 use crate::elements::Elements;
+use crate::lane::Lane;
+use crate::numbers::NumberSlice;
 use std::hash::{Hash, Hasher};
 
 /// Arrays are equal that have one shape, one type and the same elements.
@@ -29,8 +31,18 @@ impl Hash for Array {
 
     fn hash<H: Hasher>(&self, state: &mut H) {
         match self.items() {
-            Elements::Nums(numbers) => numbers.hash(state),
+            Elements::Nums(NumberSlice::I8(numbers)) => hash_all(numbers, state),
+            Elements::Nums(NumberSlice::I32(numbers)) => hash_all(numbers, state),
+            Elements::Nums(NumberSlice::I64(numbers)) => numbers.hash(state),
             Elements::Chars(characters) => characters.hash(state),
         }
+    }
+}
+
+/// Feeds each number as one of 64 bits, as many as there are first.
+fn hash_all<L: Lane, H: Hasher>(numbers: &[L], state: &mut H) {
+    state.write_usize(numbers.len());
+    for number in numbers {
+        number.wide().hash(state);
     }
 }

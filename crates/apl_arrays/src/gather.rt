@@ -12,6 +12,7 @@ ghost use Rattle.apl_arrays.specs.inside.Rows.{four_from, line_from, AreRowsTo};
 use crate::axis::{Axis, along};
 use crate::cell::Ravel;
 use crate::elements::Elements;
+use crate::numbers::{NumberSlice, NumberVec};
 use std::alloc::{AllocError, Global};
 
 /// The elements at all index lists, with room for so many.
@@ -27,7 +28,18 @@ pub(crate) fn gathered(
     ensures { IfOk result (λ r. items_of r ≡ seen (listed items.entry) at axes.now) }
 {
     match items {
-        Elements::Nums(raw) => Ok(Ravel::Nums(gather_all(alloc, room, raw, at, axes)?)),
+        Elements::Nums(NumberSlice::I8(raw)) => {
+            let made = gather_all(alloc, room, raw, at, axes)?;
+            Ok(Ravel::Nums(NumberVec::I8(made)))
+        }
+        Elements::Nums(NumberSlice::I32(raw)) => {
+            let made = gather_all(alloc, room, raw, at, axes)?;
+            Ok(Ravel::Nums(NumberVec::I32(made)))
+        }
+        Elements::Nums(NumberSlice::I64(raw)) => {
+            let made = gather_all(alloc, room, raw, at, axes)?;
+            Ok(Ravel::Nums(NumberVec::I64(made)))
+        }
         Elements::Chars(raw) => Ok(Ravel::Chars(gather_all(alloc, room, raw, at, axes)?)),
     }
 }
