@@ -47,7 +47,7 @@ fn line_counter(alloc: Global, contexts: &Contexts) -> Result<Array, AllocError>
     ensures { IfOk result (λ array. array ≡ vector (Numbers (lines_in contexts.now))) }
 {
     let numbers = contexts.line_numbers(alloc)?;
-    Array::vector(alloc, Ravel::Nums(numbers))
+    Array::vector(alloc, Ravel::wide(numbers))
 }
 
 /// What a phrase makes of a machine: nothing here where it calls a function by its name, or is done in place.

@@ -66,8 +66,8 @@ pub(crate) fn aim(array: &Array) -> Option<usize>
     ensures { result ≡ aim array.now.items }
 {
     match array.items() {
-        Elements::Nums(numbers) => match numbers.first() {
-            Some(number) => Some(line_number(*number)),
+        Elements::Nums(numbers) => match numbers.get(0) {
+            Some(number) => Some(line_number(number)),
             None => None,
         },
         Elements::Chars(_) => None,

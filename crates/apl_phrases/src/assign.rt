@@ -37,9 +37,9 @@ fn as_origin(array: &Array) -> Option<Origin>
     ensures { option_map origin_number result ≡ as_origin array.now.items }
 {
     match array.items() {
-        Elements::Nums(numbers) => match numbers {
-            [0] => Some(Origin::Zero),
-            [1] => Some(Origin::One),
+        Elements::Nums(numbers) => match numbers.only() {
+            Some(0) => Some(Origin::Zero),
+            Some(1) => Some(Origin::One),
             _ => None,
         },
         Elements::Chars(_) => None,

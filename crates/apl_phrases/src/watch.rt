@@ -1,5 +1,6 @@
 //! `⎕STOP` and `⎕TRACE`, the stop and trace vectors of functions.
-ghost use Rattle.std.specs.Prelude.{◌≡◌, IfOk, option_copied, Some};
+ghost use Rattle.std.specs.Prelude.{◌≡◌, IfOk, option_copied, option_map, Some};
+ghost use Rattle.apl_arrays.specs.Numbers.{values};
 ghost use Rattle.apl_machine_state.specs.Outcomes.{rewatch, watch, watched, watched_by};
 ghost use Rattle.apl_machine_state.specs.Watching.{function_named, is_list, numbers_in};
 ghost use Rattle.apl_names.specs.Maps.{function_in, last_map, said};
@@ -9,7 +10,7 @@ ghost use Rattle.apl_phrases.specs.inside.Marks.{chosen};
 use crate::effect::Effect;
 use crate::lines_among::lines_among;
 use crate::scene::Scene;
-use apl_arrays::{Array, Elements};
+use apl_arrays::{Array, Elements, NumberSlice};
 use apl_charset::Ch;
 use apl_defn::Definition;
 use apl_faults::Fault;
@@ -26,12 +27,12 @@ pub fn is_list(array: &Array) -> bool
 }
 
 /// The numbers of an array of numbers, or of one without elements.
-fn numbers_in(array: &Array) -> Option<&[i64]>
-    ensures { option_copied result ≡ numbers_in array.now.items }
+fn numbers_in(array: &Array) -> Option<NumberSlice<'_>>
+    ensures { option_map values result ≡ numbers_in array.now.items }
 {
     match array.items() {
         Elements::Nums(numbers) => Some(numbers),
-        Elements::Chars(text) => { if text.is_empty() { Some(&[]) } else { None } }
+        Elements::Chars(text) => { if text.is_empty() { Some(NumberSlice::I64(&[])) } else { None } }
     }
 }
 
@@ -51,9 +52,9 @@ fn ask(
     which: Watch,
     name: Name,
     definition: &Definition,
-    numbers: Option<&[i64]>,
+    numbers: Option<NumberSlice<'_>>,
 ) -> Result<Effect, AllocError>
-    ensures { IfOk result (ComesTo (watched_by which name (Some definition.now) (chosen (option_copied numbers.entry)))) }
+    ensures { IfOk result (ComesTo (watched_by which name (Some definition.now) (chosen (option_map values numbers.entry)))) }
 {
     match numbers {
         Some(numbers) => {
@@ -70,9 +71,9 @@ fn ask_named(
     scene: Scene<'_>,
     which: Watch,
     text: &[Ch],
-    numbers: Option<&[i64]>,
+    numbers: Option<NumberSlice<'_>>,
 ) -> Result<Effect, AllocError>
-    ensures { IfOk result (Does scene.entry (λ s. watched_by which text.now (function_named s text.now) (chosen (option_copied numbers.entry)))) }
+    ensures { IfOk result (Does scene.entry (λ s. watched_by which text.now (function_named s text.now) (chosen (option_map values numbers.entry)))) }
 {
     let Some(name) = Name::new(text) else {
         return Ok(Effect::Fails(Fault::Domain));
@@ -88,10 +89,10 @@ fn watched(
     alloc: Global,
     scene: Scene<'_>,
     which: Watch,
-    numbers: Option<&[i64]>,
+    numbers: Option<NumberSlice<'_>>,
     b: &Array,
 ) -> Result<Effect, AllocError>
-    ensures { IfOk result (Does scene.entry (λ s. watched s which b.now.items (chosen (option_copied numbers.entry)))) }
+    ensures { IfOk result (Does scene.entry (λ s. watched s which b.now.items (chosen (option_map values numbers.entry)))) }
 {
     match b.items() {
         Elements::Nums(_) => Ok(Effect::Fails(Fault::Domain)),
