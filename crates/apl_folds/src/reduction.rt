@@ -1,5 +1,5 @@
 // Reduction along an axis.
-ghost use Rattle.std.specs.Prelude.{◌≡◌, ◌≢◌, ◌<◌, ◌≤◌, [], ◌∷◌, length, IfSome, Ok};
+ghost use Rattle.std.specs.Prelude.{◌≡◌, ◌≢◌, ◌<◌, ◌≤◌, [], ◌∷◌, length, IfOk, IfSome, Ok};
 ghost use Rattle.apl_arrays.specs.Answers.{Answers, FaultsFirst};
 ghost use Rattle.apl_arrays.specs.Along.{axis_along};
 ghost use Rattle.apl_arrays.specs.Cells.{cells_of};
@@ -26,7 +26,7 @@ use apl_arrays::{
 use apl_faults::Fault;
 use apl_scalar::Dyadic;
 use arrayvec::ArrayVec;
-use std::alloc::Global;
+use std::alloc::{AllocError, Global};
 
 /// The folds along an axis, not of length 1, in the order of the index lists of the other axes, with room for so many.
 pub(crate) fn folds(
@@ -59,7 +59,10 @@ pub(crate) fn folds(
         return folds_of_none(alloc, function, &lines);
     }
     match strided.items {
-        Elements::Nums(numbers) => folds_of_numbers(alloc, function, numbers, &lines),
+        Elements::Nums(numbers) => {
+            let wide = numbers.wide(alloc)?;
+            folds_of_numbers(alloc, function, wide.as_slice(), &lines)
+        }
         Elements::Chars(characters) => folds_of_characters(alloc, function, characters, &lines),
     }
 }
@@ -93,23 +96,28 @@ fn squeeze(alloc: Global, axis: usize, view: &View<'_>) -> Result<Array, Stop>
 }
 
 /// The fold of a vector of numbers that lie side by side, which is the whole of a reduction and takes no memory.
-fn vector_fold(function: Dyadic, strided: &Strided<'_>) -> Option<Result<i64, Fault>>
+fn vector_fold(
+    alloc: Global,
+    function: Dyadic,
+    strided: &Strided<'_>,
+) -> Result<Option<Result<i64, Fault>>, AllocError>
     requires { IsView (listed strided.now.items) strided.now.offset strided.now.axes.now }
-    ensures vector { IfSome result (λ fold. length strided.now.axes.now ≡ 1) }
-    ensures value { IfSome result (λ fold. folds_along function 0 (shown_by strided.now) ≡ ok_map (λ z. z ∷ []) fold) }
+    ensures vector { IfOk result (λ found. IfSome found (λ fold. length strided.now.axes.now ≡ 1)) }
+    ensures value { IfOk result (λ found. IfSome found (λ fold. folds_along function 0 (shown_by strided.now) ≡ ok_map (λ z. z ∷ []) fold)) }
 {
     match strided.axes {
         [axis] => match strided.items {
             Elements::Nums(numbers) => {
                 if axis.length == 0 || axis.up != 1 || axis.down != 0 {
-                    return None;
+                    return Ok(None);
                 }
-                let piece = row(numbers, strided.offset, axis.length);
-                Some(fold_numbers(function, piece))
+                let wide = numbers.wide(alloc)?;
+                let piece = row(wide.as_slice(), strided.offset, axis.length);
+                Ok(Some(fold_numbers(function, piece)))
             }
-            Elements::Chars(_) => None,
+            Elements::Chars(_) => Ok(None),
         },
-        _ => None,
+        _ => Ok(None),
     }
 }
 
@@ -133,7 +141,7 @@ fn fold_lines(alloc: Global, function: Dyadic, axis: usize, view: &View<'_>) -> 
     shape.remove(axis);
     let room = size(shape.as_slice());
     let numbers = folds(alloc, function, axis, &view.strided(), room)?;
-    formed(alloc, shape, Ravel::Nums(numbers))
+    formed(alloc, shape, Ravel::wide(numbers))
 }
 
 /// The same, at once for a vector in one piece.
@@ -143,7 +151,7 @@ fn fold_axis(alloc: Global, function: Dyadic, axis: usize, view: &View<'_>) -> R
     ensures { Answers (λ r. r) (folds_shaped function axis view.now) result }
 {
     let strided = view.strided();
-    match vector_fold(function, &strided) {
+    match vector_fold(alloc, function, &strided)? {
         Some(fold) => single(fold),
         None => fold_lines(alloc, function, axis, view),
     }

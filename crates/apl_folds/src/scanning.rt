@@ -37,7 +37,10 @@ fn prefixes_in_order(
     };
     let elements = in_order(alloc, view)?;
     match elements.items() {
-        Elements::Nums(numbers) => prefixes(alloc, function, numbers, inner),
+        Elements::Nums(numbers) => {
+            let wide = numbers.wide(alloc)?;
+            prefixes(alloc, function, wide.as_slice(), inner)
+        }
         Elements::Chars(_) => unreachable!(),
     }
 }
@@ -58,7 +61,7 @@ fn scan_elements(
     match strided.items {
         Elements::Nums(_) => {
             let folds = prefixes_in_order(alloc, function, axis, view)?;
-            formed(alloc, view.shape(), Ravel::Nums(folds))
+            formed(alloc, view.shape(), Ravel::wide(folds))
         }
         Elements::Chars(_) => Err(Stop::Fault(Fault::Domain)),
     }

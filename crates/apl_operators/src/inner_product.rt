@@ -288,5 +288,5 @@ pub fn inner<A: Cells, B: Cells>(
     let shape = joined_shape(a_others, b_others);
     within_limits(shape.as_slice())?;
     let values = inner_values(alloc, outer_function, inner_function, &a, &b, length)?;
-    Array::from_shape(alloc, shape.as_slice(), Ravel::Nums(values))
+    Array::from_shape(alloc, shape.as_slice(), Ravel::wide(values))
 }
