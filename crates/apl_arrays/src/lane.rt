@@ -1,6 +1,6 @@
 // The types that numbers are stored in.
-ghost use Rattle.std.specs.Prelude.{◌≡◌, ℤ, List, map, int_lt, IfSome, IsSome, FitsSigned};
-ghost use Rattle.std.specs.Int.{w8, w32, w64, Width};
+ghost use Rattle.std.specs.Prelude.{◌≡◌, ℤ, List, map, int_lt, IfSome, IsSome, FitsSigned, ◌↔◌};
+ghost use Rattle.std.specs.Int.{w8, w32, w64, int_max, int_min, Width};
 ghost use Rattle.std.specs.Ordering.{int_eq};
 ghost use Rattle.apl_arrays.specs.Numbers.{values, kept_values};
 ghost use Rattle.apl_arrays.specs.Widths.{more_than_w8, more_than_w32};
@@ -32,7 +32,7 @@ pub trait Lane: Copy {
     /// A number in this type; none exactly where it doesn't fit.
     fn cut(number: i64) -> Option<Self>
         ensures value { IfSome result (λ cut. value cut ≡ number) }
-        ensures fits { FitsSigned width number → IsSome result };
+        ensures fits { IsSome result ↔ FitsSigned width number };
 
     /// The low bits of a number, which are the number where it fits.
     fn low(number: i64) -> Self
@@ -45,6 +45,14 @@ pub trait Lane: Copy {
     /// Whether it is less than the other.
     fn is_less(self, other: Self) -> bool
         ensures { result ≡ int_lt (value self) (value other) };
+
+    /// The lesser of both.
+    fn lesser(self, other: Self) -> Self
+        ensures { value result ≡ int_min (value self) (value other) };
+
+    /// The greater of both.
+    fn greater(self, other: Self) -> Self
+        ensures { value result ≡ int_max (value self) (value other) };
 
     /// Numbers where they lie.
     fn slice(items: &[Self]) -> NumberSlice<'_>
@@ -82,7 +90,7 @@ impl Lane for i8 {
 
     #[inline(always)]
     fn low(number: i64) -> i8 {
-        number as i8
+        ((number.cast_unsigned() & 0xFF) as u8).cast_signed()
     }
 
     #[inline(always)]
@@ -93,6 +101,16 @@ impl Lane for i8 {
     #[inline(always)]
     fn is_less(self, other: i8) -> bool {
         self < other
+    }
+
+    #[inline(always)]
+    fn lesser(self, other: i8) -> i8 {
+        self.min(other)
+    }
+
+    #[inline(always)]
+    fn greater(self, other: i8) -> i8 {
+        self.max(other)
     }
 
     #[inline(always)]
@@ -131,7 +149,7 @@ impl Lane for i32 {
 
     #[inline(always)]
     fn low(number: i64) -> i32 {
-        number as i32
+        ((number.cast_unsigned() & 0xFFFF_FFFF) as u32).cast_signed()
     }
 
     #[inline(always)]
@@ -142,6 +160,16 @@ impl Lane for i32 {
     #[inline(always)]
     fn is_less(self, other: i32) -> bool {
         self < other
+    }
+
+    #[inline(always)]
+    fn lesser(self, other: i32) -> i32 {
+        self.min(other)
+    }
+
+    #[inline(always)]
+    fn greater(self, other: i32) -> i32 {
+        self.max(other)
     }
 
     #[inline(always)]
@@ -191,6 +219,16 @@ impl Lane for i64 {
     #[inline(always)]
     fn is_less(self, other: i64) -> bool {
         self < other
+    }
+
+    #[inline(always)]
+    fn lesser(self, other: i64) -> i64 {
+        self.min(other)
+    }
+
+    #[inline(always)]
+    fn greater(self, other: i64) -> i64 {
+        self.max(other)
     }
 
     #[inline(always)]

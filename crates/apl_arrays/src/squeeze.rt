@@ -1,5 +1,5 @@
 // Numbers in another type.
-ghost use Rattle.std.specs.Prelude.{◌≡◌, ◌≤ℤ◌, ℤ, IfOk, IfSome, IsTrue, FitsSigned};
+ghost use Rattle.std.specs.Prelude.{◌≡◌, ◌≤ℤ◌, ℤ, length, IfOk, IfSome, IsTrue, FitsSigned};
 ghost use Rattle.std.specs.List.{All};
 ghost use Rattle.std.specs.Int.{w64};
 ghost use Rattle.apl_arrays.specs.Numbers.{kept_values};
@@ -15,21 +15,30 @@ pub(crate) fn range_of<L: Lane>(items: &[L]) -> (i64, i64)
     let mut least = L::low(0);
     let mut greatest = L::low(0);
     for item in items {
-        if item.is_less(least) {
-            least = *item;
-        }
-        if greatest.is_less(*item) {
-            greatest = *item;
-        }
+        least = least.lesser(*item);
+        greatest = greatest.greater(*item);
     }
     (least.wide(), greatest.wide())
 }
 
 /// Whether a type holds each number between two.
+#[tactic(auto, using(crate::proofs::Lanes::fits_between))]
 pub(crate) fn holds<L: Lane>(least: i64, greatest: i64) -> bool
     ensures { IsTrue result → (z : ℤ) → least ≤ℤ z → z ≤ℤ greatest → FitsSigned L.width z }
 {
     L::cut(least).is_some() && L::cut(greatest).is_some()
+}
+
+/// Writes numbers in another type, as far as it holds them.
+#[inline(always)]
+pub fn convert<L: Lane, M: Lane>(items: &[L], out: &mut [M])
+    requires { length items.now ≡ length out.old }
+    ensures fits { All (λ z. FitsSigned L.width z) (L.numbers items.now) }
+    ensures value { All (λ z. FitsSigned M.width z) (L.numbers items.now) → M.numbers out.new ≡ L.numbers items.now }
+{
+    for k in 0..out.len() {
+        out[k] = M::low(items[k].wide());
+    }
 }
 
 /// Numbers again, in a type that holds each of them.
@@ -37,22 +46,18 @@ pub(crate) fn in_lane<L: Lane, M: Lane>(alloc: Global, items: &[L]) -> Result<Ve
     requires { All (λ z. FitsSigned M.width z) (L.numbers items.now) }
     ensures { IfOk result (λ made. M.numbers made.items ≡ L.numbers items.now) }
 {
-    let mut made = Vec::with_capacity(alloc, items.len())?;
-    for item in items {
-        made.push(M::low(item.wide()))?;
-    }
+    let mut made = Vec::from_elem(alloc, M::low(0), items.len())?;
+    convert(items, made.as_mut_slice());
     Ok(made)
 }
 
-/// Numbers again, in a type that holds at least as many.
+/// Numbers again, in a type that holds all that theirs does.
 pub(crate) fn widened<L: Lane, M: Lane>(alloc: Global, items: &[L]) -> Result<Vec<M>, AllocError>
     requires { (z : ℤ) → FitsSigned L.width z → FitsSigned M.width z }
     ensures { IfOk result (λ made. M.numbers made.items ≡ L.numbers items.now) }
 {
-    let mut made = Vec::with_capacity(alloc, items.len())?;
-    for item in items {
-        made.push(M::low(item.wide()))?;
-    }
+    let mut made = Vec::from_elem(alloc, M::low(0), items.len())?;
+    convert(items, made.as_mut_slice());
     Ok(made)
 }
 
