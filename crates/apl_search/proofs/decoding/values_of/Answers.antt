@@ -6,7 +6,7 @@ use Rattle.apl_faults.specs.declared.fault.Fault.{Fault}
 use Rattle.apl_arrays.proofs.InTurn.{turns_step, turns_fault}
 use Rattle.apl_search.specs.Decoded.{valued}
 use Rattle.apl_search.specs.inside.Flat.{pair_at}
-use Rattle.apl_search.proofs.decoding.values.Goals as goal
+use Rattle.apl_search.proofs.decoding.values_of.Goals as goal
 
 pub value_at-requires-clause-digits : goal.value_at-requires-clause-digits
 value_at-requires-clause-digits c = λ k h. c.requires.digits k c.loop-place.place h c.loop-place-test.true

@@ -4,7 +4,7 @@ use Rattle.apl_arrays.specs.Results.{all_ok}
 use Rattle.apl_arrays.proofs.InTurn.{after}
 use Rattle.apl_search.specs.Decoded.{valued}
 use Rattle.apl_search.specs.inside.Flat.{pair_at}
-use Rattle.apl_search.proofs.decoding.values.Given as goal
+use Rattle.apl_search.proofs.decoding.values_of.Given as goal
 
 -- the values so far, before those that are left
 abbrev pub invariant-loop-place : goal.invariant-loop-place

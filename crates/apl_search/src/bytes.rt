@@ -1,0 +1,77 @@
+// Bytes looked up among bytes, by a slot for each of the 256.
+ghost use Rattle.std.specs.Prelude.{◌≡◌, ◌+◌, ◌<◌, ◌^◌, length, map, pos, IfOk, IfSome};
+ghost use Rattle.std.specs.Ordering.{int_eq};
+ghost use Rattle.std.specs.List.{list_any, position_or_len};
+ghost use Rattle.apl_arrays.specs.Numbers.{values};
+ghost use Rattle.apl_scalar.specs.Functions.{number_of};
+
+use crate::index::FEW;
+use crate::marks::mark;
+use crate::table::{Span, enter};
+use apl_arrays::NumberSlice;
+use std::alloc::{AllocError, Global};
+
+/// All bytes.
+const BYTES: Span = Span {
+    smallest: -128,
+    largest: 127,
+};
+
+/// How many bytes there are.
+const COUNT: usize = 256;
+
+/// The bytes that numbers to look up and those among which they are looked up are stored in, where both are and there are enough of the first.
+pub(crate) fn both_bytes<'a>(
+    sought: NumberSlice<'a>,
+    among: NumberSlice<'a>,
+) -> Option<(&'a [i8], &'a [i8])>
+    ensures sought { IfSome result (λ both. values sought.entry ≡ both.0.now) }
+    ensures among { IfSome result (λ both. values among.entry ≡ both.1.now) }
+{
+    if let NumberSlice::I8(sought) = sought {
+        if let NumberSlice::I8(among) = among {
+            if FEW < sought.len() {
+                return Some((sought, among));
+            }
+        }
+    }
+    None
+}
+
+/// For each byte its first place among others, or how many these are, counted from a number on.
+pub(crate) fn byte_places(
+    alloc: Global,
+    sought: &[i8],
+    among: &[i8],
+    first: usize,
+) -> Result<Vec<i32>, AllocError>
+    requires { first + length among.now < 2 ^ 31 }
+    ensures { IfOk result (λ v. v.items ≡ map (λ y. pos (first + position_or_len (int_eq y) among.now)) sought.now) }
+{
+    let mut firsts = [among.len() as u32; COUNT];
+    enter(&mut firsts, BYTES, NumberSlice::I8(among));
+    let mut places = Vec::with_capacity(alloc, sought.len())?;
+    for byte in sought {
+        let slot = BYTES.slot(i64::from(*byte));
+        places.push((first + firsts[slot] as usize) as i32)?;
+    }
+    Ok(places)
+}
+
+/// For each byte 1 where it stands among others, else 0.
+pub(crate) fn bytes_standing(
+    alloc: Global,
+    sought: &[i8],
+    among: &[i8],
+) -> Result<Vec<i8>, AllocError>
+    ensures { IfOk result (λ v. v.items ≡ map (λ x. number_of (list_any (int_eq x) among.now)) sought.now) }
+{
+    let mut marks = [false; COUNT];
+    mark(&mut marks, BYTES, NumberSlice::I8(among));
+    let mut verdicts = Vec::with_capacity(alloc, sought.len())?;
+    for byte in sought {
+        let slot = BYTES.slot(i64::from(*byte));
+        verdicts.push(i8::from(marks[slot]))?;
+    }
+    Ok(verdicts)
+}
