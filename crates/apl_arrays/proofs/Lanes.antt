@@ -1,11 +1,12 @@
 -- Lists of numbers in a type that stores them.
-use Rattle.std.proofs.Common.{◌≡◌, ℕ, ◌+◌, ◌<◌, ◌≤◌, ℤ, pos, negsuc, ◌≤ℤ◌, List, [], ◌∷◌, ◌++◌, map, length, take, get_or, set, FitsSigned, to_z, of_z, w64, sym, ◌∙◌, ap, subst, arith, rules, refl}
+use Rattle.std.proofs.Common.{◌≡◌, ℕ, ◌+◌, ◌<◌, ◌≤◌, ℤ, pos, negsuc, ◌≤ℤ◌, List, [], ◌∷◌, ◌++◌, map, length, take, get_or, set, FitsSigned, to_z, of_z, w64, sym, ◌∙◌, ap, subst, arith, add-one}
 use Rattle.std.specs.Int.{Width, int_max, int_min}
-use Rattle.std.specs.List.{All}
+use Rattle.std.specs.List.{All, Contains}
 use Rattle.std.proofs.lemmas.Int.{ints, clamps, to_z-of_z}
 use Rattle.std.proofs.lemmas.Grind.{common_steps}
-use Rattle.std.proofs.lemmas.List.{map-set, map_more, map-append, take_all, take_more_set, get_or_append_left, get_or_push, length_push}
+use Rattle.std.proofs.lemmas.List.{map-set, map_more, map-append, length-map, get_or-map, take_all, take_more_set}
 use Rattle.std.proofs.lemmas.List.Elements.{All-push, All-weaker}
+use Rattle.apl_arrays.specs.Written.{serving, with_items}
 
 -- what lies between two numbers that fit fits
 pub fits_between : (w : Width) (a b z : ℤ) → FitsSigned w a → FitsSigned w b → a ≤ℤ z → z ≤ℤ b → FitsSigned w z
@@ -52,20 +53,6 @@ range_all value numbers each xs i all a b r s ra sb fa fb h =
     high : (y : ℤ) → y ≤ℤ b → y ≤ℤ to_z w64 (of_z w64 s)
     high y g = omega (arith, ints)
 
--- there is room for a place more
-more_than : {X : Type 0} (xs : List X) (x : X) (k : ℕ) → k < length xs → k < length (xs ++ x ∷ [])
-more_than xs x k l = let e = length_push xs x in omega arith
-
-as_many : {X : Type 0} (xs : List X) (x : X) → length xs < length (xs ++ x ∷ [])
-as_many xs x = let e = length_push xs x in omega arith
-
--- of all but the last, and of the last
-pub all_before : {X : Type 0} (P : X → Type 0) (xs : List X) (x : X) → All P (xs ++ x ∷ []) → All P xs
-all_before P xs x h k d l = subst P (get_or_append_left xs (x ∷ []) d k l) (h k d (more_than xs x k l))
-
-pub last_of_all : {X : Type 0} (P : X → Type 0) (xs : List X) (x : X) → All P (xs ++ x ∷ []) → P x
-last_of_all P xs x h = subst P (get_or_push xs x x (length xs) refl) (h (length xs) x (as_many xs x))
-
 -- what a number is in another type, as a call says it
 pub low_here : {B : Type 0} (other : B → ℤ) (w : Width) (r z : ℤ) (y : B) → r ≡ z → FitsSigned w64 z
     → (FitsSigned w (to_z w64 (of_z w64 r)) → other y ≡ to_z w64 (of_z w64 r)) → FitsSigned w z → other y ≡ z
@@ -74,18 +61,31 @@ low_here other w r z y same fits low h =
     low (subst (λ x. FitsSigned w x) (sym e) h) ∙ e
 
 -- one number more is converted
-pub converted_more : {A B : Type 0} (value : A → ℤ) (other : B → ℤ) (v w : Width) (xs : List A) (ys : List B) (i : ℕ) (d : A) (y : B)
-    → i < length xs → length ys ≡ length xs → FitsSigned v (value (get_or xs i d)) → (FitsSigned w (value (get_or xs i d)) → other y ≡ value (get_or xs i d))
-    → All (λ z. FitsSigned v z) (map value (take i xs))
-    → (All (λ z. FitsSigned w z) (map value (take i xs)) → map other (take i ys) ≡ map value (take i xs))
-    → All (λ z. FitsSigned v z) (map value (take (i + 1) xs))
-    × (All (λ z. FitsSigned w z) (map value (take (i + 1) xs)) → map other (take (i + 1) (set ys i y)) ≡ map value (take (i + 1) xs))
-converted_more value other v w xs ys i d y within same fits low before made =
-    let front = map value (take i xs) in
+pub converted_more : {A B : Type 0} (value : A → ℤ) (other : B → ℤ) (xs : List A) (ys : List B) (i : ℕ) (d : A) (y : B)
+    → i < length xs → length ys ≡ length xs → other y ≡ value (get_or xs i d)
+    → map other (take i ys) ≡ map value (take i xs) → map other (take (i + 1) (set ys i y)) ≡ map value (take (i + 1) xs)
+converted_more value other xs ys i d y within long same before =
+    ap (map other) (take_more_set ys i y (omega arith)) ∙ map-append other (take i ys) (y ∷ [])
+    ∙ ap (λ zs. zs ++ other y ∷ []) before ∙ ap (λ x. map value (take i xs) ++ x ∷ []) same ∙ sym (map_more value xs i d within)
+
+-- the number of an item is among the numbers
+pub number_among : {A : Type 0} (value : A → ℤ) (numbers : List A → List ℤ) → ((xs : List A) → numbers xs ≡ map value xs)
+    → (xs : List A) (i : ℕ) (d : A) → i < length xs → Contains (numbers xs) (value (get_or xs i d))
+number_among value numbers each xs i d within =
     let z = value (get_or xs i d) in
-    let more = map_more value xs i d within in (
-      subst (All (λ z. FitsSigned v z)) (sym more) (All-push (λ z. FitsSigned v z) front z before fits),
-      λ h. let hs : All (λ z. FitsSigned w z) (front ++ z ∷ []) = subst (All (λ z. FitsSigned w z)) more h in
-          ap (map other) (take_more_set ys i y (omega arith)) ∙ map-append other (take i ys) (y ∷ [])
-          ∙ ap (λ zs. zs ++ other y ∷ []) (made (all_before (λ z. FitsSigned w z) front z hs)) ∙ ap (λ x. front ++ x ∷ []) (low (last_of_all (λ z. FitsSigned w z) front z hs)) ∙ sym more,
-    )
+    let among : Contains (map value xs) z = (i, rw (length-map xs value) within, get_or-map value xs i d z within) in
+    subst (λ zs. Contains zs z) (sym (each xs)) among
+
+-- one number more is written
+pub written_more : {A B : Type 0} (value : A → ℤ) (other : B → ℤ) (numbers : List B → List ℤ) → ((xs : List B) → numbers xs ≡ map other xs)
+    → (old : List ℤ) (out : List A) (places : List ℕ) (ys : List B) (k j : ℕ) (d : B) (x : A)
+    → j ≡ serving (length ys) k → j < length ys → value x ≡ other (get_or ys j d)
+    → map value out ≡ with_items (pos 0) old places (numbers ys) k → map value (set out (get_or places k 0) x) ≡ with_items (pos 0) old places (numbers ys) (k + 1)
+written_more value other numbers each old out places ys k j d x s l same before =
+    map-set value out (get_or places k 0) x ∙ ap (λ zs. set zs (get_or places k 0) (value x)) before
+    ∙ ap (λ z. set (with_items (pos 0) old places (numbers ys) k) (get_or places k 0) z) (same ∙ sym served)
+    ∙ ap (λ n. with_items (pos 0) old places (numbers ys) n) (sym (add-one k))
+  where
+    served : get_or (numbers ys) (serving (length (numbers ys)) k) (pos 0) ≡ other (get_or ys j d)
+    served = ap (λ zs. get_or zs (serving (length zs) k) (pos 0)) (each ys) ∙ ap (λ n. get_or (map other ys) (serving n k) (pos 0)) (length-map ys other)
+        ∙ ap (λ i. get_or (map other ys) i (pos 0)) (sym s) ∙ get_or-map other ys j d (pos 0) l

@@ -3,7 +3,7 @@ ghost use Rattle.std.specs.Prelude.{◌≡◌, IfOk};
 ghost use Rattle.apl_arrays.specs.Numbers.{firsts, seconds, typed_items, values};
 
 use crate::numbers::NumberSlice;
-use crate::squeeze::widened;
+use crate::squeeze::converted;
 use std::alloc::{AllocError, Global};
 
 /// Items of one type, where they lie or made for it.
@@ -51,14 +51,14 @@ impl<'a> Both<'a> {
             NumberSlice::I8(x) => match b {
                 NumberSlice::I8(y) => Ok(Both::I8(x, y)),
                 NumberSlice::I32(y) => {
-                    let x = widened(alloc, x)?;
+                    let x = converted(alloc, x)?;
                     Ok(Both::I32(Typed::Made(x), Typed::Lies(y)))
                 }
                 NumberSlice::I64(y) => Ok(Both::I64(a.wide(alloc)?, Typed::Lies(y))),
             },
             NumberSlice::I32(x) => match b {
                 NumberSlice::I8(y) => {
-                    let y = widened(alloc, y)?;
+                    let y = converted(alloc, y)?;
                     Ok(Both::I32(Typed::Lies(x), Typed::Made(y)))
                 }
                 NumberSlice::I32(y) => Ok(Both::I32(Typed::Lies(x), Typed::Lies(y))),

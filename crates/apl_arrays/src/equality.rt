@@ -1,5 +1,9 @@
 // The equality of arrays.
 ghost use Rattle.std.proofs.Common.{ap};
+ghost use Rattle.std.specs.Prelude.{◌≡◌};
+ghost use Rattle.std.specs.List.{fold};
+ghost use Rattle.std.specs.Hash as fed;
+ghost use Rattle.apl_arrays.specs.Numbers.{values};
 ghost use Rattle.std.specs.Cmp.{partial_equiv_from_equiv};
 ghost use Rattle.apl_arrays.specs.Equality.{array_eq, array_equiv, array_same, items_input};
 
@@ -31,18 +35,29 @@ impl Hash for Array {
 
     fn hash<H: Hasher>(&self, state: &mut H) {
         match self.items() {
-            Elements::Nums(NumberSlice::I8(numbers)) => hash_all(numbers, state),
-            Elements::Nums(NumberSlice::I32(numbers)) => hash_all(numbers, state),
-            Elements::Nums(NumberSlice::I64(numbers)) => numbers.hash(state),
+            Elements::Nums(numbers) => hash_numbers(numbers, state),
             Elements::Chars(characters) => characters.hash(state),
         }
     }
 }
 
-/// Feeds each number as one of 64 bits, as many as there are first.
-fn hash_all<L: Lane, H: Hasher>(numbers: &[L], state: &mut H) {
-    state.write_usize(numbers.len());
-    for number in numbers {
-        number.wide().hash(state);
+/// Feeds how many numbers there are, and then each as a number of 64 bits.
+fn hash_numbers<H: Hasher>(numbers: NumberSlice<'_>, state: &mut H)
+    ensures { state.new ≡ fold H.write state.old (fed.slice fed.i64 (values numbers.entry)) }
+{
+    match numbers {
+        NumberSlice::I8(items) => hash_items(items, state),
+        NumberSlice::I32(items) => hash_items(items, state),
+        NumberSlice::I64(items) => hash_items(items, state),
+    }
+}
+
+/// The same of numbers of one type.
+fn hash_items<L: Lane, H: Hasher>(items: &[L], state: &mut H)
+    ensures { state.new ≡ fold H.write state.old (fed.slice fed.i64 (L.numbers items.now)) }
+{
+    state.write_usize(items.len());
+    for item in items {
+        state.write_i64(item.wide());
     }
 }

@@ -1,9 +1,10 @@
 // Elements read by steps, in the order of their index lists.
-ghost use Rattle.std.specs.Prelude.{◌≡◌, ℕ, ◌+◌, ◌*◌, ◌<◌, ◌≤◌, ◌^◌, ◌∷◌, ◌++◌, length, replicate, IfOk, IsTrue, OnOk};
+ghost use Rattle.std.specs.Prelude.{◌≡◌, ℕ, ◌+◌, ◌*◌, ◌<◌, ◌≤◌, ◌^◌, ◌∷◌, ◌++◌, length, pos, replicate, IfOk, IsTrue, OnOk};
 ghost use Rattle.std.specs.List.{range_with_len};
 ghost use Rattle.apl_arrays.specs.Index.{indices};
 ghost use Rattle.apl_arrays.specs.Cells.{cells_of};
 ghost use Rattle.apl_arrays.specs.Left.{listed};
+ghost use Rattle.apl_arrays.specs.Numbers.{kept_values, values};
 ghost use Rattle.apl_arrays.specs.Ravels.{items_of};
 ghost use Rattle.apl_arrays.specs.Strides.{lengths, place_at, reach_of, seen, step_at, AllPlaced};
 ghost use Rattle.apl_arrays.specs.Views.{all_at};
@@ -28,19 +29,27 @@ pub(crate) fn gathered(
     ensures { IfOk result (λ r. items_of r ≡ seen (listed items.entry) at axes.now) }
 {
     match items {
-        Elements::Nums(NumberSlice::I8(raw)) => {
-            let made = gather_all(alloc, room, raw, at, axes)?;
-            Ok(Ravel::Nums(NumberVec::I8(made)))
-        }
-        Elements::Nums(NumberSlice::I32(raw)) => {
-            let made = gather_all(alloc, room, raw, at, axes)?;
-            Ok(Ravel::Nums(NumberVec::I32(made)))
-        }
-        Elements::Nums(NumberSlice::I64(raw)) => {
-            let made = gather_all(alloc, room, raw, at, axes)?;
-            Ok(Ravel::Nums(NumberVec::I64(made)))
-        }
+        Elements::Nums(raw) => Ok(Ravel::Nums(gather_numbers(alloc, room, raw, at, axes)?)),
         Elements::Chars(raw) => Ok(Ravel::Chars(gather_all(alloc, room, raw, at, axes)?)),
+    }
+}
+
+/// The numbers at all index lists, in the type that stores them.
+fn gather_numbers(
+    alloc: Global,
+    room: usize,
+    numbers: NumberSlice<'_>,
+    at: usize,
+    axes: &[Axis],
+) -> Result<NumberVec, AllocError>
+    requires placed { AllPlaced (length (values numbers)) at axes.now }
+    requires near { reach_of at axes.now < 2 ^ 63 }
+    ensures { IfOk result (λ kept. kept_values kept ≡ all_at (values numbers.entry) (place_at at axes.now) (indices (lengths axes.now)) (pos 0)) }
+{
+    match numbers {
+        NumberSlice::I8(raw) => Ok(NumberVec::I8(gather_all(alloc, room, raw, at, axes)?)),
+        NumberSlice::I32(raw) => Ok(NumberVec::I32(gather_all(alloc, room, raw, at, axes)?)),
+        NumberSlice::I64(raw) => Ok(NumberVec::I64(gather_all(alloc, room, raw, at, axes)?)),
     }
 }
 

@@ -12,7 +12,7 @@ ghost use Rattle.std.specs.List.{All};
 
 use crate::both::Wide;
 use crate::lane::Lane;
-use crate::squeeze::{inspect, narrow, widened};
+use crate::squeeze::{converted, inspect, narrow};
 use std::alloc::{AllocError, Global};
 
 /// Numbers where they lie, in the type that stores them. As an iterator it gives them one after another, and is then what is left.
@@ -90,8 +90,8 @@ impl<'a> NumberSlice<'a> {
         ensures { IfOk result (λ wide. typed_items wide ≡ values self.entry) }
     {
         match self {
-            NumberSlice::I8(raw) => Ok(Wide::Made(widened(alloc, raw)?)),
-            NumberSlice::I32(raw) => Ok(Wide::Made(widened(alloc, raw)?)),
+            NumberSlice::I8(raw) => Ok(Wide::Made(converted(alloc, raw)?)),
+            NumberSlice::I32(raw) => Ok(Wide::Made(converted(alloc, raw)?)),
             NumberSlice::I64(raw) => Ok(Wide::Lies(raw)),
         }
     }

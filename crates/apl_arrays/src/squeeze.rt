@@ -1,6 +1,6 @@
 // Numbers in another type.
 ghost use Rattle.std.specs.Prelude.{◌≡◌, ◌≤ℤ◌, ℤ, length, IfOk, IfSome, IsTrue, FitsSigned};
-ghost use Rattle.std.specs.List.{All};
+ghost use Rattle.std.specs.List.{All, Contains};
 ghost use Rattle.std.specs.Int.{w64};
 ghost use Rattle.apl_arrays.specs.Numbers.{kept_values};
 
@@ -29,31 +29,21 @@ pub(crate) fn holds<L: Lane>(least: i64, greatest: i64) -> bool
     L::cut(least).is_some() && L::cut(greatest).is_some()
 }
 
-/// Writes numbers in another type, as far as it holds them.
+/// Writes numbers in another type, which holds them.
 #[inline(always)]
 pub fn convert<L: Lane, M: Lane>(items: &[L], out: &mut [M])
-    requires { length items.now ≡ length out.old }
-    ensures fits { All (λ z. FitsSigned L.width z) (L.numbers items.now) }
-    ensures value { All (λ z. FitsSigned M.width z) (L.numbers items.now) → M.numbers out.new ≡ L.numbers items.now }
+    requires each { length items.now ≡ length out.old }
+    requires fits { (z : ℤ) → Contains (L.numbers items.now) z → FitsSigned L.width z → FitsSigned M.width z }
+    ensures { M.numbers out.new ≡ L.numbers items.now }
 {
     for k in 0..out.len() {
         out[k] = M::low(items[k].wide());
     }
 }
 
-/// Numbers again, in a type that holds each of them.
-pub(crate) fn in_lane<L: Lane, M: Lane>(alloc: Global, items: &[L]) -> Result<Vec<M>, AllocError>
-    requires { All (λ z. FitsSigned M.width z) (L.numbers items.now) }
-    ensures { IfOk result (λ made. M.numbers made.items ≡ L.numbers items.now) }
-{
-    let mut made = Vec::from_elem(alloc, M::low(0), items.len())?;
-    convert(items, made.as_mut_slice());
-    Ok(made)
-}
-
-/// Numbers again, in a type that holds all that theirs does.
-pub(crate) fn widened<L: Lane, M: Lane>(alloc: Global, items: &[L]) -> Result<Vec<M>, AllocError>
-    requires { (z : ℤ) → FitsSigned L.width z → FitsSigned M.width z }
+/// Numbers again, in a type that holds them.
+pub(crate) fn converted<L: Lane, M: Lane>(alloc: Global, items: &[L]) -> Result<Vec<M>, AllocError>
+    requires { (z : ℤ) → Contains (L.numbers items.now) z → FitsSigned L.width z → FitsSigned M.width z }
     ensures { IfOk result (λ made. M.numbers made.items ≡ L.numbers items.now) }
 {
     let mut made = Vec::from_elem(alloc, M::low(0), items.len())?;
@@ -67,9 +57,9 @@ pub(crate) fn narrow<L: Lane>(alloc: Global, items: &[L]) -> Result<Option<Numbe
 {
     let (least, greatest) = range_of(items);
     if holds::<i8>(least, greatest) {
-        Ok(Some(NumberVec::I8(in_lane(alloc, items)?)))
+        Ok(Some(NumberVec::I8(converted(alloc, items)?)))
     } else if holds::<i32>(least, greatest) {
-        Ok(Some(NumberVec::I32(in_lane(alloc, items)?)))
+        Ok(Some(NumberVec::I32(converted(alloc, items)?)))
     } else {
         Ok(None)
     }

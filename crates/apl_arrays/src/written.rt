@@ -1,5 +1,5 @@
 // Elements written at places.
-ghost use Rattle.std.specs.Prelude.{◌≡◌, ◌<◌, length, cond, pos, slice_set, IfOk, IsTrue};
+ghost use Rattle.std.specs.Prelude.{◌≡◌, ◌<◌, length, cond, pos, IfOk};
 ghost use Rattle.std.specs.List.{All};
 ghost use Rattle.apl_arrays.specs.Cells.{cells_of};
 ghost use Rattle.apl_arrays.specs.Left.{listed};
@@ -10,14 +10,12 @@ ghost use Rattle.apl_arrays.specs.Written.{serving, with_elements, with_items, A
 use crate::both::Both;
 use crate::cell::Ravel;
 use crate::elements::Elements;
-use crate::lane::Lane;
 use crate::numbers::{NumberSlice, NumberVec};
-use crate::squeeze::{holds, range_of};
 use std::alloc::{AllocError, Global};
 
 /// Which of so many items serves at the `k`-th place: a single one at each.
 #[inline(always)]
-fn serving(count: usize, k: usize) -> usize
+pub(crate) fn serving(count: usize, k: usize) -> usize
     ensures { result ≡ serving count k }
 {
     if count == 1 { 0 } else { k }
@@ -32,83 +30,6 @@ fn write_items<T: Copy>(out: &mut [T], places: &[usize], items: &[T])
     for k in 0..places.len() {
         let source = serving(items.len(), k);
         out[places[k]] = items[source];
-    }
-}
-
-/// Writes numbers at places, where the type holds all of them, and says whether it did.
-fn write_numbers<L: Lane>(out: &mut [L], places: &[usize], numbers: NumberSlice<'_>) -> bool
-    requires within { All (λ q. q < length out.old) places.now }
-    requires enough { AreEnough (length (values numbers)) (length places.now) }
-    ensures { L.numbers out.new ≡ cond result (with_items (pos 0) (L.numbers out.old) places.now (values numbers.entry) (length places.now)) (L.numbers out.old) }
-{
-    match numbers {
-        NumberSlice::I8(items) => write_lane(out, places, items),
-        NumberSlice::I32(items) => write_lane(out, places, items),
-        NumberSlice::I64(items) => write_lane(out, places, items),
-    }
-}
-
-/// The same with numbers of one type.
-fn write_lane<L: Lane, M: Lane>(out: &mut [L], places: &[usize], items: &[M]) -> bool
-    requires within { All (λ q. q < length out.old) places.now }
-    requires enough { AreEnough (length items.now) (length places.now) }
-    ensures { L.numbers out.new ≡ cond result (with_items (pos 0) (L.numbers out.old) places.now (M.numbers items.now) (length places.now)) (L.numbers out.old) }
-{
-    let (least, greatest) = range_of(items);
-    if !holds::<L>(least, greatest) {
-        return false;
-    }
-    for k in 0..places.len() {
-        let source = serving(items.len(), k);
-        out[places[k]] = L::low(items[source].wide());
-    }
-    true
-}
-
-impl NumberVec {
-    /// Writes a number over another, and says whether it did. It did not where there is no number at the place, nor where it doesn't fit the type.
-    #[inline]
-    pub fn set(&mut self, place: usize, number: i64) -> bool
-        ensures value { kept_values self.new ≡ cond result (slice_set (kept_values self.old) place number) (kept_values self.old) }
-        ensures there { IsTrue result → place < length (kept_values self.old) }
-    {
-        match self {
-            NumberVec::I8(out) => set_lane(out.as_mut_slice(), place, number),
-            NumberVec::I32(out) => set_lane(out.as_mut_slice(), place, number),
-            NumberVec::I64(out) => set_lane(out.as_mut_slice(), place, number),
-        }
-    }
-
-    /// Writes numbers at places one after another, so that the last one for a place stands, and says whether it did. A single one serves at each
-    /// place. It did not where the type doesn't hold all of them.
-    pub fn write(&mut self, places: &[usize], numbers: NumberSlice<'_>) -> bool
-        requires within { All (λ q. q < length (kept_values self.old)) places.now }
-        requires enough { AreEnough (length (values numbers)) (length places.now) }
-        ensures { kept_values self.new ≡ cond result (with_items (pos 0) (kept_values self.old) places.now (values numbers.entry) (length places.now)) (kept_values self.old) }
-    {
-        match self {
-            NumberVec::I8(out) => write_numbers(out.as_mut_slice(), places, numbers),
-            NumberVec::I32(out) => write_numbers(out.as_mut_slice(), places, numbers),
-            NumberVec::I64(out) => write_numbers(out.as_mut_slice(), places, numbers),
-        }
-    }
-}
-
-/// Writes a number over another, and says whether it did.
-#[inline]
-fn set_lane<L: Lane>(out: &mut [L], place: usize, number: i64) -> bool
-    ensures value { L.numbers out.new ≡ cond result (slice_set (L.numbers out.old) place number) (L.numbers out.old) }
-    ensures there { IsTrue result → place < length out.old }
-{
-    if place >= out.len() {
-        return false;
-    }
-    match L::cut(number) {
-        Some(item) => {
-            out[place] = item;
-            true
-        }
-        None => false,
     }
 }
 
@@ -149,20 +70,45 @@ impl<'a> Elements<'a> {
         requires enough { AreEnough (length (cells_of (listed items))) (length places.now) }
         ensures { IfOk result (λ ravel. items_of ravel ≡ with_elements (listed self.entry) places.now (listed items.entry)) }
     {
-        let mut ravel = self.to_ravel(alloc)?;
-        if ravel.write_in_place(places, items) {
-            return Ok(ravel);
-        }
-        match (self, items) {
-            (Elements::Nums(numbers), Elements::Nums(others)) => Ok(Ravel::Nums(written_wider(
-                alloc, numbers, places, others,
-            )?)),
-            _ => Ok(ravel),
+        match self {
+            Elements::Nums(numbers) => match items {
+                Elements::Nums(others) => {
+                    let kept = written_numbers(alloc, numbers, places, others)?;
+                    Ok(Ravel::Nums(kept))
+                }
+                Elements::Chars(_) => self.to_ravel(alloc),
+            },
+            Elements::Chars(characters) => match items {
+                Elements::Nums(_) => self.to_ravel(alloc),
+                Elements::Chars(others) => {
+                    let kept = written_items(alloc, characters, places, others)?;
+                    Ok(Ravel::Chars(kept))
+                }
+            },
         }
     }
 }
 
-/// Numbers with others at places, in a type that holds both.
+/// Numbers with others at places, in the narrowest type that holds both, but in no narrower one than theirs.
+fn written_numbers(
+    alloc: Global,
+    numbers: NumberSlice<'_>,
+    places: &[usize],
+    others: NumberSlice<'_>,
+) -> Result<NumberVec, AllocError>
+    requires within { All (λ q. q < length (values numbers)) places.now }
+    requires enough { AreEnough (length (values others)) (length places.now) }
+    ensures { IfOk result (λ kept. kept_values kept ≡ with_items (pos 0) (values numbers.entry) places.now (values others.entry) (length places.now)) }
+{
+    let mut kept = numbers.to_vec(alloc)?;
+    if kept.write(places, others) {
+        return Ok(kept);
+    }
+    drop(kept);
+    written_wider(alloc, numbers, places, others)
+}
+
+/// The same where their type doesn't hold both.
 fn written_wider(
     alloc: Global,
     numbers: NumberSlice<'_>,
@@ -175,14 +121,14 @@ fn written_wider(
 {
     let others = others.squeezed(alloc)?;
     match Both::new(alloc, numbers, others.as_slice())? {
-        Both::I8(a, b) => Ok(NumberVec::I8(written_lane(alloc, a, places, b)?)),
-        Both::I32(a, b) => Ok(NumberVec::I32(written_lane(
+        Both::I8(a, b) => Ok(NumberVec::I8(written_items(alloc, a, places, b)?)),
+        Both::I32(a, b) => Ok(NumberVec::I32(written_items(
             alloc,
             a.as_slice(),
             places,
             b.as_slice(),
         )?)),
-        Both::I64(a, b) => Ok(NumberVec::I64(written_lane(
+        Both::I64(a, b) => Ok(NumberVec::I64(written_items(
             alloc,
             a.as_slice(),
             places,
@@ -192,7 +138,7 @@ fn written_wider(
 }
 
 /// A copy of items with others at places.
-fn written_lane<T: Copy>(
+fn written_items<T: Copy>(
     alloc: Global,
     items: &[T],
     places: &[usize],

@@ -1,12 +1,8 @@
-use Rattle.std.proofs.Common.{ℤ, pos, ℕ, List, ap, sym, ◌∙◌}
-use Rattle.apl_arrays.specs.Cells.{Numbers, Characters}
+use Rattle.std.proofs.Common.{ℕ, List, ap, sym, ◌∙◌}
+use Rattle.apl_arrays.specs.Cells.{Characters}
 use Rattle.apl_arrays.specs.Left.{listed}
 use Rattle.apl_arrays.specs.Strides.{seen}
 use Rattle.apl_arrays.proofs.gather.gathered.Goals as goal
-
-pub returns-in_ok-gather_all-in-Nums : goal.returns-in_ok-gather_all-in-Nums
-returns-in_ok-gather_all-in-Nums c =
-    ap (λ (zs : List ℤ). Numbers zs) (c.in_ok-gather_all-in-Nums.ensures (pos 0)) ∙ ap (λ r. seen (listed r) c.args.at c.args.axes.now) (sym c.in-Nums.is)
 
 pub returns-in_ok-gather_all-in-Chars : goal.returns-in_ok-gather_all-in-Chars
 returns-in_ok-gather_all-in-Chars c =

@@ -1,7 +1,7 @@
 use Rattle.std.proofs.Common.{◌∙◌, w64}
 use Rattle.std.proofs.lemmas.Int.{to_z-of_z}
 use Rattle.apl_arrays.proofs.Lanes.{numbers_set}
-use Rattle.apl_arrays.proofs.written.set_lane.Goals as goal
+use Rattle.apl_arrays.proofs.put.set_lane.Goals as goal
 
 pub returns-in-Some-clause-value : goal.returns-in-Some-clause-value
 returns-in-Some-clause-value g c =
