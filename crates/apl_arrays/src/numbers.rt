@@ -1,5 +1,5 @@
 // Numbers in the type that stores them.
-ghost use Rattle.std.specs.Prelude.{◌≡◌, ◌==◌, ◌<◌, pos, length, slice_get, slice_index_or, FitsSigned, IfOk};
+ghost use Rattle.std.specs.Prelude.{◌≡◌, ◌==◌, ◌<◌, List, ℤ, pos, length, slice_get, slice_index_or, FitsSigned, IfOk};
 ghost use Rattle.apl_arrays.specs.Cells.{Numbers};
 ghost use Rattle.apl_arrays.specs.Numbers.{kept_values, typed_items, values};
 ghost use Rattle.apl_arrays.specs.Simple.{lone_number};
@@ -9,6 +9,7 @@ ghost use Rattle.std.specs.Cmp.Lexicographic.{pointwise};
 ghost use Rattle.std.specs.Ordering.{int_eq};
 ghost use Rattle.std.specs.Int.{w64};
 ghost use Rattle.std.specs.List.{All};
+ghost use Rattle.std.specs.Iterator.{YieldsFirst};
 
 use crate::both::Wide;
 use crate::lane::Lane;
@@ -193,9 +194,18 @@ impl<'a> PartialEq for NumberSlice<'a> {
 
     fn eq(&self, other: &NumberSlice<'a>) -> bool {
         match *self {
-            NumberSlice::I8(a) => equal_to(a, *other),
-            NumberSlice::I32(a) => equal_to(a, *other),
-            NumberSlice::I64(a) => equal_to(a, *other),
+            NumberSlice::I8(a) => match *other {
+                NumberSlice::I8(b) => a == b,
+                _ => equal_to(a, *other),
+            },
+            NumberSlice::I32(a) => match *other {
+                NumberSlice::I32(b) => a == b,
+                _ => equal_to(a, *other),
+            },
+            NumberSlice::I64(a) => match *other {
+                NumberSlice::I64(b) => a == b,
+                _ => equal_to(a, *other),
+            },
         }
     }
 }
@@ -241,21 +251,19 @@ impl<'a> Iterator for NumberSlice<'a> {
 
     fn next(&mut self) -> Option<i64> {
         match self {
-            NumberSlice::I8(raw) => {
-                let (first, rest) = raw.split_first()?;
-                *raw = rest;
-                Some(first.wide())
-            }
-            NumberSlice::I32(raw) => {
-                let (first, rest) = raw.split_first()?;
-                *raw = rest;
-                Some(first.wide())
-            }
-            NumberSlice::I64(raw) => {
-                let (first, rest) = raw.split_first()?;
-                *raw = rest;
-                Some(*first)
-            }
+            NumberSlice::I8(raw) => take_first(raw),
+            NumberSlice::I32(raw) => take_first(raw),
+            NumberSlice::I64(raw) => take_first(raw),
         }
     }
+}
+
+/// Takes the first number away, where there is one.
+#[inline(always)]
+fn take_first<'a, L: Lane>(items: &mut &'a [L]) -> Option<i64>
+    ensures { YieldsFirst (λ (zs : List ℤ). zs) (L.numbers items.old.now) result (L.numbers items.new.now) }
+{
+    let (first, rest) = items.split_first()?;
+    *items = rest;
+    Some(first.wide())
 }
