@@ -20,3 +20,4 @@ pub mod Checks
 pub mod Origins
 pub mod Along
 pub mod Equality
+pub mod Structural

@@ -23,6 +23,7 @@ mod shape;
 mod squeeze;
 mod stop;
 mod strided;
+mod structural;
 mod view;
 mod view_elements;
 mod written;
@@ -43,5 +44,6 @@ pub use shape::{BOTH_RANKS, MAX_ELEMENTS, MAX_RANK, is_in_bounds, joined_shape, 
 pub use squeeze::convert;
 pub use stop::Stop;
 pub use strided::Strided;
+pub use structural::Structural;
 pub use view::View;
 pub use view_elements::ViewElements;
