@@ -3,3 +3,6 @@ pub mod Reached
 pub mod Single
 pub mod Written
 pub mod Numbered
+pub mod Masks
+pub mod Laid
+pub mod Readings
