@@ -91,9 +91,19 @@ impl<'a> NumberSlice<'a> {
         ensures { IfOk result (λ wide. typed_items wide ≡ values self.entry) }
     {
         match self {
-            NumberSlice::I8(raw) => Ok(Wide::Made(converted(alloc, raw)?)),
-            NumberSlice::I32(raw) => Ok(Wide::Made(converted(alloc, raw)?)),
             NumberSlice::I64(raw) => Ok(Wide::Lies(raw)),
+            _ => Ok(Wide::Made(self.to_wide(alloc)?)),
+        }
+    }
+
+    /// The same numbers again, as numbers of 64 bits.
+    pub fn to_wide(self, alloc: Global) -> Result<Vec<i64>, AllocError>
+        ensures { IfOk result (λ made. made.items ≡ values self.entry) }
+    {
+        match self {
+            NumberSlice::I8(raw) => converted(alloc, raw),
+            NumberSlice::I32(raw) => converted(alloc, raw),
+            NumberSlice::I64(raw) => Vec::from_slice(alloc, raw),
         }
     }
 

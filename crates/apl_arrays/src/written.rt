@@ -58,8 +58,7 @@ impl Ravel {
 
 impl<'a> Elements<'a> {
     /// These elements with others at places, written one after another, so that the last one for a place stands. A single one serves at each
-    /// place, and elements of another type are not written. Numbers are made in the narrowest type that holds both, but in no narrower one than
-    /// these.
+    /// place, and elements of another type are not written. Numbers stay in the type that stores them, where it holds the others.
     pub fn written(
         self,
         alloc: Global,
@@ -89,7 +88,7 @@ impl<'a> Elements<'a> {
     }
 }
 
-/// Numbers with others at places, in the narrowest type that holds both, but in no narrower one than theirs.
+/// Numbers with others at places, in the type that stores them, where it holds the others.
 fn written_numbers(
     alloc: Global,
     numbers: NumberSlice<'_>,
@@ -108,7 +107,7 @@ fn written_numbers(
     written_wider(alloc, numbers, places, others)
 }
 
-/// The same where their type doesn't hold both.
+/// The same in a type that holds both.
 fn written_wider(
     alloc: Global,
     numbers: NumberSlice<'_>,
@@ -121,19 +120,18 @@ fn written_wider(
 {
     let others = others.squeezed(alloc)?;
     match Both::new(alloc, numbers, others.as_slice())? {
-        Both::I8(a, b) => Ok(NumberVec::I8(written_items(alloc, a, places, b)?)),
-        Both::I32(a, b) => Ok(NumberVec::I32(written_items(
-            alloc,
-            a.as_slice(),
-            places,
-            b.as_slice(),
-        )?)),
-        Both::I64(a, b) => Ok(NumberVec::I64(written_items(
-            alloc,
-            a.as_slice(),
-            places,
-            b.as_slice(),
-        )?)),
+        Both::I8(a, b) => {
+            let made = written_items(alloc, a.as_slice(), places, b.as_slice())?;
+            Ok(NumberVec::I8(made))
+        }
+        Both::I32(a, b) => {
+            let made = written_items(alloc, a.as_slice(), places, b.as_slice())?;
+            Ok(NumberVec::I32(made))
+        }
+        Both::I64(a, b) => {
+            let made = written_items(alloc, a.as_slice(), places, b.as_slice())?;
+            Ok(NumberVec::I64(made))
+        }
     }
 }
 
