@@ -84,9 +84,7 @@ fn ones_in_block<L: Lane>(block: &[L]) -> u8
 {
     let mut count = 0u8;
     for number in block {
-        if is_one(number.wide()) {
-            count += 1;
-        }
+        count += u8::from(is_one(number.wide()));
     }
     count
 }
@@ -156,7 +154,7 @@ pub(crate) fn extended(count: usize, k: usize) -> usize
 }
 
 /// Of so many places on an axis those at a 1.
-pub(crate) fn kept<L: Lane>(
+fn kept_over<L: Lane>(
     alloc: Global,
     bits: &[L],
     len: usize,
@@ -173,6 +171,23 @@ pub(crate) fn kept<L: Lane>(
         places.push(Some(extended(len, k)))?;
     }
     Ok(places)
+}
+
+/// The same of zeros and ones of any type.
+pub(crate) fn kept(
+    alloc: Global,
+    bits: NumberSlice<'_>,
+    len: usize,
+    count: usize,
+) -> Result<Vec<Option<usize>>, AllocError>
+    requires { common_count (length (values bits)) len ≡ Ok count }
+    ensures { IfOk result (λ v. v.items ≡ kept (values bits.entry) len count) }
+{
+    match bits {
+        NumberSlice::I8(bits) => kept_over(alloc, bits, len, count),
+        NumberSlice::I32(bits) => kept_over(alloc, bits, len, count),
+        NumberSlice::I64(bits) => kept_over(alloc, bits, len, count),
+    }
 }
 
 /// At each 1 the next place on an axis, at each 0 none.

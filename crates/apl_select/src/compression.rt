@@ -1,20 +1,19 @@
 // Compression and expansion.
-ghost use Rattle.std.specs.Prelude.{◌≡◌, ◌<◌, ◌≤◌, ◌∷◌, [], length, slice_index_or, true, IsTrue, Ok};
-ghost use Rattle.std.specs.List.{list_all};
+ghost use Rattle.std.specs.Prelude.{◌≡◌, ◌<◌, ◌≤◌, ◌∷◌, [], length, IsTrue};
 ghost use Rattle.apl_arrays.specs.Answers.{Answers, FaultsFirst};
 ghost use Rattle.apl_arrays.specs.Cells.{cells_of};
 ghost use Rattle.apl_arrays.specs.Checks.{vector_rank};
 ghost use Rattle.apl_arrays.specs.Index.{bound_of, size_of};
 ghost use Rattle.apl_arrays.specs.Left.{listed};
+ghost use Rattle.apl_arrays.specs.Numbers.{values};
 ghost use Rattle.apl_arrays.specs.Origins.{origin_number};
-ghost use Rattle.apl_select.specs.Compress.{common_count, compressed, compressed_along, compression_checks, is_bit, kept, places_kept};
+ghost use Rattle.apl_select.specs.Compress.{compressed, compressed_along, compression_checks, places_kept};
 ghost use Rattle.apl_select.specs.Compress.{expanded, expanded_along, expansion_checks, places_spread};
-ghost use Rattle.apl_select.specs.Lined.{laid_within};
 
 use crate::bits::{bits_in, common_count, fits_ones, kept, ones, spread};
-use crate::keeping::Keeping;
+use crate::keeping::kept_of_vector;
 use crate::lines::{axis_in, laid, lined_shape};
-use apl_arrays::{Along, Array, Elements, Lane, MAX_ELEMENTS, NumberSlice, Origin, Stop};
+use apl_arrays::{Along, Array, Elements, MAX_ELEMENTS, NumberSlice, Origin, Stop};
 use apl_faults::Fault;
 use std::alloc::Global;
 
@@ -29,42 +28,18 @@ fn within_a_vector(array: &Array) -> Result<(), Fault>
     }
 }
 
-/// Whether so many bits are one for each element of a vector, so many in all.
-fn is_bit_each(bits: usize, shape: &[usize], count: usize) -> bool
-    ensures shape { IsTrue result → shape.now ≡ bits ∷ [] }
-    ensures count { IsTrue result → count ≡ bits }
+/// Whether there is a bit for each element of a vector, so many in all.
+fn is_bit_each(bits: NumberSlice<'_>, shape: &[usize], count: usize) -> bool
+    ensures shape { IsTrue result → shape.now ≡ length (values bits.entry) ∷ [] }
+    ensures count { IsTrue result → count ≡ length (values bits.entry) }
 {
     match shape {
-        [len] if *len == bits => count == *len,
+        [len] if *len == bits.len() => count == *len,
         _ => false,
     }
 }
 
-/// The elements in a shape along an axis at the ones, so many in all where either extends from 1. Those of a vector take one pass.
-fn compress_by<L: Lane>(
-    alloc: Global,
-    bits: &[L],
-    count: usize,
-    axis: usize,
-    shape: &[usize],
-    items: Elements<'_>,
-) -> Result<Array, Stop>
-    requires axis { axis < length shape.now }
-    requires full { length (cells_of (listed items)) ≡ size_of shape.now }
-    requires small { bound_of shape.now ≤ MAX_ELEMENTS }
-    requires count { common_count (length bits.now) (slice_index_or shape.now axis 0) ≡ Ok count }
-    requires bits { list_all is_bit (L.numbers bits.now) ≡ true }
-    ensures { Answers (λ r. r) (laid_within axis (kept (L.numbers bits.now) (slice_index_or shape.now axis 0) count) (record { shape = shape.now; items = listed items.entry })) result }
-{
-    if is_bit_each(bits.len(), shape, count) {
-        let ravel = items.made_by(alloc, Keeping { bits })?;
-        return Ok(Array::vector(alloc, ravel)?);
-    }
-    let places = kept(alloc, bits, shape[axis], count)?;
-    laid(alloc, items, shape, axis, places.as_slice())
-}
-
-/// The compression of elements in a shape, along an axis.
+/// The compression of elements in a shape, along an axis. That of a vector takes one pass.
 fn compress_along(
     alloc: Global,
     a: &Array,
@@ -79,11 +54,12 @@ fn compress_along(
     ensures at_once { FaultsFirst (places_kept a.now axis (record { shape = shape.now; items = listed items.entry })) result }
 {
     let count = common_count(a.items().len(), shape[axis])?;
-    match bits_in(a.items())? {
-        NumberSlice::I8(bits) => compress_by(alloc, bits, count, axis, shape, items),
-        NumberSlice::I32(bits) => compress_by(alloc, bits, count, axis, shape, items),
-        NumberSlice::I64(bits) => compress_by(alloc, bits, count, axis, shape, items),
+    let bits = bits_in(a.items())?;
+    if is_bit_each(bits, shape, count) {
+        return Ok(kept_of_vector(alloc, bits, items)?);
     }
+    let places = kept(alloc, bits, shape[axis], count)?;
+    laid(alloc, items, shape, axis, places.as_slice())
 }
 
 /// The expansion of elements in a shape, along an axis.

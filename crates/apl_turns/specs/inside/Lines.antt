@@ -6,7 +6,8 @@ use Rattle.std.specs.Prelude.{List, map, length, drop, slice_index_or}
 use Rattle.std.specs.Int.{int_rem_euclid}
 use Rattle.std.specs.List.{range_with_len}
 use Rattle.apl_arrays.specs.Index.{size_of}
-use Rattle.apl_arrays.specs.Cells.{Arr, Items, Numbers, Characters}
+use Rattle.apl_arrays.specs.Cells.{Arr, Items}
+use Rattle.apl_arrays.specs.Structural.{made_of}
 use Rattle.apl_arrays.specs.Views.{all_at}
 
 -- a number that turns a line of so many elements, as one below as many
@@ -33,8 +34,7 @@ sourced_list rows width shifts xs d = all_at xs (source rows width shifts) (rang
 
 -- the elements from those places
 abbrev pub sourced : ℕ → ℕ → List ℕ → Items → Items
-sourced rows width shifts (Numbers zs) = Numbers (sourced_list rows width shifts zs (pos 0))
-sourced rows width shifts (Characters cs) = Characters (sourced_list rows width shifts cs 0)
+sourced rows width shifts items = made_of (λ A d fill xs. sourced_list rows width shifts xs d) items
 
 -- a plane, each line of it turned by its own number
 abbrev pub turned_plane : {A : Type 0} → List A → List ℕ → ℕ → A → List A

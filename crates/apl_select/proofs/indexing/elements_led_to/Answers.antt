@@ -43,5 +43,5 @@ pub returns-clause-at_once : goal.returns-clause-at_once
 returns-clause-at_once c =
     fault_or_not (slots_fit c.args.b.now c.args.slots.now) c.picks_of.result c.in_ok-picks.picks c.in_ok-in_shape.field-0 c.in_ok-picks.was c.picks_of.ensures.at_once
 
-pub read_items-requires-clause-full : goal.read_items-requires-clause-full
-read_items-requires-clause-full c = ap (λ (t : Items). length (cells_of t)) c.items.ensures.value ∙ c.items.ensures.full ∙ sym (ap size_of c.shape.ensures.value)
+pub read-requires-clause-full : goal.read-requires-clause-full
+read-requires-clause-full c = ap (λ (t : Items). length (cells_of t)) c.items.ensures.value ∙ c.items.ensures.full ∙ sym (ap size_of c.shape.ensures.value)
