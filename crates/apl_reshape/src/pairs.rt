@@ -79,7 +79,10 @@ fn numbers_joined(
     ensures { IfOk result (λ v. kept_values v ≡ rows_of_lists rows.x rows.y rows.count (values xs.entry) (values ys.entry) (pos 0)) }
 {
     match Both::new(alloc, xs, ys)? {
-        Both::I8(xs, ys) => Ok(NumberVec::I8(rows.join(alloc, xs, ys)?)),
+        Both::I8(xs, ys) => {
+            let joined = rows.join(alloc, xs.as_slice(), ys.as_slice())?;
+            Ok(NumberVec::I8(joined))
+        }
         Both::I32(xs, ys) => {
             let joined = rows.join(alloc, xs.as_slice(), ys.as_slice())?;
             Ok(NumberVec::I32(joined))

@@ -92,14 +92,14 @@ fn items_numbered<L: Lane>(
     ensures { IfOk result (λ found. IfSome found (λ r. items_numbered (listed items.entry) origin (L.numbers numbers.now) ≡ Ok (items_of r))) }
 {
     match items {
-        Elements::Nums(raw) => {
-            let read = numbers_numbered(alloc, raw, numbers, origin)?;
-            Ok(read.map(Ravel::Nums))
-        }
-        Elements::Chars(raw) => {
-            let read = read_numbered(alloc, raw, numbers, origin)?;
-            Ok(read.map(Ravel::Chars))
-        }
+        Elements::Nums(raw) => match numbers_numbered(alloc, raw, numbers, origin)? {
+            Some(read) => Ok(Some(Ravel::Nums(read))),
+            None => Ok(None),
+        },
+        Elements::Chars(raw) => match read_numbered(alloc, raw, numbers, origin)? {
+            Some(read) => Ok(Some(Ravel::Chars(read))),
+            None => Ok(None),
+        },
     }
 }
 
