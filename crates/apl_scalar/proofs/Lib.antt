@@ -1,5 +1,4 @@
 pub mod Signs
-pub mod Operands
 pub mod Rooms
 pub mod Extension
 pub mod Whole

@@ -1,0 +1,151 @@
+// The values of a scalar function at the places below a count, in the narrowest lane that its kind allows.
+ghost use Rattle.std.specs.Prelude.{◌≡◌, IfOk, IfSome};
+ghost use Rattle.apl_arrays.specs.Answers.{Answers};
+ghost use Rattle.apl_arrays.specs.Numbers.{kept_values};
+ghost use Rattle.apl_scalar.specs.Operands.{shown, values_from, Covers};
+ghost use Rattle.apl_scalar.specs.Lanes.{shown_in, IsBegun};
+
+use crate::blocks::push_values;
+use crate::computed::Computed;
+use crate::finish::{Whole, finish};
+use crate::in_lanes::{Beyond, InLanes, Within};
+use crate::in_wide::{InWide, Throughout};
+use crate::narrow::Narrow;
+use crate::operand::{Operand, Source};
+use crate::room::grow;
+use crate::tells::{Telling, Tells};
+use apl_arrays::{Lane, NumberVec, Stop};
+use std::alloc::{AllocError, Global};
+
+/// The places below a count, each with a number of either operand, at which a function is applied.
+#[derive(Clone, Copy)]
+pub(crate) struct Places<'a> {
+    pub(crate) alloc: Global,
+    pub(crate) a: Operand<'a>,
+    pub(crate) b: Operand<'a>,
+    pub(crate) count: usize,
+}
+
+/// Both operands in a lane.
+#[derive(Clone, Copy)]
+struct Both<'a, L> {
+    a: Source<'a, L>,
+    b: Source<'a, L>,
+}
+
+impl<'a> Places<'a> {
+    /// Both operands in a lane; none where it doesn't hold them, nor where each is one number, which serves at each place.
+    #[inline(always)]
+    fn in_lane<L: Computed>(self) -> Option<Both<'a, L>>
+        ensures { IfSome result (λ both. (shown_in L.value L.numbers both.a ≡ shown self.entry.a) × (shown_in L.value L.numbers both.b ≡ shown self.entry.b)) }
+    {
+        if self.a.is_one() && self.b.is_one() {
+            return None;
+        }
+        Some(Both {
+            a: self.a.in_lane()?,
+            b: self.b.in_lane()?,
+        })
+    }
+
+    /// The values of a function that tells.
+    pub(crate) fn told<F: Tells>(self) -> Result<NumberVec, Stop>
+        requires a { Covers (shown self.a) self.count }
+        requires b { Covers (shown self.b) self.count }
+        ensures { Answers kept_values (values_from F.meaning (shown self.entry.a) (shown self.entry.b) 0 self.entry.count) result }
+    {
+        let mut made = Vec::with_capacity(self.alloc, self.count)?;
+        if let Some(both) = self.in_lane::<i8>() {
+            push_values::<i8, i8, Telling<F>>(&mut made, &both.a, &both.b, self.count)?;
+        } else if let Some(both) = self.in_lane::<i32>() {
+            push_values::<i32, i8, Telling<F>>(&mut made, &both.a, &both.b, self.count)?;
+        } else if let Some(both) = self.in_lane::<i64>() {
+            push_values::<i64, i8, Telling<F>>(&mut made, &both.a, &both.b, self.count)?;
+        }
+        finish::<i8, Telling<F>>(made, self.a, self.b, self.count)
+    }
+
+    /// The values of a function of numbers of 64 bits.
+    pub(crate) fn in_wide<F: InWide>(self) -> Result<NumberVec, Stop>
+        requires a { Covers (shown self.a) self.count }
+        requires b { Covers (shown self.b) self.count }
+        ensures { Answers kept_values (values_from F.meaning (shown self.entry.a) (shown self.entry.b) 0 self.entry.count) result }
+    {
+        let mut made = Vec::with_capacity(self.alloc, self.count)?;
+        if let Some(both) = self.in_lane::<i64>() {
+            push_values::<i64, i64, Throughout<F>>(&mut made, &both.a, &both.b, self.count)?;
+        }
+        finish::<i64, Whole<F>>(made, self.a, self.b, self.count)
+    }
+
+    /// The values of a function that is computed in the lanes of its arguments.
+    pub(crate) fn in_lanes<F: InLanes>(self) -> Result<NumberVec, Stop>
+        requires a { Covers (shown self.a) self.count }
+        requires b { Covers (shown self.b) self.count }
+        ensures { Answers kept_values (values_from F.meaning (shown self.entry.a) (shown self.entry.b) 0 self.entry.count) result }
+    {
+        if let Some(both) = self.in_lane::<i8>() {
+            return self.from_lane::<F, i8>(&both);
+        }
+        if let Some(both) = self.in_lane::<i32>() {
+            return self.from_lane::<F, i32>(&both);
+        }
+        let mut made = Vec::with_capacity(self.alloc, self.count)?;
+        if let Some(both) = self.in_lane::<i64>() {
+            push_values::<i64, i64, Within<F>>(&mut made, &both.a, &both.b, self.count)?;
+        }
+        finish::<i64, Whole<F>>(made, self.a, self.b, self.count)
+    }
+
+    /// The same in a narrow lane, as far as it holds the values, and from there on in the next wider one.
+    fn from_lane<F: InLanes, L: Narrow>(self, both: &Both<'_, L>) -> Result<NumberVec, Stop>
+        requires a { Covers (shown self.a) self.count }
+        requires b { Covers (shown self.b) self.count }
+        requires both_a { shown_in L.value L.numbers both.now.a ≡ shown self.a }
+        requires both_b { shown_in L.value L.numbers both.now.b ≡ shown self.b }
+        ensures { Answers kept_values (values_from F.meaning (shown self.entry.a) (shown self.entry.b) 0 self.entry.count) result }
+    {
+        let mut made = Vec::with_capacity(self.alloc, self.count)?;
+        push_values::<L, L, Within<F>>(&mut made, &both.a, &both.b, self.count)?;
+        if made.len() == self.count {
+            return Ok(L::kept(made));
+        }
+        self.go_on::<F, L>(both, made.as_slice())
+    }
+
+    /// The values so far and those for the other places, in the next wider lane.
+    fn go_on<F: InLanes, L: Narrow>(self, both: &Both<'_, L>, made: &[L]) -> Result<NumberVec, Stop>
+        requires a { Covers (shown self.a) self.count }
+        requires b { Covers (shown self.b) self.count }
+        requires both_a { shown_in L.value L.numbers both.now.a ≡ shown self.a }
+        requires both_b { shown_in L.value L.numbers both.now.b ≡ shown self.b }
+        requires begun { IsBegun F.meaning (shown self.a) (shown self.b) self.count (L.numbers made.now) }
+        ensures { Answers kept_values (values_from F.meaning (shown self.entry.a) (shown self.entry.b) 0 self.entry.count) result }
+    {
+        let mut wide = widened(self.alloc, made, self.count)?;
+        push_values::<L, L::Wider, Beyond<F>>(&mut wide, &both.a, &both.b, self.count)?;
+        if wide.len() == self.count {
+            return Ok(L::Wider::kept(wide));
+        }
+        let wide = L::Wider::slice(wide.as_slice()).wide(self.alloc)?;
+        let widest = Vec::from_slice(self.alloc, wide.as_slice())?;
+        finish::<i64, Whole<F>>(widest, self.a, self.b, self.count)
+    }
+}
+
+/// Numbers in the next wider lane, with room for so many.
+fn widened<L: Narrow>(
+    alloc: Global,
+    numbers: &[L],
+    count: usize,
+) -> Result<Vec<L::Wider>, AllocError>
+    ensures { IfOk result (λ wide. L.Wider.numbers wide.items ≡ L.numbers numbers.now) }
+{
+    let mut wide = Vec::with_capacity(alloc, count)?;
+    grow(&mut wide, numbers.len())?;
+    let room = wide.as_mut_slice();
+    for i in 0..numbers.len() {
+        room[i] = numbers[i].widen();
+    }
+    Ok(wide)
+}
