@@ -127,8 +127,7 @@ impl<'a> Places<'a> {
         if wide.len() == self.count {
             return Ok(L::Wider::kept(wide));
         }
-        let wide = L::Wider::slice(wide.as_slice()).wide(self.alloc)?;
-        let widest = Vec::from_slice(self.alloc, wide.as_slice())?;
+        let widest = L::Wider::slice(wide.as_slice()).to_wide(self.alloc)?;
         finish::<i64, Whole<F>>(widest, self.a, self.b, self.count)
     }
 }
