@@ -1,9 +1,10 @@
 // Bytes looked up among bytes, by a slot for each of the 256.
 ghost use Rattle.std.specs.Prelude.{◌≡◌, ◌+◌, ◌<◌, ◌^◌, length, map, pos, IfOk, IfSome};
 ghost use Rattle.std.specs.Ordering.{int_eq};
-ghost use Rattle.std.specs.List.{list_any, position_or_len};
+ghost use Rattle.std.specs.List.{All, list_any, position_or_len};
 ghost use Rattle.apl_arrays.specs.Numbers.{values};
 ghost use Rattle.apl_scalar.specs.Functions.{number_of};
+ghost use Rattle.apl_search.specs.inside.Tables.{IsWithin};
 
 use crate::index::FEW;
 use crate::marks::mark;
@@ -38,6 +39,15 @@ pub(crate) fn both_bytes<'a>(
     None
 }
 
+/// Reads each byte, which shows its range, and does nothing.
+fn inspect(bytes: &[i8])
+    ensures { All (IsWithin BYTES) bytes.now }
+{
+    for byte in bytes {
+        let _byte = *byte;
+    }
+}
+
 /// For each byte its first place among others, or how many these are, counted from a number on.
 pub(crate) fn byte_places(
     alloc: Global,
@@ -48,6 +58,7 @@ pub(crate) fn byte_places(
     requires { first + length among.now < 2 ^ 31 }
     ensures { IfOk result (λ v. v.items ≡ map (λ y. pos (first + position_or_len (int_eq y) among.now)) sought.now) }
 {
+    inspect(among);
     let mut firsts = [among.len() as u32; COUNT];
     enter(&mut firsts, BYTES, NumberSlice::I8(among));
     let mut places = Vec::with_capacity(alloc, sought.len())?;
@@ -66,6 +77,7 @@ pub(crate) fn bytes_standing(
 ) -> Result<Vec<i8>, AllocError>
     ensures { IfOk result (λ v. v.items ≡ map (λ x. number_of (list_any (int_eq x) among.now)) sought.now) }
 {
+    inspect(among);
     let mut marks = [false; COUNT];
     mark(&mut marks, BYTES, NumberSlice::I8(among));
     let mut verdicts = Vec::with_capacity(alloc, sought.len())?;

@@ -171,12 +171,12 @@ pub fn decode(alloc: Global, a: &Array, b: &Array) -> Result<Array, Stop>
 {
     let (bases, digits, count) = operands(a, b)?;
     let shape = behind(b.shape());
-    let bases = bases.wide(alloc)?;
-    let digits = digits.wide(alloc)?;
+    let wide_bases = bases.wide(alloc)?;
+    let wide_digits = digits.wide(alloc)?;
     let values = values_of(
         alloc,
-        bases.as_slice(),
-        digits.as_slice(),
+        wide_bases.as_slice(),
+        wide_digits.as_slice(),
         length_along(b.shape()),
         size(shape),
         count,

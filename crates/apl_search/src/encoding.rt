@@ -87,9 +87,9 @@ pub fn encode(alloc: Global, a: &Array, b: &Array) -> Result<Array, Stop>
     let joined = joined_shape(a.shape(), b.shape());
     let shape = joined.as_slice();
     within_limits(shape)?;
-    let bases = bases.wide(alloc)?;
-    let numbers = numbers.wide(alloc)?;
-    let digits = digits_of(alloc, bases.as_slice(), numbers.as_slice())?;
-    let digits = NumberVec::squeezed(alloc, digits)?;
-    Ok(Array::in_shape(alloc, shape, Ravel::Nums(digits))?)
+    let wide_bases = bases.wide(alloc)?;
+    let wide_numbers = numbers.wide(alloc)?;
+    let digits = digits_of(alloc, wide_bases.as_slice(), wide_numbers.as_slice())?;
+    let kept = NumberVec::squeezed(alloc, digits)?;
+    Ok(Array::in_shape(alloc, shape, Ravel::Nums(kept))?)
 }

@@ -1,4 +1,4 @@
-use Rattle.std.proofs.Common.{◌≡◌, ◌+◌, ◌-◌, ◌++◌, ◌∷◌, [], ℕ, ℤ, List, map, pos, to_z, w64, ap, sym, ◌∙◌, arith}
+use Rattle.std.proofs.Common.{◌≡◌, ◌+◌, ◌-◌, ◌++◌, ◌∷◌, [], ℕ, ℤ, List, map, pos, to_z, w32, ap, sym, ◌∙◌, arith}
 use Rattle.std.proofs.lemmas.Int.{ints}
 use Rattle.std.specs.List.{range_with_len}
 use Rattle.std.proofs.lemmas.List.FromFn.{map-range_with_len_more}
@@ -7,7 +7,7 @@ use Rattle.apl_search.proofs.counting.numbers_from.Goals as goal
 pub loop-number-preserved : goal.loop-number-preserved
 loop-number-preserved c =
     let more : c.loop-number.number + 1 - c.args.first ≡ (c.loop-number.number - c.args.first) + 1 = omega arith in
-    let cast : to_z w64 c.loop-number.number ≡ pos c.loop-number.number = omega (arith, ints) in
+    let cast : to_z w32 c.loop-number.number ≡ pos c.loop-number.number = omega (arith, ints) in
     c.in_ok-push.ensures.items
     ∙ ap (λ (z : ℤ). c.loop-number.numbers.items ++ z ∷ []) cast
     ∙ ap (λ (l : List ℤ). l ++ pos c.loop-number.number ∷ []) c.loop-number.invariant
