@@ -220,12 +220,6 @@ pub made_laid : (items : Items) (s : List ℕ) (axis planes len block : ℕ) (pl
 made_laid (Numbers zs) s axis planes len block places l e f g = ap (λ (t : List ℤ). Numbers t) (layout_laid (pos 0) zs s axis planes len block places l e f g)
 made_laid (Characters cs) s axis planes len block places l e f g = ap (λ (t : List ℕ). Characters t) (layout_laid 32 cs s axis planes len block places l e f g)
 
-pub numbers_count : (items : Items) (zs : List ℤ) (n : ℕ) → length (cells_of items) ≡ n → items ≡ Numbers zs → length zs ≡ n
-numbers_count items zs n full e = sym (length-map zs Num) ∙ sym (ap (λ (t : Items). length (cells_of t)) e) ∙ full
-
-pub characters_count : (items : Items) (cs : List ℕ) (n : ℕ) → length (cells_of items) ≡ n → items ≡ Characters cs → length cs ≡ n
-characters_count items cs n full e = sym (length-map cs Char) ∙ sym (ap (λ (t : Items). length (cells_of t)) e) ∙ full
-
 -- one length changed
 pub set_axis : (s : List ℕ) (axis m : ℕ) → slice_set s axis m ≡ on_axis axis (λ n. m) s
 set_axis [] axis m = refl

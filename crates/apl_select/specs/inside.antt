@@ -4,5 +4,3 @@ pub mod Single
 pub mod Written
 pub mod Numbered
 pub mod Masks
-pub mod Laid
-pub mod Readings

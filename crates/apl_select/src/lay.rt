@@ -1,5 +1,5 @@
 // Elements of an array along an axis, by the places they come from.
-ghost use Rattle.std.specs.Prelude.{◌≡◌, ◌+◌, ◌*◌, ◌^◌, ◌<◌, ◌≤◌, ◌++◌, length, map, replicate, OnOk};
+ghost use Rattle.std.specs.Prelude.{◌≡◌, ◌+◌, ◌*◌, ◌^◌, ◌<◌, ◌++◌, length, map, replicate, OnOk};
 ghost use Rattle.std.specs.Option.{option_map};
 ghost use Rattle.std.specs.List.{All};
 ghost use Rattle.apl_select.specs.inside.Laying.{block_of, plane_of, IsBelow};
@@ -130,8 +130,7 @@ pub(crate) struct Laying<'p> {
 }
 
 impl<'p> Structural for Laying<'p> {
-    ghost use Rattle.apl_select.specs.inside.Laid.{IsLaid};
-    ghost use Rattle.apl_select.specs.inside.Laying.{planes_of};
+    ghost use Rattle.apl_select.specs.inside.Laying.{planes_of, IsLaid};
     ghost use Rattle.apl_select.specs.Lined.{item_or};
 
     ghost takes = { IsLaid };

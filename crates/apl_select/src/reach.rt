@@ -1,5 +1,5 @@
 // Places in a ravel that slots lead to, and the elements there.
-ghost use Rattle.std.specs.Prelude.{◌≡◌, ℕ, ◌+◌, ◌*◌, ◌^◌, ◌<◌, ◌≤◌, [], ◌∷◌, ◌++◌};
+ghost use Rattle.std.specs.Prelude.{◌≡◌, ◌+◌, ◌*◌, ◌<◌, ◌≤◌, [], ◌∷◌, ◌++◌};
 ghost use Rattle.std.specs.Prelude.{drop, length, map, slice_index_or, IfOk, OnOk};
 ghost use Rattle.std.specs.List.{All};
 ghost use Rattle.apl_arrays.specs.Cells.{cells_of};
@@ -130,8 +130,7 @@ struct Reading<'p> {
 
 impl<'p> Structural for Reading<'p> {
     ghost use Rattle.std.specs.Prelude.{map, slice_index_or};
-    ghost use Rattle.apl_select.specs.inside.Reached.{crossed};
-    ghost use Rattle.apl_select.specs.inside.Readings.{IsRead};
+    ghost use Rattle.apl_select.specs.inside.Reached.{crossed, IsRead};
 
     ghost takes = { IsRead };
 

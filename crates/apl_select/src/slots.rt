@@ -1,5 +1,5 @@
 // What index slots pick of the axes of an array.
-ghost use Rattle.std.specs.Prelude.{◌≡◌, ◌<◌, ◌≤◌, [], ◌∷◌, length, pos, slice_index_or, IfOk, Some};
+ghost use Rattle.std.specs.Prelude.{◌≡◌, ◌<◌, [], ◌∷◌, length, pos, slice_index_or, IfOk, Some};
 ghost use Rattle.std.specs.List.{All, range_with_len};
 ghost use Rattle.apl_arrays.specs.Answers.{Answers, FaultsFirst};
 ghost use Rattle.apl_arrays.specs.Index.{size_of};

@@ -173,8 +173,7 @@ pub(crate) struct Turn<'s> {
 }
 
 impl<'s> Structural for Turn<'s> {
-    ghost use Rattle.apl_turns.specs.inside.Lines.{sourced_list};
-    ghost use Rattle.apl_turns.specs.inside.Turning.{IsTurn};
+    ghost use Rattle.apl_turns.specs.inside.Lines.{sourced_list, IsTurn};
 
     ghost takes = { IsTurn };
 

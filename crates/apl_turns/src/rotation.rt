@@ -1,5 +1,5 @@
 // Lines of arrays turned round.
-ghost use Rattle.std.specs.Prelude.{◌≡◌, ◌≢◌, ◌*◌, ◌<◌, ◌≤◌, ℕ, length, map, IfOk, IfSome, ◌+◌, slice_index_or};
+ghost use Rattle.std.specs.Prelude.{◌≡◌, ◌≢◌, ◌<◌, ◌≤◌, length, map, IfOk, IfSome, ◌+◌, slice_index_or};
 ghost use Rattle.apl_arrays.specs.Answers.{Answers, FaultsFirst};
 ghost use Rattle.apl_arrays.specs.Axes.{without};
 ghost use Rattle.apl_arrays.specs.Cells.{cells_of};

@@ -1,4 +1,4 @@
-use Rattle.std.proofs.Common.{ap, sym, ◌∙◌}
+use Rattle.std.proofs.Common.{◌∙◌}
 use Rattle.apl_arrays.specs.Left.{listed}
 use Rattle.apl_arrays.specs.Ravels.{items_of}
 use Rattle.apl_reshape.proofs.InRounds.{full_round, made_round, reshaped_as}

@@ -1,4 +1,4 @@
-use Rattle.std.proofs.Common.{◌≡◌, pos, ◌++◌, ◌∷◌, [], Bool, get_or, ap, sym, ◌∙◌, Some}
+use Rattle.std.proofs.Common.{pos, ◌++◌, ◌∷◌, [], get_or, ap, sym, ◌∙◌, Some}
 use Rattle.apl_select.specs.Compress.{is_one}
 use Rattle.apl_select.specs.Lined.{place_served}
 use Rattle.apl_select.proofs.Choosing.{kept_more_no, kept_more_yes}

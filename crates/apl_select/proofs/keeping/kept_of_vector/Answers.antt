@@ -1,4 +1,4 @@
-use Rattle.std.proofs.Common.{length, ap, ◌∙◌, sym, arith}
+use Rattle.std.proofs.Common.{length, ap, ◌∙◌, arith}
 use Rattle.apl_arrays.specs.Cells.{Items, cells_of}
 use Rattle.apl_arrays.specs.Left.{listed}
 use Rattle.apl_arrays.specs.Numbers.{values}

@@ -1,4 +1,4 @@
-use Rattle.std.proofs.Common.{◌≡◌, ◌<◌, pos, length, get_or, arith, sym, ◌∙◌}
+use Rattle.std.proofs.Common.{◌≡◌, pos, length, get_or, arith, sym, ◌∙◌}
 use Rattle.apl_arrays.proofs.InTurn.{turns_start, turns_step, turns_fault, turns_end}
 use Rattle.apl_select.specs.Indexing.{place_numbered}
 use Rattle.apl_select.proofs.Lanes.{length-numbers}

@@ -1,4 +1,4 @@
-use Rattle.std.proofs.Common.{pos, length, ap, ◌∙◌}
+use Rattle.std.proofs.Common.{length, ap, ◌∙◌}
 use Rattle.apl_arrays.specs.Cells.{Items, cells_of}
 use Rattle.apl_arrays.specs.Left.{listed}
 use Rattle.apl_arrays.specs.Numbers.{kept_values, values}

@@ -1,4 +1,4 @@
-use Rattle.std.proofs.Common.{◌≡◌, Ok, FitsSigned, w64, ap, sym, ◌∙◌, rules}
+use Rattle.std.proofs.Common.{FitsSigned, w64, ap, sym, ◌∙◌, rules}
 use Rattle.apl_select.specs.Indexing.{place_numbered}
 use Rattle.apl_select.proofs.Lanes.{number_told}
 use Rattle.apl_select.proofs.vector.place_at.Goals as goal
