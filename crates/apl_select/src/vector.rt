@@ -31,7 +31,8 @@ fn place_at<L: Lane>(numbers: &[L], at: usize, origin: usize) -> usize
 }
 
 /// The elements at the places that numbers count, where each counts one. They go into room that is there already, so that the loop holds
-/// one test.
+/// one test. It stands apart, so that the loop has registers enough.
+#[inline(never)]
 fn read_numbered<T: Copy, L: Lane>(
     alloc: Global,
     raw: &[T],
