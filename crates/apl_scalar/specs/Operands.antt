@@ -25,9 +25,9 @@ abbrev pub number_at : Shown → ℕ → ℤ
 number_at (Same x) k = x
 number_at (Each xs) k = slice_index_or xs k (pos 0)
 
--- the value for each of so many places from one on, or the first fault
-abbrev pub values_from : (ℤ → ℤ → Result ℤ Fault) → Shown → Shown → ℕ → ℕ → Result (List ℤ) Fault
-values_from f a b from count = all_ok (λ k. f (number_at a k) (number_at b k)) (range_with_len from count)
+-- the value of those for each place below n, or the first fault
+abbrev pub values_of : (ℤ → ℤ → Result ℤ Fault) → (ℕ → ℤ) → (ℕ → ℤ) → ℕ → Result (List ℤ) Fault
+values_of f x y n = all_ok (λ k. f (x k) (y k)) (range_with_len 0 n)
 
 -- each number is the value of those for its place
 abbrev pub AreValues : (ℤ → ℤ → Result ℤ Fault) → (ℕ → ℤ) → (ℕ → ℤ) → List ℤ → Type 0

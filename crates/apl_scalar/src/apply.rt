@@ -11,7 +11,7 @@ ghost use Rattle.apl_arrays.specs.Simple.{number_of_scalar, single};
 ghost use Rattle.apl_scalar.specs.Functions.{monadic_of, dyadic_of};
 ghost use Rattle.apl_arrays.specs.Checks.{is_single};
 ghost use Rattle.apl_scalar.specs.Extension.{extended, monadic_at, values_in, numbers_in, monadic, dyadic, HasNoNumber};
-ghost use Rattle.apl_scalar.specs.Operands.{shown, values_from, Covers, Shows};
+ghost use Rattle.apl_scalar.specs.Operands.{number_at, shown, values_of, Covers, Shows};
 
 use crate::characters::{dyadic_characters, mixed};
 use crate::dispatch::ByFunction;
@@ -72,25 +72,13 @@ fn monadic_number(function: Monadic, y: i64) -> Result<i64, Fault>
     function.apply(Pair { x: 0, y })
 }
 
-/// The values of a function of one argument.
-fn monadic_numbers(alloc: Global, function: Monadic, b: NumberSlice<'_>) -> Result<NumberVec, Stop>
-    ensures { Answers kept_values (all_ok (λ k. monadic_of function (slice_index_or (values b.entry) k (pos 0))) (range_with_len 0 (length (values b.entry)))) result }
-{
-    function.at_places(Places {
-        alloc,
-        a: Operand::One(0),
-        b: Operand::Many(b),
-        count: b.len(),
-    })
-}
-
 /// The values of a function of one array in ravel order.
 fn monadic_values(alloc: Global, function: Monadic, b: &Array) -> Result<NumberVec, Stop>
     ensures { Answers kept_values (all_ok (λ i. monadic_at function (cell_at b.now i)) (indices b.now.shape)) result }
 {
     let items = b.items();
     match items {
-        Elements::Nums(numbers) => monadic_numbers(alloc, function, numbers),
+        Elements::Nums(numbers) => function.of_numbers(alloc, numbers),
         Elements::Chars(_) => {
             if items.is_empty() {
                 Ok(NumberVec::I8(Vec::new(alloc)))
@@ -111,9 +99,9 @@ fn dyadic_numbers(
 ) -> Result<NumberVec, Stop>
     requires a { Covers (shown a) count }
     requires b { Covers (shown b) count }
-    ensures { Answers kept_values (values_from (dyadic_of function) (shown a.entry) (shown b.entry) 0 count) result }
+    ensures { Answers kept_values (values_of (dyadic_of function) (number_at (shown a.entry)) (number_at (shown b.entry)) count) result }
 {
-    function.at_places(Places { alloc, a, b, count })
+    function.at_places(&Places { alloc, a, b, count })
 }
 
 /// The numbers of an operand, of which a single one serves at each place.

@@ -25,18 +25,6 @@ impl Scalar for Identity {
     }
 }
 
-impl InLanes for Identity {
-    #[inline(always)]
-    fn flagged<L: Computed>(_x: L, y: L) -> (L, L) {
-        (y, L::of(0))
-    }
-
-    #[inline(always)]
-    fn widened<L: Narrow>(_x: L, y: L) -> L::Wider {
-        y.widen()
-    }
-}
-
 pub(crate) struct Negation;
 
 impl Scalar for Negation {
@@ -120,20 +108,13 @@ impl Scalar for Magnitude {
 impl InLanes for Magnitude {
     #[inline(always)]
     fn flagged<L: Computed>(_x: L, y: L) -> (L, L) {
-        if y.wide() < 0 {
-            L::flagged_difference(L::of(0), y)
-        } else {
-            (y, L::of(0))
-        }
+        let (negated, flag) = L::flagged_difference(L::of(0), y);
+        (y.greater(negated), flag)
     }
 
     #[inline(always)]
     fn widened<L: Narrow>(_x: L, y: L) -> L::Wider {
-        if y.wide() < 0 {
-            L::wide_difference(L::of(0), y)
-        } else {
-            y.widen()
-        }
+        y.widen().greater(L::wide_difference(L::of(0), y))
     }
 }
 

@@ -2,13 +2,13 @@
 ghost use Rattle.std.specs.Prelude.{◌≡◌, ◌≤◌, ◌<◌, ◌+◌, ℕ, ℤ, Result, length, min, IsTrue, IsFalse, IfOk, OnOk};
 ghost use Rattle.apl_faults.specs.declared.fault.Fault.{Fault};
 ghost use Rattle.apl_scalar.specs.Operands.{number_at, AreValues, Covers};
-ghost use Rattle.apl_scalar.specs.Lanes.{piece_in, shown_in, AddsValues, IsBegun, SomeHasNoneIn};
+ghost use Rattle.apl_scalar.specs.Lanes.{shown_in, AddsValues, IsBegun, SomeHasNoneIn};
 ghost use Rattle.apl_scalar.specs.inside.Rooms.{Holds, IsReady};
 
 use crate::computed::Computed;
 use crate::line::{Each, Line, Same};
 use crate::operand::Source;
-use crate::pieces::{Piece, lay, piece_of};
+use crate::pieces::{lay, piece};
 use crate::room::grow;
 use apl_arrays::Lane;
 use std::alloc::AllocError;
@@ -36,33 +36,52 @@ pub(crate) trait Kernel<L: Lane, M: Lane> {
         ensures none { IsFalse result → SomeHasNoneIn M.width meaning (X.number x) (Y.number y) (length out.new) };
 }
 
-/// Writes the values for the places of a block, and says whether there is one in the lane at each. For two numbers that serve at each place it makes
-/// none.
+/// Appends the values for the places of a block, which are written where they stay, and says whether the lane holds them. Only where it doesn't are
+/// they taken back.
 #[inline(always)]
-fn fill_block<L: Lane, M: Lane, K: Kernel<L, M>>(
-    a: Piece<'_, L>,
-    b: Piece<'_, L>,
-    out: &mut [M],
-) -> bool
-    requires a { Covers (piece_in L.value L.numbers a) (length out.old) }
-    requires b { Covers (piece_in L.value L.numbers b) (length out.old) }
-    ensures { IsTrue result → AreValues K.meaning (number_at (piece_in L.value L.numbers a.entry)) (number_at (piece_in L.value L.numbers b.entry)) (M.numbers out.new) }
+fn push_block<L: Lane, M: Lane, K: Kernel<L, M>, X: Line<L>, Y: Line<L>>(
+    out: &mut Vec<M>,
+    x: X,
+    y: Y,
+    count: usize,
+) -> Result<bool, AllocError>
+    requires x { (k : ℕ) → k < count → X.has x k }
+    requires y { (k : ℕ) → k < count → Y.has y k }
+    ensures adds { OnOk result (AddsValues K.meaning (X.number x) (Y.number y) count (M.numbers out.old.items) (M.numbers out.new.items)) }
+    ensures all { IfOk result (λ all. IsTrue all → length out.new.items ≡ length out.old.items + count) }
 {
-    match a {
-        Piece::One(x) => match b {
-            Piece::One(_) => false,
-            Piece::Many(y) => K::fill(Same(x), Each(y), out),
-        },
-        Piece::Many(x) => match b {
-            Piece::One(y) => K::fill(Each(x), Same(y), out),
-            Piece::Many(y) => K::fill(Each(x), Each(y), out),
-        },
+    let before = grow(out, count)?;
+    if K::fill(x, y, out.as_mut_slice().split_at_mut(before).1) {
+        return Ok(true);
     }
+    out.truncate(before);
+    Ok(false)
 }
 
-/// Appends the values for the places from the next one to another, which are written where they stay, and says whether the lane holds them. Only
-/// where it doesn't are they taken back.
-fn push_block<L: Lane, M: Lane, K: Kernel<L, M>>(
+/// Appends the values for the places from the next one on, block by block, as long as the lane holds them.
+fn push_lines<L: Lane, M: Lane, K: Kernel<L, M>, X: Line<L>, Y: Line<L>>(
+    out: &mut Vec<M>,
+    x: X,
+    y: Y,
+    count: usize,
+) -> Result<(), AllocError>
+    requires x { (k : ℕ) → k < count → X.has x k }
+    requires y { (k : ℕ) → k < count → Y.has y k }
+    requires begun { IsBegun K.meaning (X.number x) (Y.number y) count (M.numbers out.old.items) }
+    ensures { OnOk result (IsBegun K.meaning (X.number x) (Y.number y) count (M.numbers out.new.items)) }
+{
+    while out.len() < count {
+        let from = out.len();
+        let some = (count - from).min(BLOCK);
+        if !push_block::<L, M, K, X, Y>(out, x.after(from), y.after(from), some)? {
+            return Ok(());
+        }
+    }
+    Ok(())
+}
+
+/// Appends the values for the places from the next one to another, and says whether the lane holds them.
+fn push_pieces<L: Lane, M: Lane, K: Kernel<L, M>>(
     out: &mut Vec<M>,
     a: &Source<'_, L>,
     room_a: &[L],
@@ -75,24 +94,34 @@ fn push_block<L: Lane, M: Lane, K: Kernel<L, M>>(
     requires order { length out.old.items ≤ till }
     requires room_a { Holds L.value a.now (length out.old.items) till (L.numbers room_a.now) }
     requires room_b { Holds L.value b.now (length out.old.items) till (L.numbers room_b.now) }
-    ensures adds { OnOk result (AddsValues K.meaning (shown_in L.value L.numbers a.now) (shown_in L.value L.numbers b.now) till (M.numbers out.old.items) (M.numbers out.new.items)) }
+    requires begun { IsBegun K.meaning (number_at (shown_in L.value L.numbers a.now)) (number_at (shown_in L.value L.numbers b.now)) till (M.numbers out.old.items) }
+    ensures begun { OnOk result (IsBegun K.meaning (number_at (shown_in L.value L.numbers a.now)) (number_at (shown_in L.value L.numbers b.now)) till (M.numbers out.new.items)) }
     ensures all { IfOk result (λ all. IsTrue all → length out.new.items ≡ till) }
 {
     let from = out.len();
-    let x = piece_of(a, from, till, room_a);
-    let y = piece_of(b, from, till, room_b);
-    grow(out, till - from)?;
-    let values = out.as_mut_slice().split_at_mut(from).1;
-    if fill_block::<L, M, K>(x, y, values) {
-        return Ok(true);
+    let some = till - from;
+    match a {
+        Source::One(x) if room_a.is_empty() => {
+            let y = Each(piece(b, from, till, room_b));
+            push_block::<L, M, K, Same<L>, Each<'_, L>>(out, Same(*x), y, some)
+        }
+        _ => {
+            let x = Each(piece(a, from, till, room_a));
+            match b {
+                Source::One(y) if room_b.is_empty() => {
+                    push_block::<L, M, K, Each<'_, L>, Same<L>>(out, x, Same(*y), some)
+                }
+                _ => {
+                    let y = Each(piece(b, from, till, room_b));
+                    push_block::<L, M, K, Each<'_, L>, Each<'_, L>>(out, x, y, some)
+                }
+            }
+        }
     }
-    out.truncate(from);
-    Ok(false)
 }
 
-/// Appends the values for the places from the next one on, block by block, as long as the lane holds them. For either operand there is room for
-/// the numbers of a block, if it needs any.
-fn push_blocks<L: Lane, M: Lane, K: Kernel<L, M>>(
+/// The same as [`push_lines`] by way of room for the numbers of a block that don't lie in the lane.
+fn push_laid<L: Lane, M: Lane, K: Kernel<L, M>>(
     out: &mut Vec<M>,
     a: &Source<'_, L>,
     room_a: &mut [L],
@@ -104,8 +133,8 @@ fn push_blocks<L: Lane, M: Lane, K: Kernel<L, M>>(
     requires b { Covers (shown_in L.value L.numbers b.now) count }
     requires room_a { IsReady L.value a.now (min count BLOCK) (L.numbers room_a.old) }
     requires room_b { IsReady L.value b.now (min count BLOCK) (L.numbers room_b.old) }
-    requires begun { IsBegun K.meaning (shown_in L.value L.numbers a.now) (shown_in L.value L.numbers b.now) count (M.numbers out.old.items) }
-    ensures { OnOk result (IsBegun K.meaning (shown_in L.value L.numbers a.now) (shown_in L.value L.numbers b.now) count (M.numbers out.new.items)) }
+    requires begun { IsBegun K.meaning (number_at (shown_in L.value L.numbers a.now)) (number_at (shown_in L.value L.numbers b.now)) count (M.numbers out.old.items) }
+    ensures { OnOk result (IsBegun K.meaning (number_at (shown_in L.value L.numbers a.now)) (number_at (shown_in L.value L.numbers b.now)) count (M.numbers out.new.items)) }
 {
     while out.len() < count {
         let from = out.len();
@@ -116,7 +145,7 @@ fn push_blocks<L: Lane, M: Lane, K: Kernel<L, M>>(
         if !lay(b, from, till, room_b) {
             return Ok(());
         }
-        if !push_block::<L, M, K>(out, a, room_a, b, room_b, till)? {
+        if !push_pieces::<L, M, K>(out, a, room_a, b, room_b, till)? {
             return Ok(());
         }
     }
@@ -135,17 +164,27 @@ fn push_by_second<L: Computed, M: Lane, K: Kernel<L, M>, const N: usize>(
     requires b { Covers (shown_in L.value L.numbers b.now) count }
     requires room { IsReady L.value a.now (min count BLOCK) (L.numbers room.old) }
     requires enough { min count BLOCK ≤ N }
-    requires begun { IsBegun K.meaning (shown_in L.value L.numbers a.now) (shown_in L.value L.numbers b.now) count (M.numbers out.old.items) }
-    ensures { OnOk result (IsBegun K.meaning (shown_in L.value L.numbers a.now) (shown_in L.value L.numbers b.now) count (M.numbers out.new.items)) }
+    requires begun { IsBegun K.meaning (number_at (shown_in L.value L.numbers a.now)) (number_at (shown_in L.value L.numbers b.now)) count (M.numbers out.old.items) }
+    ensures { OnOk result (IsBegun K.meaning (number_at (shown_in L.value L.numbers a.now)) (number_at (shown_in L.value L.numbers b.now)) count (M.numbers out.new.items)) }
 {
     match b {
-        Source::One(y) => push_blocks::<L, M, K>(out, a, room, b, &mut [*y; N], count),
-        Source::Lies(_) => push_blocks::<L, M, K>(out, a, room, b, &mut [], count),
-        Source::Narrow(_) => push_blocks::<L, M, K>(out, a, room, b, &mut [L::of(0); N], count),
+        Source::One(y) if K::spreads() => push_laid::<L, M, K>(
+            out,
+            a,
+            room,
+            b,
+            &mut [*y; N],
+            count,
+        ),
+        Source::One(_) | Source::Lies(_) => {
+            push_laid::<L, M, K>(out, a, room, b, &mut [], count)
+        }
+        Source::Narrow(_) => push_laid::<L, M, K>(out, a, room, b, &mut [L::of(0); N], count),
     }
 }
 
 /// The same with room of `N` numbers for each operand that needs any.
+#[inline(never)]
 fn push_in_room<L: Computed, M: Lane, K: Kernel<L, M>, const N: usize>(
     out: &mut Vec<M>,
     a: &Source<'_, L>,
@@ -155,17 +194,26 @@ fn push_in_room<L: Computed, M: Lane, K: Kernel<L, M>, const N: usize>(
     requires a { Covers (shown_in L.value L.numbers a.now) count }
     requires b { Covers (shown_in L.value L.numbers b.now) count }
     requires enough { min count BLOCK ≤ N }
-    requires begun { IsBegun K.meaning (shown_in L.value L.numbers a.now) (shown_in L.value L.numbers b.now) count (M.numbers out.old.items) }
-    ensures { OnOk result (IsBegun K.meaning (shown_in L.value L.numbers a.now) (shown_in L.value L.numbers b.now) count (M.numbers out.new.items)) }
+    requires begun { IsBegun K.meaning (number_at (shown_in L.value L.numbers a.now)) (number_at (shown_in L.value L.numbers b.now)) count (M.numbers out.old.items) }
+    ensures { OnOk result (IsBegun K.meaning (number_at (shown_in L.value L.numbers a.now)) (number_at (shown_in L.value L.numbers b.now)) count (M.numbers out.new.items)) }
 {
     match a {
-        Source::One(x) => push_by_second::<L, M, K, N>(out, a, &mut [*x; N], b, count),
-        Source::Lies(_) => push_by_second::<L, M, K, N>(out, a, &mut [], b, count),
+        Source::One(x) if K::spreads() => push_by_second::<L, M, K, N>(
+            out,
+            a,
+            &mut [*x; N],
+            b,
+            count,
+        ),
+        Source::One(_) | Source::Lies(_) => {
+            push_by_second::<L, M, K, N>(out, a, &mut [], b, count)
+        }
         Source::Narrow(_) => push_by_second::<L, M, K, N>(out, a, &mut [L::of(0); N], b, count),
     }
 }
 
-/// Appends the values for the places from the next one on, as long as the lane holds them.
+/// Appends the values for the places from the next one on, as long as the lane holds them. For two numbers that serve at each place it makes none.
+#[inline(always)]
 pub(crate) fn push_values<L: Computed, M: Lane, K: Kernel<L, M>>(
     out: &mut Vec<M>,
     a: &Source<'_, L>,
@@ -174,13 +222,32 @@ pub(crate) fn push_values<L: Computed, M: Lane, K: Kernel<L, M>>(
 ) -> Result<(), AllocError>
     requires a { Covers (shown_in L.value L.numbers a.now) count }
     requires b { Covers (shown_in L.value L.numbers b.now) count }
-    requires begun { IsBegun K.meaning (shown_in L.value L.numbers a.now) (shown_in L.value L.numbers b.now) count (M.numbers out.old.items) }
-    ensures { OnOk result (IsBegun K.meaning (shown_in L.value L.numbers a.now) (shown_in L.value L.numbers b.now) count (M.numbers out.new.items)) }
+    requires begun { IsBegun K.meaning (number_at (shown_in L.value L.numbers a.now)) (number_at (shown_in L.value L.numbers b.now)) count (M.numbers out.old.items) }
+    ensures { OnOk result (IsBegun K.meaning (number_at (shown_in L.value L.numbers a.now)) (number_at (shown_in L.value L.numbers b.now)) count (M.numbers out.new.items)) }
 {
-    let spreads = K::spreads() && FEW <= count;
-    if !a.needs_room(spreads) && !b.needs_room(spreads) {
-        push_blocks::<L, M, K>(out, a, &mut [], b, &mut [], count)
-    } else if count < FEW {
+    let in_register = count < FEW || !K::spreads();
+    match a {
+        Source::Lies(x) => match b {
+            Source::Lies(y) => return push_lines::<L, M, K, Each<'_, L>, Each<'_, L>>(
+                out,
+                Each(x),
+                Each(y),
+                count,
+            ),
+            Source::One(y) if in_register => return push_lines::<L, M, K, Each<'_, L>, Same<L>>(
+                out,
+                Each(x),
+                Same(*y),
+                count,
+            ),
+            _ => {}
+        },
+        Source::One(x) if in_register => if let Source::Lies(y) = b {
+            return push_lines::<L, M, K, Same<L>, Each<'_, L>>(out, Same(*x), Each(y), count);
+        },
+        _ => {}
+    }
+    if count < FEW {
         push_in_room::<L, M, K, FEW>(out, a, b, count)
     } else {
         push_in_room::<L, M, K, BLOCK>(out, a, b, count)

@@ -1,5 +1,5 @@
 // Comparisons of numbers.
-ghost use Rattle.std.specs.Prelude.{◌≡◌, ◌<◌, ◌+◌, ◌^◌, ℕ, ℤ, Bool, not, int_lt, int_le, length, pos, slice_index_or, Ok};
+ghost use Rattle.std.specs.Prelude.{◌≡◌, ◌<◌, ℕ, ℤ, Bool, not, int_lt, int_le, length, pos, slice_index_or, Ok};
 ghost use Rattle.apl_scalar.specs.Functions.{int_eq, number_of};
 
 use crate::computed::Computed;
@@ -43,23 +43,18 @@ fn verdict<L: Lane, C: Comparison>(x: L, y: L) -> i8
     if C::holds(x.wide(), y.wide()) { 1 } else { 0 }
 }
 
-/// Writes the verdicts for the places of one step.
+/// The verdicts for the places of one step.
 #[inline(always)]
-fn fill_step<L: Lane, C: Comparison, X: Line<L>, Y: Line<L>>(
-    x: X,
-    y: Y,
-    from: usize,
-    out: &mut [i8],
-)
-    requires x { (k : ℕ) → k < STEP → X.has x (from + k) }
-    requires y { (k : ℕ) → k < STEP → Y.has y (from + k) }
-    requires out { length out.old ≡ STEP }
-    requires near { from + STEP < 2 ^ 63 }
-    ensures { (k : ℕ) → k < STEP → slice_index_or out.new k (pos 0) ≡ number_of (C.meaning (X.number x (from + k)) (Y.number y (from + k))) }
+fn step<L: Lane, C: Comparison, X: Line<L>, Y: Line<L>>(x: X, y: Y) -> [i8; STEP]
+    requires x { (k : ℕ) → k < STEP → X.has x k }
+    requires y { (k : ℕ) → k < STEP → Y.has y k }
+    ensures { (k : ℕ) → k < STEP → slice_index_or result k (pos 0) ≡ number_of (C.meaning (X.number x k) (Y.number y k)) }
 {
+    let mut verdicts = [0i8; STEP];
     for i in 0..STEP {
-        out[i] = verdict::<L, C>(x.at(from + i), y.at(from + i));
+        verdicts[i] = verdict::<L, C>(x.at(i), y.at(i));
     }
+    verdicts
 }
 
 impl<C: Comparison> Tells for Compared<C> {
@@ -72,7 +67,7 @@ impl<C: Comparison> Tells for Compared<C> {
     fn fill_told<L: Computed, X: Line<L>, Y: Line<L>>(x: X, y: Y, out: &mut [i8]) -> bool {
         let mut at = 0usize;
         while STEP <= out.len() - at {
-            fill_step::<L, C, X, Y>(x, y, at, &mut out[at..at + STEP]);
+            out[at..at + STEP].copy_from_slice(&step::<L, C, X, Y>(x.after(at), y.after(at)));
             at += STEP;
         }
         for i in at..out.len() {

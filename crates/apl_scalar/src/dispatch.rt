@@ -1,10 +1,12 @@
 // A scalar function that is chosen when the program runs, as one that the compiler knows.
-ghost use Rattle.std.specs.Prelude.{◌≡◌, ℤ, Result};
+ghost use Rattle.std.specs.Prelude.{◌≡◌, ℤ, Result, length, pos, slice_index_or};
+ghost use Rattle.std.specs.List.{range_with_len};
 ghost use Rattle.apl_faults.specs.declared.fault.Fault.{Fault};
 ghost use Rattle.apl_arrays.specs.Answers.{Answers};
-ghost use Rattle.apl_arrays.specs.Numbers.{kept_values};
+ghost use Rattle.apl_arrays.specs.Numbers.{kept_values, values};
+ghost use Rattle.apl_arrays.specs.Results.{all_ok};
 ghost use Rattle.apl_scalar.specs.Functions.{monadic_of, dyadic_of};
-ghost use Rattle.apl_scalar.specs.Operands.{shown, values_from, Covers};
+ghost use Rattle.apl_scalar.specs.Operands.{number_at, shown, values_of, Covers};
 
 use crate::arithmetic::{
     Difference, Identity, Magnitude, Maximum, Minimum, Negation, Product, Sign, Sum,
@@ -15,7 +17,8 @@ use crate::function::{Dyadic, Monadic, Scalar};
 use crate::logic::{And, Logical, Nand, Nor, Not, Or};
 use crate::powers::{Factorial, Power};
 use crate::values::Places;
-use apl_arrays::{NumberVec, Stop};
+use apl_arrays::{NumberSlice, NumberVec, Stop};
+use std::alloc::Global;
 
 /// What is done by a scalar function, made anew for each function that the compiler knows, so that no loop in it dispatches.
 /// [`Dyadic::apply`] and [`Monadic::apply`] do it by a function that is chosen when the program runs.
@@ -65,10 +68,10 @@ impl Dyadic {
     }
 
     /// The values of this function at places.
-    pub(crate) fn at_places(self, places: Places<'_>) -> Result<NumberVec, Stop>
-        requires a { Covers (shown places.a) places.count }
-        requires b { Covers (shown places.b) places.count }
-        ensures { Answers kept_values (values_from (dyadic_of self) (shown places.entry.a) (shown places.entry.b) 0 places.entry.count) result }
+    pub(crate) fn at_places(self, places: &Places<'_>) -> Result<NumberVec, Stop>
+        requires a { Covers (shown places.now.a) places.now.count }
+        requires b { Covers (shown places.now.b) places.now.count }
+        ensures { Answers kept_values (values_of (dyadic_of self) (number_at (shown places.now.a)) (number_at (shown places.now.b)) places.now.count) result }
     {
         match self {
             Dyadic::Plus => places.in_lanes::<Sum>(),
@@ -82,8 +85,8 @@ impl Dyadic {
             Dyadic::Less => places.told::<Compared<Less>>(),
             Dyadic::NotGreater => places.told::<Compared<NotGreater>>(),
             Dyadic::Equal => places.told::<Compared<Equal>>(),
-            Dyadic::NotLess => places.told::<Compared<Swapped<NotGreater>>>(),
-            Dyadic::Greater => places.told::<Compared<Swapped<Less>>>(),
+            Dyadic::NotLess => places.swapped().told::<Compared<NotGreater>>(),
+            Dyadic::Greater => places.swapped().told::<Compared<Less>>(),
             Dyadic::NotEqual => places.told::<Compared<NotEqual>>(),
             Dyadic::And => places.told::<Logical<And>>(),
             Dyadic::Or => places.told::<Logical<Or>>(),
@@ -113,19 +116,20 @@ impl Monadic {
         }
     }
 
-    /// The values of this function, whose argument is on the right, at places.
-    pub(crate) fn at_places(self, places: Places<'_>) -> Result<NumberVec, Stop>
-        requires a { Covers (shown places.a) places.count }
-        requires b { Covers (shown places.b) places.count }
-        ensures { Answers kept_values (values_from (λ _ y. monadic_of self y) (shown places.entry.a) (shown places.entry.b) 0 places.entry.count) result }
+    /// The values of this function of numbers.
+    pub(crate) fn of_numbers(
+        self,
+        alloc: Global,
+        numbers: NumberSlice<'_>,
+    ) -> Result<NumberVec, Stop>
+        ensures { Answers kept_values (all_ok (λ k. monadic_of self (slice_index_or (values numbers.entry) k (pos 0))) (range_with_len 0 (length (values numbers.entry)))) result }
     {
+        let places = Places::of_one(alloc, numbers);
         match self {
-            Monadic::Plus => places.in_lanes::<Identity>(),
+            Monadic::Plus | Monadic::Ceiling | Monadic::Floor => Ok(numbers.to_vec(alloc)?),
             Monadic::Minus => places.in_lanes::<Negation>(),
             Monadic::Times => places.in_lanes::<Sign>(),
             Monadic::Divide => places.in_wide::<Reciprocal>(),
-            Monadic::Ceiling => places.in_lanes::<Identity>(),
-            Monadic::Floor => places.in_lanes::<Identity>(),
             Monadic::Magnitude => places.in_lanes::<Magnitude>(),
             Monadic::Not => places.told::<Not>(),
             Monadic::Factorial => places.in_wide::<Factorial>(),

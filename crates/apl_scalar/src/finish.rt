@@ -3,7 +3,7 @@ ghost use Rattle.std.specs.Prelude.{◌≡◌, ℤ, Result, IfOk, IfErr, Ok, Err
 ghost use Rattle.apl_faults.specs.declared.fault.Fault.{Fault};
 ghost use Rattle.apl_arrays.specs.Answers.{Answers};
 ghost use Rattle.apl_arrays.specs.Numbers.{kept_values};
-ghost use Rattle.apl_scalar.specs.Operands.{shown, values_from, Covers};
+ghost use Rattle.apl_scalar.specs.Operands.{number_at, shown, values_of, Covers};
 ghost use Rattle.apl_scalar.specs.Lanes.{IsBegun};
 
 use crate::function::Scalar;
@@ -44,8 +44,8 @@ pub(crate) fn finish<M: Lane, T: Tested<M>>(
 ) -> Result<NumberVec, Stop>
     requires a { Covers (shown a) count }
     requires b { Covers (shown b) count }
-    requires begun { IsBegun T.meaning (shown a) (shown b) count (M.numbers made.items) }
-    ensures { Answers kept_values (values_from T.meaning (shown a.entry) (shown b.entry) 0 count) result }
+    requires begun { IsBegun T.meaning (number_at (shown a)) (number_at (shown b)) count (M.numbers made.items) }
+    ensures { Answers kept_values (values_of T.meaning (number_at (shown a.entry)) (number_at (shown b.entry)) count) result }
 {
     let mut made = made;
     for k in made.len()..count {

@@ -1,5 +1,5 @@
 // Numbers of a lane by places, in a form that the compiler knows.
-ghost use Rattle.std.specs.Prelude.{◌≡◌, ◌<◌, ℕ, ℤ, length, pos, slice_index_or, IfSome};
+ghost use Rattle.std.specs.Prelude.{◌≡◌, ◌<◌, ◌+◌, ℕ, ℤ, length, pos, slice_index_or, IfSome};
 
 use apl_arrays::Lane;
 
@@ -15,6 +15,12 @@ pub(crate) trait Line<L: Lane>: Copy {
     fn at(self, place: usize) -> L
         requires { has self place }
         ensures { L.value result ≡ number self place };
+
+    /// The numbers for the places from one on.
+    fn after(self, from: usize) -> Self
+        requires { has self from }
+        ensures has { (k : ℕ) → has self (from + k) → has result k }
+        ensures number { (k : ℕ) → number result k ≡ number self (from + k) };
 
     /// The number that serves at each place, if there is one.
     fn only(self) -> Option<L>
@@ -36,6 +42,11 @@ impl<L: Lane> Line<L> for Same<L> {
     }
 
     #[inline(always)]
+    fn after(self, _from: usize) -> Same<L> {
+        self
+    }
+
+    #[inline(always)]
     fn only(self) -> Option<L> {
         Some(self.0)
     }
@@ -53,6 +64,11 @@ impl<'a, L: Lane> Line<L> for Each<'a, L> {
     #[inline(always)]
     fn at(self, place: usize) -> L {
         self.0[place]
+    }
+
+    #[inline(always)]
+    fn after(self, from: usize) -> Each<'a, L> {
+        Each(&self.0[from..])
     }
 
     #[inline(always)]

@@ -1,5 +1,7 @@
 // Lanes from which values are widened.
-ghost use Rattle.std.specs.Prelude.{◌≡◌, ◌+ℤ◌, ◌-ℤ◌, ◌*ℤ◌};
+ghost use Rattle.std.specs.Prelude.{◌≡◌, ◌+ℤ◌, ◌-ℤ◌, ◌*ℤ◌, ℤ, FitsSigned};
+ghost use Rattle.apl_arrays.specs.Widths.{more_than_w32};
+ghost use Rattle.apl_scalar.specs.inside.Widths.{more_than_w8};
 
 use crate::computed::Computed;
 
@@ -19,10 +21,14 @@ pub(crate) trait Narrow: Computed {
 
     fn wide_product(x: Self, y: Self) -> Self::Wider
         ensures { Self.Wider.value result ≡ Self.value x *ℤ Self.value y };
+
+    ghost within: { (z : ℤ) → FitsSigned Self.width z → FitsSigned Self.Wider.width z };
 }
 
 impl Narrow for i8 {
     type Wider = i32;
+
+    ghost within = { more_than_w8 };
 
     #[inline(always)]
     fn widen(self) -> i32 {
@@ -47,6 +53,8 @@ impl Narrow for i8 {
 
 impl Narrow for i32 {
     type Wider = i64;
+
+    ghost within = { more_than_w32 };
 
     #[inline(always)]
     fn widen(self) -> i64 {

@@ -1,11 +1,10 @@
 // The numbers of an operand by the places of the result.
-ghost use Rattle.std.specs.Prelude.{◌≡◌, ◌+◌, ℕ, [], IfSome, IsFalse};
+ghost use Rattle.std.specs.Prelude.{◌≡◌, ◌+◌, IfSome};
 ghost use Rattle.apl_scalar.specs.Operands.{shown, number_at, Covers};
 ghost use Rattle.apl_scalar.specs.Lanes.{shown_in};
-ghost use Rattle.apl_scalar.specs.inside.Rooms.{IsReady};
 
 use crate::computed::Computed;
-use apl_arrays::{Lane, NumberSlice};
+use apl_arrays::NumberSlice;
 
 /// The numbers of an operand: one that serves at each place of the result, or one for each place.
 #[derive(Clone, Copy)]
@@ -49,20 +48,6 @@ impl<'a> Operand<'a> {
         match self {
             Operand::One(number) => Some(Source::One(L::cut(number)?)),
             Operand::Many(numbers) => L::source(numbers),
-        }
-    }
-}
-
-impl<'a, L: Lane> Source<'a, L> {
-    /// Whether it needs room for the numbers of a block, where one number is laid out or is not.
-    #[inline(always)]
-    pub(crate) fn needs_room(&self, spreads: bool) -> bool
-        ensures { IsFalse result → (n : ℕ) → IsReady L.value self.now n (L.numbers []) }
-    {
-        match self {
-            Source::One(_) => spreads,
-            Source::Lies(_) => false,
-            Source::Narrow(_) => true,
         }
     }
 }

@@ -1,19 +1,12 @@
-// The numbers for the places of a block, in a lane.
+// The numbers for the places of a block, one after another in a lane.
 ghost use Rattle.std.specs.Prelude.{◌≡◌, ◌≤◌, ◌-◌, ℕ, length, slice_range, IsTrue};
 ghost use Rattle.apl_arrays.specs.Numbers.{values};
 ghost use Rattle.apl_scalar.specs.Operands.{Covers};
-ghost use Rattle.apl_scalar.specs.Lanes.{piece_in, shown_in, IsPiece};
+ghost use Rattle.apl_scalar.specs.Lanes.{shown_in, IsPiece};
 ghost use Rattle.apl_scalar.specs.inside.Rooms.{IsReady, Holds};
 
 use crate::operand::Source;
 use apl_arrays::{Lane, NumberSlice};
-
-/// The numbers for the places of a block: one that serves at each, or one for each.
-#[derive(Clone, Copy)]
-pub(crate) enum Piece<'a, L> {
-    One(L),
-    Many(&'a [L]),
-}
 
 /// Writes numbers in another lane, and says whether it holds all of them.
 #[inline(never)]
@@ -62,27 +55,19 @@ pub(crate) fn lay<L: Lane>(source: &Source<'_, L>, from: usize, till: usize, roo
 
 /// The numbers for the places from one to another, where they lie or in the room.
 #[inline(always)]
-pub(crate) fn piece_of<'a, L: Lane>(
+pub(crate) fn piece<'a, L: Lane>(
     source: &Source<'a, L>,
     from: usize,
     till: usize,
     room: &'a [L],
-) -> Piece<'a, L>
+) -> &'a [L]
     requires covers { Covers (shown_in L.value L.numbers source.now) till }
     requires order { from ≤ till }
     requires holds { Holds L.value source.now from till (L.numbers room.now) }
-    ensures numbers { IsPiece (shown_in L.value L.numbers source.now) from till (piece_in L.value L.numbers result) }
-    ensures covers { Covers (piece_in L.value L.numbers result) (till - from) }
+    ensures { IsPiece (shown_in L.value L.numbers source.now) from till (L.numbers result.now) }
 {
     match source {
-        Source::One(x) => {
-            if room.is_empty() {
-                Piece::One(*x)
-            } else {
-                Piece::Many(&room[..till - from])
-            }
-        }
-        Source::Lies(numbers) => Piece::Many(&numbers[from..till]),
-        Source::Narrow(_) => Piece::Many(&room[..till - from]),
+        Source::Lies(numbers) => &numbers[from..till],
+        Source::One(_) | Source::Narrow(_) => &room[..till - from],
     }
 }

@@ -1,8 +1,8 @@
 // The values of a scalar function at the places below a count, in the narrowest lane that its kind allows.
-ghost use Rattle.std.specs.Prelude.{◌≡◌, IfOk, IfSome};
+ghost use Rattle.std.specs.Prelude.{◌≡◌, pos, length, IfOk, IfSome};
 ghost use Rattle.apl_arrays.specs.Answers.{Answers};
-ghost use Rattle.apl_arrays.specs.Numbers.{kept_values};
-ghost use Rattle.apl_scalar.specs.Operands.{shown, values_from, Covers};
+ghost use Rattle.apl_arrays.specs.Numbers.{kept_values, values};
+ghost use Rattle.apl_scalar.specs.Operands.{number_at, shown, values_of, Covers, Each, Same};
 ghost use Rattle.apl_scalar.specs.Lanes.{shown_in, IsBegun};
 
 use crate::blocks::push_values;
@@ -14,7 +14,7 @@ use crate::narrow::Narrow;
 use crate::operand::{Operand, Source};
 use crate::room::grow;
 use crate::tells::{Telling, Tells};
-use apl_arrays::{Lane, NumberVec, Stop};
+use apl_arrays::{Lane, NumberSlice, NumberVec, Stop, convert};
 use std::alloc::{AllocError, Global};
 
 /// The places below a count, each with a number of either operand, at which a function is applied.
@@ -34,10 +34,40 @@ struct Both<'a, L> {
 }
 
 impl<'a> Places<'a> {
+    /// The places of numbers that are the only argument, which is on the right.
+    #[inline(always)]
+    pub(crate) fn of_one(alloc: Global, numbers: NumberSlice<'a>) -> Places<'a>
+        ensures a { shown result.a ≡ Same (pos 0) }
+        ensures b { shown result.b ≡ Each (values numbers.entry) }
+        ensures count { result.count ≡ length (values numbers.entry) }
+    {
+        Places {
+            alloc,
+            a: Operand::One(0),
+            b: Operand::Many(numbers),
+            count: numbers.len(),
+        }
+    }
+
+    /// The same places with the first operand on the right and the second one on the left.
+    #[inline(always)]
+    pub(crate) fn swapped(&self) -> Places<'a>
+        ensures a { result.a ≡ self.now.b }
+        ensures b { result.b ≡ self.now.a }
+        ensures count { result.count ≡ self.now.count }
+    {
+        Places {
+            alloc: self.alloc,
+            a: self.b,
+            b: self.a,
+            count: self.count,
+        }
+    }
+
     /// Both operands in a lane; none where it doesn't hold them, nor where each is one number, which serves at each place.
     #[inline(always)]
-    fn in_lane<L: Computed>(self) -> Option<Both<'a, L>>
-        ensures { IfSome result (λ both. (shown_in L.value L.numbers both.a ≡ shown self.entry.a) × (shown_in L.value L.numbers both.b ≡ shown self.entry.b)) }
+    fn in_lane<L: Computed>(&self) -> Option<Both<'a, L>>
+        ensures { IfSome result (λ both. (shown_in L.value L.numbers both.a ≡ shown self.now.a) × (shown_in L.value L.numbers both.b ≡ shown self.now.b)) }
     {
         if self.a.is_one() && self.b.is_one() {
             return None;
@@ -49,10 +79,10 @@ impl<'a> Places<'a> {
     }
 
     /// The values of a function that tells.
-    pub(crate) fn told<F: Tells>(self) -> Result<NumberVec, Stop>
-        requires a { Covers (shown self.a) self.count }
-        requires b { Covers (shown self.b) self.count }
-        ensures { Answers kept_values (values_from F.meaning (shown self.entry.a) (shown self.entry.b) 0 self.entry.count) result }
+    pub(crate) fn told<F: Tells>(&self) -> Result<NumberVec, Stop>
+        requires a { Covers (shown self.now.a) self.now.count }
+        requires b { Covers (shown self.now.b) self.now.count }
+        ensures { Answers kept_values (values_of F.meaning (number_at (shown self.now.a)) (number_at (shown self.now.b)) self.now.count) result }
     {
         let mut made = Vec::with_capacity(self.alloc, self.count)?;
         if let Some(both) = self.in_lane::<i8>() {
@@ -66,10 +96,10 @@ impl<'a> Places<'a> {
     }
 
     /// The values of a function of numbers of 64 bits.
-    pub(crate) fn in_wide<F: InWide>(self) -> Result<NumberVec, Stop>
-        requires a { Covers (shown self.a) self.count }
-        requires b { Covers (shown self.b) self.count }
-        ensures { Answers kept_values (values_from F.meaning (shown self.entry.a) (shown self.entry.b) 0 self.entry.count) result }
+    pub(crate) fn in_wide<F: InWide>(&self) -> Result<NumberVec, Stop>
+        requires a { Covers (shown self.now.a) self.now.count }
+        requires b { Covers (shown self.now.b) self.now.count }
+        ensures { Answers kept_values (values_of F.meaning (number_at (shown self.now.a)) (number_at (shown self.now.b)) self.now.count) result }
     {
         let mut made = Vec::with_capacity(self.alloc, self.count)?;
         if let Some(both) = self.in_lane::<i64>() {
@@ -79,10 +109,10 @@ impl<'a> Places<'a> {
     }
 
     /// The values of a function that is computed in the lanes of its arguments.
-    pub(crate) fn in_lanes<F: InLanes>(self) -> Result<NumberVec, Stop>
-        requires a { Covers (shown self.a) self.count }
-        requires b { Covers (shown self.b) self.count }
-        ensures { Answers kept_values (values_from F.meaning (shown self.entry.a) (shown self.entry.b) 0 self.entry.count) result }
+    pub(crate) fn in_lanes<F: InLanes>(&self) -> Result<NumberVec, Stop>
+        requires a { Covers (shown self.now.a) self.now.count }
+        requires b { Covers (shown self.now.b) self.now.count }
+        ensures { Answers kept_values (values_of F.meaning (number_at (shown self.now.a)) (number_at (shown self.now.b)) self.now.count) result }
     {
         if let Some(both) = self.in_lane::<i8>() {
             return self.from_lane::<F, i8>(&both);
@@ -98,12 +128,12 @@ impl<'a> Places<'a> {
     }
 
     /// The same in a narrow lane, as far as it holds the values, and from there on in the next wider one.
-    fn from_lane<F: InLanes, L: Narrow>(self, both: &Both<'_, L>) -> Result<NumberVec, Stop>
-        requires a { Covers (shown self.a) self.count }
-        requires b { Covers (shown self.b) self.count }
-        requires both_a { shown_in L.value L.numbers both.now.a ≡ shown self.a }
-        requires both_b { shown_in L.value L.numbers both.now.b ≡ shown self.b }
-        ensures { Answers kept_values (values_from F.meaning (shown self.entry.a) (shown self.entry.b) 0 self.entry.count) result }
+    fn from_lane<F: InLanes, L: Narrow>(&self, both: &Both<'_, L>) -> Result<NumberVec, Stop>
+        requires a { Covers (shown self.now.a) self.now.count }
+        requires b { Covers (shown self.now.b) self.now.count }
+        requires both_a { shown_in L.value L.numbers both.now.a ≡ shown self.now.a }
+        requires both_b { shown_in L.value L.numbers both.now.b ≡ shown self.now.b }
+        ensures { Answers kept_values (values_of F.meaning (number_at (shown self.now.a)) (number_at (shown self.now.b)) self.now.count) result }
     {
         let mut made = Vec::with_capacity(self.alloc, self.count)?;
         push_values::<L, L, Within<F>>(&mut made, &both.a, &both.b, self.count)?;
@@ -114,13 +144,17 @@ impl<'a> Places<'a> {
     }
 
     /// The values so far and those for the other places, in the next wider lane.
-    fn go_on<F: InLanes, L: Narrow>(self, both: &Both<'_, L>, made: &[L]) -> Result<NumberVec, Stop>
-        requires a { Covers (shown self.a) self.count }
-        requires b { Covers (shown self.b) self.count }
-        requires both_a { shown_in L.value L.numbers both.now.a ≡ shown self.a }
-        requires both_b { shown_in L.value L.numbers both.now.b ≡ shown self.b }
-        requires begun { IsBegun F.meaning (shown self.a) (shown self.b) self.count (L.numbers made.now) }
-        ensures { Answers kept_values (values_from F.meaning (shown self.entry.a) (shown self.entry.b) 0 self.entry.count) result }
+    fn go_on<F: InLanes, L: Narrow>(
+        &self,
+        both: &Both<'_, L>,
+        made: &[L],
+    ) -> Result<NumberVec, Stop>
+        requires a { Covers (shown self.now.a) self.now.count }
+        requires b { Covers (shown self.now.b) self.now.count }
+        requires both_a { shown_in L.value L.numbers both.now.a ≡ shown self.now.a }
+        requires both_b { shown_in L.value L.numbers both.now.b ≡ shown self.now.b }
+        requires begun { IsBegun F.meaning (number_at (shown self.now.a)) (number_at (shown self.now.b)) self.now.count (L.numbers made.now) }
+        ensures { Answers kept_values (values_of F.meaning (number_at (shown self.now.a)) (number_at (shown self.now.b)) self.now.count) result }
     {
         let mut wide = widened(self.alloc, made, self.count)?;
         push_values::<L, L::Wider, Beyond<F>>(&mut wide, &both.a, &both.b, self.count)?;
@@ -142,9 +176,6 @@ fn widened<L: Narrow>(
 {
     let mut wide = Vec::with_capacity(alloc, count)?;
     grow(&mut wide, numbers.len())?;
-    let room = wide.as_mut_slice();
-    for i in 0..numbers.len() {
-        room[i] = numbers[i].widen();
-    }
+    convert(numbers, wide.as_mut_slice());
     Ok(wide)
 }
