@@ -1,4 +1,4 @@
-use Rattle.std.proofs.Common.{◌≡◌, ℕ, IfOk, length, subst, sym, ◌∙◌}
+use Rattle.std.proofs.Common.{◌≡◌, ℕ, IfOk, subst, sym, ◌∙◌}
 use Rattle.std.specs.List.{All}
 use Rattle.apl_arrays.specs.Left.{listed}
 use Rattle.apl_arrays.specs.Ravels.{items_of}

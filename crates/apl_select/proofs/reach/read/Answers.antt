@@ -1,4 +1,4 @@
-use Rattle.std.proofs.Common.{zero, suc, ◌==◌, Bool, false, subst, ◌≡◌, ℕ, ◌+◌, ◌-◌, ◌<◌, ◌≤◌, ◌∷◌, [], List, IfOk, length, get_or, drop, arith, ap, sym, ◌∙◌, true, ◌*◌}
+use Rattle.std.proofs.Common.{zero, suc, ◌==◌, Bool, false, subst, ◌≡◌, ℕ, ◌+◌, ◌-◌, ◌<◌, ◌≤◌, ◌∷◌, [], List, IfOk, length, get_or, drop, arith, ap, sym, ◌∙◌, ◌*◌}
 use Rattle.std.proofs.lemmas.Bool.{eqb-true}
 use Rattle.std.specs.List.{All}
 use Rattle.apl_select.specs.Indexing.{Places}
