@@ -1,7 +1,7 @@
 use Rattle.std.proofs.Common.{◌≡◌, map, ◌++◌, drop}
 use Rattle.apl_machine_state.specs.Outcomes.{operand_value}
 use Rattle.apl_operands.specs.Operands.{Offers, fetched_from}
-use Rattle.apl_phrases.proofs.phrase.several_slots.Given as goal
+use Rattle.apl_phrases.proofs.lists.several_slots.Given as goal
 
 abbrev pub invariant-loop-source : goal.invariant-loop-source
 invariant-loop-source l = record {
