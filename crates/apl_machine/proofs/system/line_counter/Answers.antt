@@ -3,7 +3,7 @@ use Rattle.std.proofs.lemmas.List.{length-map}
 use Rattle.apl_contexts.specs.Contexts.{lines_in}
 use Rattle.apl_arrays.specs.declared.cell.Cell.TheVariants.{Num}
 use Rattle.apl_machine.proofs.Few.{as_many_lines}
-use Rattle.apl_machine.proofs.change.line_counter.Goals as goal
+use Rattle.apl_machine.proofs.system.line_counter.Goals as goal
 
 pub vector-requires : goal.vector-requires
 vector-requires c =
