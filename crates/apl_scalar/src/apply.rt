@@ -110,7 +110,10 @@ fn monadic_values(alloc: Global, function: Monadic, b: &Array) -> Result<Vec<i64
 {
     let items = b.items();
     match items {
-        Elements::Nums(numbers) => monadic_numbers(alloc, function, numbers),
+        Elements::Nums(numbers) => {
+            let wide = numbers.wide(alloc)?;
+            monadic_numbers(alloc, function, wide.as_slice())
+        }
         Elements::Chars(_) => {
             if items.is_empty() {
                 Ok(Vec::new(alloc))
@@ -185,7 +188,15 @@ fn dyadic_values(
     match a.items() {
         Elements::Nums(x) => match b.items() {
             Elements::Nums(y) => {
-                dyadic_numbers(alloc, function, operand_of(x), operand_of(y), count)
+                let x = x.wide(alloc)?;
+                let y = y.wide(alloc)?;
+                dyadic_numbers(
+                    alloc,
+                    function,
+                    operand_of(x.as_slice()),
+                    operand_of(y.as_slice()),
+                    count,
+                )
             }
             Elements::Chars(_) => mixed(alloc, function, count),
         },
@@ -210,7 +221,7 @@ fn shaped(
     ensures { Answers (λ r. r) (ok_map (numbers_in like.now.shape) (values_in function a.now b.now like.now.shape)) result }
 {
     let numbers = dyadic_values(alloc, function, like, a, b)?;
-    Ok(like.with_ravel(alloc, Ravel::Nums(numbers))?)
+    Ok(like.with_ravel(alloc, Ravel::wide(numbers))?)
 }
 
 /// A scalar function of one array, element by element.
@@ -219,7 +230,7 @@ fn monadic_array(alloc: Global, function: Monadic, b: &Array) -> Result<Array, S
     ensures { Answers (λ r. r) (monadic function b.now) result }
 {
     let numbers = monadic_values(alloc, function, b)?;
-    Ok(b.with_ravel(alloc, Ravel::Nums(numbers))?)
+    Ok(b.with_ravel(alloc, Ravel::wide(numbers))?)
 }
 
 /// A scalar function of one array.
