@@ -5,30 +5,19 @@ ghost use Rattle.apl_machine.specs.inside.Next.{IsNext, next_kind};
 
 use crate::workspace::Workspace;
 use apl_arrays::Origin;
-use apl_code::Action;
 use apl_contexts::Contexts;
 use apl_frames::Stage;
 use apl_names::Names;
-use apl_operands::{Operands, left_of};
+use apl_operands::Operands;
 use apl_phrases::{Phrase, PhraseKind, Scene, phrase_kind};
 
-/// The phrase to which a line comes.
-#[derive(Clone, Copy)]
-pub(crate) struct NextPhrase<'names, 'line> {
-    pub phrase: Phrase<'names, 'line>,
-    /// How many operands are left beneath those that it takes.
-    pub left: usize,
-    /// The column of its place.
-    pub column: usize,
-}
-
-/// The phrase to which the newest line comes. There is none where the line ends, or nothing is left of it.
+/// The next instruction of the newest line, as a phrase. There is none where nothing is left of the line.
 #[inline(always)]
 pub(crate) fn next<'names, 'line>(
     contexts: &'line Contexts,
     names: &'names Names,
     io: Origin,
-) -> Option<NextPhrase<'names, 'line>>
+) -> Option<Phrase<'names, 'line>>
     ensures is { IfSome result (IsNext contexts.now names.now (origin_number io)) }
     ensures none { IfNone result (next_kind contexts.now ≡ None) }
 {
@@ -37,46 +26,35 @@ pub(crate) fn next<'names, 'line>(
         return None;
     }
     let instr = line.next();
-    if let Action::End(_) = instr.action {
-        return None;
-    }
-    let operands = Operands {
-        constants: line.constants(),
-        stack: line.operands(),
-    };
-    let scene = Scene {
-        names,
-        io,
-        standing: contexts.standing(),
-    };
-    Some(NextPhrase {
-        phrase: Phrase {
-            action: &instr.action,
-            sources: instr.arguments.as_slice(),
-            operands,
-            scene,
+    Some(Phrase {
+        instr,
+        sources: instr.arguments.as_slice(),
+        operands: Operands {
+            constants: line.constants(),
+            stack: line.operands(),
         },
-        left: left_of(&instr.arguments, operands.stack),
-        column: instr.at,
+        scene: Scene {
+            names,
+            io,
+            standing: contexts.standing(),
+        },
     })
 }
 
 impl Workspace {
-    /// The phrase to which the newest line comes, if it comes to one.
+    /// The next instruction of the newest line, as a phrase. There is none where nothing is left of the line.
     #[inline(always)]
-    pub(crate) fn next(&self) -> Option<NextPhrase<'_, '_>>
+    pub(crate) fn next(&self) -> Option<Phrase<'_, '_>>
         ensures is { IfSome result (IsNext self.now.contexts self.now.maps self.now.kept.origin) }
         ensures none { IfNone result (next_kind self.now.contexts ≡ None) }
     {
         next(&self.contexts, &self.names, self.io)
     }
 
-    /// The kind of that phrase.
-    #[inline(always)]
+    /// The kind of the phrase to which the newest line comes, if it comes to one.
     pub(crate) fn next_kind(&self) -> Option<PhraseKind>
         ensures { result ≡ next_kind self.now.contexts }
     {
-        let next = self.next()?;
-        phrase_kind(next.phrase.action)
+        phrase_kind(&self.next()?.instr.action)
     }
 }

@@ -7,20 +7,21 @@ ghost use Rattle.apl_machine_state.specs.Watching.{lines_array};
 ghost use Rattle.apl_machine_state.specs.declared.operand.Operand.TheVariants.{Value};
 ghost use Rattle.apl_operands.specs.declared.operands.Given.TheVariants.{New};
 ghost use Rattle.apl_order.specs.Kept.{IsKept};
+ghost use Rattle.apl_phrases.specs.declared.phrase.PhraseKind.{PhraseKind};
+ghost use Rattle.apl_phrases.specs.declared.phrase.PhraseKind.TheVariants as kinds;
 ghost use Rattle.apl_vectors.specs.Vectors.{after_asking, vector_of};
 ghost use Rattle.apl_machine.specs.Changes.{settings_asked, watched};
 ghost use Rattle.apl_machine.specs.Spaces.{IsSound, state_of};
-ghost use Rattle.apl_machine.specs.inside.Next.{GoesTo, HasStepped, next_kind};
+ghost use Rattle.apl_machine.specs.inside.Next.{GoesTo, HasMade, IsOfOthers, next_kind};
 ghost use Rattle.apl_machine.specs.inside.Traces.{AreFew};
 
-use crate::stepping::Pace;
 use crate::traces::lines_array;
 use crate::workspace::Workspace;
 use apl_arrays::{Array, Origin, Ravel};
 use apl_contexts::{Contexts, Move};
 use apl_machine_state::Watch;
 use apl_operands::{Given, last_operand};
-use apl_phrases::{Effect, PhraseKind, effect_of};
+use apl_phrases::{Effect, effect_of};
 use apl_symbols::Name;
 use apl_vectors::Vectors;
 use std::alloc::{AllocError, Global};
@@ -64,39 +65,40 @@ impl Workspace {
         name: &Name,
         lines: Option<Vec<usize>>,
         left: usize,
-    ) -> Result<Pace, AllocError>
+    ) -> Result<bool, AllocError>
         requires asks { GoesTo (New (Value (lines_array (vector_of name.now (watched which self.old.kept))))) left self.old (record self.old { kept = settings_asked which name.now (option_map (λ v. v.items) lines) self.old.kept }) }
         requires new { IfSome lines (λ v. length v.items ≤ 999) }
         requires few { AreFew (vector_of name.now (watched which self.old.kept)) }
-        ensures { HasStepped result self.old self.new }
+        ensures made { HasMade result self.old self.new }
+        ensures other { (kind : PhraseKind) → IsOfOthers kind result self.old }
     {
         match which {
             Watch::Stop => {
                 let vector = asked(self.alloc, &mut self.stops, name, lines)?;
                 self.contexts.give(left, vector);
-                Ok(Pace::Goes)
+                Ok(true)
             }
             Watch::Trace => {
                 let vector = asked(self.alloc, &mut self.traces, name, lines)?;
                 self.contexts.give(left, vector);
-                Ok(Pace::Goes)
+                Ok(true)
             }
         }
     }
 
     /// The step of a phrase with a system name, other than `V`.
     #[inline(never)]
-    pub(crate) fn system_in_place(&mut self) -> Result<Pace, AllocError>
+    pub(crate) fn system_in_place(&mut self) -> Result<bool, AllocError>
         requires sound { IsSound self.old }
         requires kept { IsKept (state_of self.old) }
-        requires comes { next_kind self.old.contexts ≡ Some PhraseKind.Systems }
-        ensures { HasStepped result self.old self.new }
+        requires comes { next_kind self.old.contexts ≡ Some kinds.Systems }
+        ensures made { HasMade result self.old self.new }
+        ensures other { (kind : PhraseKind) → IsOfOthers kind result self.old }
     {
-        let Some(next) = self.next() else {
+        let Some(phrase) = self.next() else {
             unreachable!()
         };
-        let phrase = next.phrase;
-        let (left, column) = (next.left, next.column);
+        let (left, column) = (phrase.left(), phrase.instr.at);
         let effect = match effect_of(self.alloc, phrase) {
             Ok(effect) => effect,
             Err(stop) => return self.fail_by(stop, column),
@@ -104,12 +106,12 @@ impl Workspace {
         match effect {
             Effect::Gives(array) => {
                 self.give(left, array);
-                Ok(Pace::Goes)
+                Ok(true)
             }
             Effect::GivesLineNumbers => {
                 let numbers = line_counter(self.alloc, &self.contexts)?;
                 self.give(left, numbers);
-                Ok(Pace::Goes)
+                Ok(true)
             }
             Effect::Asks(which, name, lines) => self.ask(which, &name, lines, left),
             Effect::Assigns(name, array) => {
@@ -119,7 +121,7 @@ impl Workspace {
             Effect::SetsOrigin(origin) => {
                 let (given, left) = last_operand(phrase.sources, phrase.operands)?;
                 self.set_origin(origin, given, left);
-                Ok(Pace::Goes)
+                Ok(true)
             }
         }
     }

@@ -1,5 +1,5 @@
 -- What the primitives answer of a phrase is what it gives.
-use Rattle.std.proofs.Common.{◌≡◌, ℤ, List, Option, Some, Result, Ok, Err, refl, sym, ap, ◌∙◌}
+use Rattle.std.proofs.Common.{◌≡◌, ℤ, List, Option, Result, Ok, Err, refl, sym, ap, ◌∙◌}
 use Rattle.apl_arrays.specs.Answers.{Answers}
 use Rattle.apl_arrays.specs.Cells.{Arr}
 use Rattle.apl_arrays.specs.declared.stop.Stop.{Stop}
@@ -20,7 +20,7 @@ use Rattle.apl_machine_state.specs.Environment.{Scene, index_origin}
 use Rattle.apl_machine_state.specs.Outcomes.{Outcome, dyadic, monadic, of_result, outcome, taken_of}
 use Rattle.apl_phrases.specs.declared.phrase.PhraseKind.TheVariants.{Gives}
 use Rattle.apl_phrases.specs.Effects.{Gives as GivesIt, acted}
-use Rattle.apl_phrases.specs.Kinds.{phrase_kind, row_kind}
+use Rattle.apl_phrases.specs.Kinds.{row_kind}
 
 monadic_value : (s : Scene) (f : Primitive) (t : Taken) → row_kind (rows.Monadic (functions.Primitive f)) ≡ Gives → monadic s (functions.Primitive f) t ≡ of_result (phrase_value (rows.Monadic (functions.Primitive f)) t (index_origin s))
 monadic_value s Execute t h = cc
@@ -56,8 +56,7 @@ answered (Err (stops.Fault f)) defined o h e = e ∙ ap of_result h
 answered (Err stops.Memory) defined o h e = tt
 
 -- as it is called
-pub row_gives : (answer : Result Arr Stop) (s : List ℤ → Scene) (act : Action) (r : Row) (os : List (Option Operand)) (t : Taken) → act ≡ actions.Phrase r → phrase_kind act ≡ Some Gives → t ≡ taken_of os → ((ns : List ℤ) → Answers (λ z. z) (phrase_value r t (index_origin (s ns))) answer) → (ns : List ℤ) → GivesIt answer (acted (s ns) act os)
-row_gives answer s act r os t is h same answers ns =
-    let kind : row_kind r ≡ Gives = cc in
+pub row_gives : (answer : Result Arr Stop) (s : List ℤ → Scene) (act : Action) (r : Row) (os : List (Option Operand)) (t : Taken) → act ≡ actions.Phrase r → row_kind r ≡ Gives → t ≡ taken_of os → ((ns : List ℤ) → Answers (λ z. z) (phrase_value r t (index_origin (s ns))) answer) → (ns : List ℤ) → GivesIt answer (acted (s ns) act os)
+row_gives answer s act r os t is kind same answers ns =
     answered answer (phrase_value r t (index_origin (s ns))) (acted (s ns) act os) (answers ns)
     (ap (λ x. acted (s ns) x os) is ∙ row_value (s ns) r os kind ∙ ap (λ u. of_result (phrase_value r u (index_origin (s ns)))) (sym same))

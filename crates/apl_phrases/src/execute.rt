@@ -1,10 +1,10 @@
 //! `⍎`, a text that is executed.
-ghost use Rattle.std.specs.Prelude.{◌≡◌, Some, option_copied};
+ghost use Rattle.std.specs.Prelude.{◌≡◌, IfSome, option_copied};
 ghost use Rattle.apl_machine_state.specs.Outcomes.{execute, text_in};
 ghost use Rattle.apl_operands.specs.Operands.{Offers};
 ghost use Rattle.apl_phrases.specs.Effects.{outcome_of};
 ghost use Rattle.apl_phrases.specs.Executing.{ExecutesAs};
-ghost use Rattle.apl_phrases.specs.Kinds.{phrase_kind};
+ghost use Rattle.apl_phrases.specs.Kinds.{IsForKind};
 ghost use Rattle.apl_phrases.specs.declared.phrase.PhraseKind.TheVariants.{Executes};
 
 use crate::phrase::Phrase;
@@ -40,18 +40,18 @@ fn list_text(b: &Array) -> Result<&[Ch], Fault>
     }
 }
 
-/// The text that `⍎ B` executes, or the fault of the phrase.
-#[inline(always)]
-pub fn executed<'line>(phrase: Phrase<'_, 'line>) -> Result<&'line [Ch], Fault>
-    requires there { Offers phrase.operands phrase.sources.now }
-    requires kind { phrase_kind phrase.action.now ≡ Some Executes }
-    ensures { ExecutesAs (outcome_of phrase.entry) result }
+/// The text that `⍎ B` executes, or the fault of the phrase. A phrase of another kind has none.
+pub fn executed<'line>(phrase: Phrase<'_, 'line>) -> Option<Result<&'line [Ch], Fault>>
+    requires { Offers phrase.operands phrase.sources.now }
+    ensures is { IfSome result (ExecutesAs (outcome_of phrase.entry)) }
+    ensures kind { IsForKind Executes phrase.entry result }
 {
-    let Action::Phrase(Row::Monadic(Function::Primitive(Primitive::Execute))) = phrase.action else {
-        unreachable!()
+    let Action::Phrase(Row::Monadic(Function::Primitive(Primitive::Execute))) = &phrase.instr.action
+    else {
+        return None;
     };
     match arguments(phrase.sources, phrase.operands) {
-        Arguments::One(b) => list_text(b),
-        _ => Err(Fault::Syntax),
+        Arguments::One(b) => Some(list_text(b)),
+        _ => Some(Err(Fault::Syntax)),
     }
 }

@@ -24,7 +24,7 @@ pub use effect::Effect;
 pub use execute::executed;
 pub use frequent::{NumberAssigned, number_assigned, number_given, number_kept};
 pub use lines::said;
-pub use lists::{slot_given, slots_given};
+pub use lists::{makes_list, slot_given, slots_given};
 pub use passing::written;
 pub use phrase::{Phrase, PhraseKind, phrase_kind};
 pub use scene::{Scene, origin_name};

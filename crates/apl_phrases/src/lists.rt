@@ -1,5 +1,5 @@
 //! Index lists.
-ghost use Rattle.std.specs.Prelude.{◌≡◌, IfNone, IfOk, IfSome, map, ℤ, List, [], ◌∷◌, Option, Some};
+ghost use Rattle.std.specs.Prelude.{◌≡◌, IfNone, IfOk, IfSome, false, map, true, ℤ, List, [], ◌∷◌, Option, Some};
 ghost use Rattle.apl_arrays.specs.declared.cell.Cell.TheVariants.{Num};
 ghost use Rattle.apl_arrays.specs.Simple.{single};
 ghost use Rattle.apl_code.specs.declared.instr.Source.{Source};
@@ -11,7 +11,7 @@ ghost use Rattle.apl_phrases.specs.declared.phrase.PhraseKind.TheVariants.{Lists
 
 use crate::phrase::Phrase;
 use apl_arrays::Array;
-use apl_code::Source;
+use apl_code::{Action, Row, Source};
 use apl_machine_state::Slots;
 use apl_operands::{Held, Operands, fetch, one_value};
 use std::alloc::{AllocError, Global};
@@ -71,10 +71,19 @@ fn slots(
     Ok(Slots::new(slots))
 }
 
+/// Whether an instruction makes an index list.
+#[inline(always)]
+pub fn makes_list(action: &Action) -> bool
+    ensures yes { result ≡ true → phrase_kind action.now ≡ Some Lists }
+    ensures no { result ≡ false → ¬ (phrase_kind action.now ≡ Some Lists) }
+{
+    matches!(action, Action::Box | Action::Phrase(Row::Index(_)))
+}
+
 /// The slots of the index list that a phrase makes.
 pub fn slots_given(alloc: Global, phrase: Phrase<'_, '_>) -> Result<Slots, AllocError>
     requires there { Offers phrase.operands phrase.sources.now }
-    requires kind { phrase_kind phrase.action.now ≡ Some Lists }
+    requires kind { phrase_kind phrase.instr.now.action ≡ Some Lists }
     ensures { IfOk result (MakesSlots (outcome_of phrase.entry)) }
 {
     let slots = slots(alloc, phrase.sources, phrase.operands)?;
@@ -98,7 +107,7 @@ fn lone_number(sources: &[Option<Source>], operands: Operands<'_>) -> Option<i64
 #[inline(always)]
 pub fn slot_given(phrase: Phrase<'_, '_>) -> Option<i64>
     requires there { Offers phrase.operands phrase.sources.now }
-    requires kind { phrase_kind phrase.action.now ≡ Some Lists }
+    requires kind { phrase_kind phrase.instr.now.action ≡ Some Lists }
     ensures is { IfSome result (λ z. MakesSlots (outcome_of phrase.entry) (Some (single (Num z)) ∷ [])) }
     ensures none { IfNone result ((z : ℤ) → ¬ MakesSlots (outcome_of phrase.entry) (Some (single (Num z)) ∷ [])) }
 {

@@ -27,10 +27,10 @@ fn shown(alloc: Global, b: &Array) -> Result<Vec<OutLine>, AllocError>
 /// The lines that a phrase writes which passes the value on that it takes, or its fault: `( B )` writes none, and `⎕ ← B` those that show the value.
 pub fn written(alloc: Global, phrase: Phrase<'_, '_>) -> Result<Vec<OutLine>, Stop>
     requires there { Offers phrase.operands phrase.sources.now }
-    requires kind { phrase_kind phrase.action.now ≡ Some Passes }
+    requires kind { phrase_kind phrase.instr.now.action ≡ Some Passes }
     ensures { PassesWriting (outcome_of phrase.entry) (last_of phrase.entry) result }
 {
-    let Action::Phrase(row) = phrase.action else {
+    let Action::Phrase(row) = &phrase.instr.action else {
         unreachable!()
     };
     let Arguments::One(b) = arguments(phrase.sources, phrase.operands) else {

@@ -1,23 +1,37 @@
 //! Phrases, and their kinds.
-ghost use Rattle.std.specs.Prelude.{◌≡◌};
+ghost use Rattle.std.specs.Prelude.{◌≡◌, ◌≤◌, length, reverse, take};
+ghost use Rattle.apl_operands.specs.Operands.{unfetched};
 ghost use Rattle.apl_phrases.specs.Kinds.{kind_applying, kind_with, phrase_kind, row_kind};
 
 use crate::scene::Scene;
-use apl_code::{Action, Function, Row, Source, Variable};
-use apl_operands::Operands;
+use apl_code::{Action, Function, Instr, Row, Source, Variable};
+use apl_operands::{Operands, left_of};
 use apl_symbols::Primitive;
 
-/// A phrase: what its instruction does, where it takes its operands from, and what it sees beside them.
+/// A phrase to which a line comes.
 #[derive(Clone, Copy)]
 pub struct Phrase<'names, 'line> {
-    pub action: &'line Action,
+    pub instr: &'line Instr,
+    /// Where it takes its operands from.
     pub sources: &'line [Option<Source>],
     pub operands: Operands<'line>,
+    /// What it sees beside them.
     pub scene: Scene<'names>,
 }
 
+impl<'names, 'line> Phrase<'names, 'line> {
+    /// How many operands are left beneath those that it takes.
+    #[inline(always)]
+    pub fn left(self) -> usize
+        ensures within { result ≤ length self.entry.operands.stack.now }
+        ensures beneath { unfetched self.entry.instr.now.arguments (reverse self.entry.operands.stack.now) ≡ reverse (take result self.entry.operands.stack.now) }
+    {
+        left_of(&self.instr.arguments, self.operands.stack)
+    }
+}
+
 /// The kinds of phrases, by what makes their steps.
-#[derive(Clone, Copy)]
+#[derive(Clone, Copy, PartialEq, Eq)]
 pub enum PhraseKind {
     /// `V`
     Reads,

@@ -104,10 +104,10 @@ fn dyadic(
 /// What a phrase with a system name does, other than `V`, or its fault.
 pub fn effect_of(alloc: Global, phrase: Phrase<'_, '_>) -> Result<Effect, Stop>
     requires there { Offers phrase.operands phrase.sources.now }
-    requires kind { phrase_kind phrase.action.now ≡ Some Systems }
+    requires kind { phrase_kind phrase.instr.now.action ≡ Some Systems }
     ensures { Does phrase.entry.scene (last_of phrase.entry) (outcome_of phrase.entry) result }
 {
-    let Action::Phrase(row) = phrase.action else {
+    let Action::Phrase(row) = &phrase.instr.action else {
         unreachable!()
     };
     let scene = phrase.scene;
@@ -117,7 +117,9 @@ pub fn effect_of(alloc: Global, phrase: Phrase<'_, '_>) -> Result<Effect, Stop>
         Row::Monadic(Function::System(system)) => monadic(alloc, scene, *system, arguments),
         Row::Dyadic(Function::System(system)) => dyadic(alloc, scene, *system, arguments),
         Row::Assign(Variable::System(system)) => assign(scene, *system, arguments),
-        Row::AssignIndexed(Variable::System(system)) => assign_indexed(alloc, scene, *system, arguments),
+        Row::AssignIndexed(Variable::System(system)) => assign_indexed(
+            alloc, scene, *system, arguments,
+        ),
         _ => unreachable!(),
     }
 }

@@ -11,12 +11,12 @@ pub returns-clause-is : goal.returns-clause-is
 returns-clause-is c =
     let os = fetched_from c.args.phrase.operands c.args.phrase.sources.now in
     if_some_weaker c.lone_number.result _ _
-    (λ z alone s. makes_list s c.args.phrase.action.now os c.requires.kind ∙ ap Makes (one_slot os (single (Num z)) alone))
+    (λ z alone s. makes_list s c.args.phrase.instr.now.action os c.requires.kind ∙ ap Makes (one_slot os (single (Num z)) alone))
     c.lone_number.ensures.is
 
 pub returns-clause-none : goal.returns-clause-none
 returns-clause-none c =
     let os = fetched_from c.args.phrase.operands c.args.phrase.sources.now in
     if_none_weaker c.lone_number.result _ _
-    (λ none z made. none z (alone_in_list os (single (Num z)) (same_slots _ (Some (single (Num z)) ∷ []) (sym (makes_list anywhere c.args.phrase.action.now os c.requires.kind) ∙ made anywhere))))
+    (λ none z made. none z (alone_in_list os (single (Num z)) (same_slots _ (Some (single (Num z)) ∷ []) (sym (makes_list anywhere c.args.phrase.instr.now.action os c.requires.kind) ∙ made anywhere))))
     c.lone_number.ensures.none

@@ -9,10 +9,10 @@ pub returns-in-Group : goal.returns-in-Group
 returns-in-Group c =
     let os = fetched_from c.args.phrase.operands c.args.phrase.sources.now in
     let takes : One c.in-One.b.now ≡ taken_of os = search rules in
-    group_passes c.args.phrase.action.now c.in-Phrase.row os c.in-One.b.now c.new.result c.in-Phrase.is c.in-Group.is takes c.new.ensures.items
+    group_passes c.args.phrase.instr.now.action c.in-Phrase.row os c.in-One.b.now c.new.result c.in-Phrase.is c.in-Group.is takes c.new.ensures.items
 
 pub returns-in_ok-shown-in-Show : goal.returns-in_ok-shown-in-Show
 returns-in_ok-shown-in-Show c =
     let os = fetched_from c.args.phrase.operands c.args.phrase.sources.now in
     let takes : One c.in-One.b.now ≡ taken_of os = search rules in
-    show_passes c.args.phrase.action.now c.in-Phrase.row os c.in-One.b.now c.in_ok-shown-in-Show.field-0 c.in-Phrase.is c.in-Show.is takes c.in_ok-shown-in-Show.ensures
+    show_passes c.args.phrase.instr.now.action c.in-Phrase.row os c.in-One.b.now c.in_ok-shown-in-Show.field-0 c.in-Phrase.is c.in-Show.is takes c.in_ok-shown-in-Show.ensures
