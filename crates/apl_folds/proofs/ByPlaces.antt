@@ -118,6 +118,10 @@ before_step zs axis p q h u d e later =
         one : (k : ℕ) → 0 < k → k - 1 + 1 ≡ k
         one k h = omega arith
 
+-- so the fold of those before a place is the prefix a step back
+pub prefix_before : (f : ℤ → ℤ → Result ℤ Fault) (zs : List ℤ) (axis : Axis) (p q : ℕ) → 0 < axis.length → 0 < axis.up → axis.down ≡ 0 → q ≡ p + axis.up → 0 < index_along axis q → prefix_fold f zs axis p ≡ fold_by f (before zs axis q)
+prefix_before f zs axis p q h u d e later = ap (fold_by f) (sym (one_longer zs axis p d) ∙ before_step zs axis p q h u d e later)
+
 -- before the first of a line there is none
 pub before_first : (zs : List ℤ) (axis : Axis) (q : ℕ) → index_along axis q ≡ 0 → [] ≡ before zs axis q
 before_first zs axis q e = ap (λ (k : ℕ). line_of (pos 0) zs axis (q - index_along axis q * axis.up) k) (sym e)

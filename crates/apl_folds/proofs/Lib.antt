@@ -17,3 +17,7 @@ pub mod Faults
 pub mod ByPlaces
 pub mod Whole
 pub mod Vectors
+pub mod OfLanes
+pub mod OrOfLanes
+pub mod InRooms
+pub mod Runs

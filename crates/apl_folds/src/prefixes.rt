@@ -175,7 +175,7 @@ fn prefix<F: Scalar>(numbers: &[i64], axis: Axis, at: usize) -> Result<i64, Faul
     ensures { result ≡ prefix_fold F.meaning numbers.now axis at }
 {
     let index = at / axis.up % axis.length;
-    fold_strided::<F>(numbers, &axis, at - index * axis.up, index + 1)
+    fold_strided::<F, i64>(numbers, &axis, at - index * axis.up, index + 1)
 }
 
 /// Folds each prefix behind so many anew, up to the first fault.

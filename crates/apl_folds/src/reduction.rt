@@ -1,32 +1,34 @@
 // Reduction along an axis.
-ghost use Rattle.std.specs.Prelude.{◌≡◌, ◌≢◌, ◌<◌, ◌≤◌, [], ◌∷◌, length, IfOk, IfSome, Ok};
+ghost use Rattle.std.specs.Prelude.{◌≡◌, ◌≢◌, ◌<◌, ◌≤◌, [], ◌∷◌, ◌+◌, length, map, slice_range, IfSome, Ok};
 ghost use Rattle.apl_arrays.specs.Answers.{Answers, FaultsFirst};
 ghost use Rattle.apl_arrays.specs.Along.{axis_along};
 ghost use Rattle.apl_arrays.specs.Cells.{cells_of};
+ghost use Rattle.apl_arrays.specs.declared.cell.Cell.TheVariants.{Num};
 ghost use Rattle.apl_arrays.specs.Index.{bound_of, size_of};
 ghost use Rattle.apl_arrays.specs.Left.{listed};
+ghost use Rattle.apl_arrays.specs.Numbers.{values};
 ghost use Rattle.apl_arrays.specs.Origins.{origin_number};
 ghost use Rattle.apl_arrays.specs.Ravels.{items_of};
 ghost use Rattle.apl_arrays.specs.Results.{ok_map};
 ghost use Rattle.apl_arrays.specs.Strides.{IsView};
 ghost use Rattle.apl_arrays.specs.Views.{length_of};
 ghost use Rattle.apl_scalar.specs.Extension.{numbers_in};
-ghost use Rattle.apl_folds.specs.Folds.{folds_along, folds_shaped, squeezed, reduced_along, reduction};
+ghost use Rattle.apl_folds.specs.Folds.{folded, folds_along, folds_shaped, squeezed, reduced_along, reduction};
 ghost use Rattle.apl_folds.specs.Lines.{shown_by};
 
 use crate::fold::fold_numbers;
-use crate::line::row;
+use crate::lanes::row;
 use crate::lines::{Lines, folds_of_characters, folds_of_none, folds_of_numbers};
 use crate::order::in_order;
 use crate::walk::Start;
 use apl_arrays::{
-    Along, Array, Cells, Elements, MAX_ELEMENTS, MAX_RANK, Origin, Ravel, Stop, Strided, View,
-    copy_axes, size,
+    Along, Array, Cells, Elements, MAX_ELEMENTS, MAX_RANK, NumberSlice, Origin, Ravel, Stop,
+    Strided, View, copy_axes, size,
 };
 use apl_faults::Fault;
 use apl_scalar::Dyadic;
 use arrayvec::ArrayVec;
-use std::alloc::{AllocError, Global};
+use std::alloc::Global;
 
 /// The folds along an axis, not of length 1, in the order of the index lists of the other axes, with room for so many.
 pub(crate) fn folds(
@@ -59,10 +61,7 @@ pub(crate) fn folds(
         return folds_of_none(alloc, function, &lines);
     }
     match strided.items {
-        Elements::Nums(numbers) => {
-            let wide = numbers.wide(alloc)?;
-            folds_of_numbers(alloc, function, wide.as_slice(), &lines)
-        }
+        Elements::Nums(numbers) => folds_of_numbers(alloc, function, numbers, &lines),
         Elements::Chars(characters) => folds_of_characters(alloc, function, characters, &lines),
     }
 }
@@ -95,29 +94,41 @@ fn squeeze(alloc: Global, axis: usize, view: &View<'_>) -> Result<Array, Stop>
     )
 }
 
-/// The fold of a vector of numbers that lie side by side, which is the whole of a reduction and takes no memory.
-fn vector_fold(
-    alloc: Global,
+/// The fold of so many numbers from a place on.
+fn piece_fold(
     function: Dyadic,
-    strided: &Strided<'_>,
-) -> Result<Option<Result<i64, Fault>>, AllocError>
+    numbers: NumberSlice<'_>,
+    at: usize,
+    count: usize,
+) -> Result<i64, Fault>
+    requires { at + count ≤ length (values numbers) }
+    ensures { result ≡ folded function (map Num (slice_range (values numbers.entry) at (at + count))) }
+{
+    match numbers {
+        NumberSlice::I8(numbers) => fold_numbers(function, row(numbers, at, count)),
+        NumberSlice::I32(numbers) => fold_numbers(function, row(numbers, at, count)),
+        NumberSlice::I64(numbers) => fold_numbers(function, row(numbers, at, count)),
+    }
+}
+
+/// The fold of a vector of numbers that lie side by side, which is the whole of a reduction and takes no memory.
+fn vector_fold(function: Dyadic, strided: &Strided<'_>) -> Option<Result<i64, Fault>>
     requires { IsView (listed strided.now.items) strided.now.offset strided.now.axes.now }
-    ensures vector { IfOk result (λ found. IfSome found (λ fold. length strided.now.axes.now ≡ 1)) }
-    ensures value { IfOk result (λ found. IfSome found (λ fold. folds_along function 0 (shown_by strided.now) ≡ ok_map (λ z. z ∷ []) fold)) }
+    ensures vector { IfSome result (λ fold. length strided.now.axes.now ≡ 1) }
+    ensures value { IfSome result (λ fold. folds_along function 0 (shown_by strided.now) ≡ ok_map (λ z. z ∷ []) fold) }
 {
     match strided.axes {
         [axis] => match strided.items {
             Elements::Nums(numbers) => {
                 if axis.length == 0 || axis.up != 1 || axis.down != 0 {
-                    return Ok(None);
+                    return None;
                 }
-                let wide = numbers.wide(alloc)?;
-                let piece = row(wide.as_slice(), strided.offset, axis.length);
-                Ok(Some(fold_numbers(function, piece)))
+                let fold = piece_fold(function, numbers, strided.offset, axis.length);
+                Some(fold)
             }
-            Elements::Chars(_) => Ok(None),
+            Elements::Chars(_) => None,
         },
-        _ => Ok(None),
+        _ => None,
     }
 }
 
@@ -151,7 +162,7 @@ fn fold_axis(alloc: Global, function: Dyadic, axis: usize, view: &View<'_>) -> R
     ensures { Answers (λ r. r) (folds_shaped function axis view.now) result }
 {
     let strided = view.strided();
-    match vector_fold(alloc, function, &strided)? {
+    match vector_fold(function, &strided) {
         Some(fold) => single(fold),
         None => fold_lines(alloc, function, axis, view),
     }

@@ -2,7 +2,7 @@ use Rattle.std.proofs.Common.{◌≡◌, ◌<◌, length, drop, Ok}
 use Rattle.apl_scalar.specs.declared.function.Dyadic.TheVariants as two
 use Rattle.apl_scalar.specs.Functions.{dyadic_of}
 use Rattle.apl_folds.specs.Lines.{fold_by}
-use Rattle.apl_folds.proofs.sums.sum_row.Given as goal
+use Rattle.apl_folds.proofs.sums.sum_blocks.Given as goal
 
 -- what was summed so far is the fold of the last numbers
 abbrev pub invariant-loop-left : goal.invariant-loop-left
