@@ -1,9 +1,8 @@
 -- Lists of numbers in a type that stores them.
-use Rattle.std.proofs.Common.{◌≡◌, ℕ, ◌+◌, ◌<◌, ◌≤◌, ℤ, pos, negsuc, ◌≤ℤ◌, List, [], ◌∷◌, ◌++◌, map, length, take, get_or, set, FitsSigned, to_z, of_z, w64, sym, ◌∙◌, ap, subst, arith, add-one}
+use Rattle.std.proofs.Common.{◌≡◌, ℕ, ◌+◌, ◌<◌, ◌≤◌, ℤ, pos, ◌≤ℤ◌, List, [], ◌∷◌, ◌++◌, map, length, take, get_or, set, FitsSigned, to_z, of_z, w64, sym, ◌∙◌, ap, subst, arith, add-one}
 use Rattle.std.specs.Int.{Width, int_max, int_min}
 use Rattle.std.specs.List.{All, Contains}
 use Rattle.std.proofs.lemmas.Int.{ints, clamps, to_z-of_z}
-use Rattle.std.proofs.lemmas.Grind.{common_steps}
 use Rattle.std.proofs.lemmas.List.{map-set, map_more, map-append, length-map, get_or-map, take_all, take_more_set}
 use Rattle.std.proofs.lemmas.List.Elements.{All-push, All-weaker}
 use Rattle.apl_arrays.specs.Written.{serving, with_items}

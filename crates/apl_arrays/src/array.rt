@@ -143,7 +143,7 @@ impl Array {
                 let _code = character.code();
                 Elements::Chars(std::slice::from_ref(character))
             }
-            Kept::Empty => Elements::Nums(NumberSlice::I64(&[])),
+            Kept::Empty => Elements::Nums(NumberSlice::I8(&[])),
             Kept::Dense(dense) => Elements::new(dense.ravel()),
         }
     }

@@ -45,7 +45,7 @@ impl<'a, L: Lane> Typed<'a, L> {
     }
 }
 
-/// Numbers of one list, in the type that stores them, but a single one in the narrowest type that holds it.
+/// Numbers of one list, in the type that stores them, but at most one in the narrowest type that holds it.
 #[derive(Drop)]
 pub(crate) enum Own<'a> {
     I8(Typed<'a, i8>),
@@ -57,6 +57,9 @@ impl<'a> Own<'a> {
     fn new(numbers: NumberSlice<'a>) -> Own<'a>
         ensures { own_values result ≡ values numbers.entry }
     {
+        if numbers.is_empty() {
+            return Own::I8(Typed::Lies(&[]));
+        }
         if let Some(number) = numbers.only() {
             return Own::one(number);
         }
@@ -81,7 +84,7 @@ impl<'a> Own<'a> {
     }
 }
 
-/// Numbers of two lists, both in the wider type of the two. That of a single number is the narrowest one that holds it.
+/// Numbers of two lists, both in the wider type of the two. That of at most one number is the narrowest one that holds it.
 #[derive(Drop)]
 pub enum Both<'a> {
     I8(Typed<'a, i8>, Typed<'a, i8>),

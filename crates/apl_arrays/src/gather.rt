@@ -1,10 +1,9 @@
 // Elements read by steps, in the order of their index lists.
-ghost use Rattle.std.specs.Prelude.{◌≡◌, ℕ, ◌+◌, ◌*◌, ◌<◌, ◌≤◌, ◌^◌, ◌∷◌, ◌++◌, length, pos, replicate, IfOk, IsTrue, OnOk};
+ghost use Rattle.std.specs.Prelude.{◌≡◌, ℕ, ◌+◌, ◌*◌, ◌<◌, ◌≤◌, ◌^◌, ◌∷◌, ◌++◌, length, replicate, IfOk, IsTrue, OnOk};
 ghost use Rattle.std.specs.List.{range_with_len};
 ghost use Rattle.apl_arrays.specs.Index.{indices};
 ghost use Rattle.apl_arrays.specs.Cells.{cells_of};
 ghost use Rattle.apl_arrays.specs.Left.{listed};
-ghost use Rattle.apl_arrays.specs.Numbers.{kept_values, values};
 ghost use Rattle.apl_arrays.specs.Ravels.{items_of};
 ghost use Rattle.apl_arrays.specs.Strides.{lengths, place_at, reach_of, seen, step_at, AllPlaced};
 ghost use Rattle.apl_arrays.specs.Views.{all_at};
@@ -13,8 +12,28 @@ ghost use Rattle.apl_arrays.specs.inside.Rows.{four_from, line_from, AreRowsTo};
 use crate::axis::{Axis, along};
 use crate::cell::Ravel;
 use crate::elements::Elements;
-use crate::numbers::{NumberSlice, NumberVec};
+use crate::structural::Structural;
 use std::alloc::{AllocError, Global};
+
+/// Reads elements by steps, in the order of their index lists, with room for so many.
+#[derive(Clone, Copy)]
+struct Steps<'a> {
+    room: usize,
+    at: usize,
+    axes: &'a [Axis],
+}
+
+impl<'a> Structural for Steps<'a> {
+    ghost takes = { λ s n. AllPlaced n s.at s.axes.now × (reach_of s.at s.axes.now < 2 ^ 63) };
+
+    ghost makes = { λ A s d fill xs. all_at xs (place_at s.at s.axes.now) (indices (lengths s.axes.now)) d };
+
+    fn make<T: Copy>(self, alloc: Global, items: &[T], _fill: T) -> Result<Vec<T>, AllocError> {
+        let mut out = Vec::with_capacity(alloc, self.room)?;
+        gather(items, self.at, self.axes, &mut out)?;
+        Ok(out)
+    }
+}
 
 /// The elements at all index lists, with room for so many.
 pub(crate) fn gathered(
@@ -28,46 +47,7 @@ pub(crate) fn gathered(
     requires near { reach_of at axes.now < 2 ^ 63 }
     ensures { IfOk result (λ r. items_of r ≡ seen (listed items.entry) at axes.now) }
 {
-    match items {
-        Elements::Nums(raw) => Ok(Ravel::Nums(gather_numbers(alloc, room, raw, at, axes)?)),
-        Elements::Chars(raw) => Ok(Ravel::Chars(gather_all(alloc, room, raw, at, axes)?)),
-    }
-}
-
-/// The numbers at all index lists, in the type that stores them.
-fn gather_numbers(
-    alloc: Global,
-    room: usize,
-    numbers: NumberSlice<'_>,
-    at: usize,
-    axes: &[Axis],
-) -> Result<NumberVec, AllocError>
-    requires placed { AllPlaced (length (values numbers)) at axes.now }
-    requires near { reach_of at axes.now < 2 ^ 63 }
-    ensures { IfOk result (λ kept. kept_values kept ≡ all_at (values numbers.entry) (place_at at axes.now) (indices (lengths axes.now)) (pos 0)) }
-{
-    match numbers {
-        NumberSlice::I8(raw) => Ok(NumberVec::I8(gather_all(alloc, room, raw, at, axes)?)),
-        NumberSlice::I32(raw) => Ok(NumberVec::I32(gather_all(alloc, room, raw, at, axes)?)),
-        NumberSlice::I64(raw) => Ok(NumberVec::I64(gather_all(alloc, room, raw, at, axes)?)),
-    }
-}
-
-/// The elements of a slice at all index lists, with room for so many.
-fn gather_all<T: Copy>(
-    alloc: Global,
-    room: usize,
-    raw: &[T],
-    at: usize,
-    axes: &[Axis],
-) -> Result<Vec<T>, AllocError>
-    requires placed { AllPlaced (length raw.now) at axes.now }
-    requires near { reach_of at axes.now < 2 ^ 63 }
-    ensures { IfOk result (λ v. (d : T) → v.items ≡ all_at raw.now (place_at at axes.now) (indices (lengths axes.now)) d) }
-{
-    let mut out = Vec::with_capacity(alloc, room)?;
-    gather(raw, at, axes, &mut out)?;
-    Ok(out)
+    items.made_by(alloc, Steps { room, at, axes })
 }
 
 /// Appends the elements at all index lists. The last axis has a loop of its own.

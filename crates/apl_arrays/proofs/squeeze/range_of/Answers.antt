@@ -1,4 +1,4 @@
-use Rattle.std.proofs.Common.{◌≡◌, length, get_or, ap, ◌∙◌, rules, arith}
+use Rattle.std.proofs.Common.{ap, ◌∙◌}
 use Rattle.std.specs.Int.{int_max, int_min}
 use Rattle.apl_arrays.proofs.Lanes.{range_more, range_all}
 use Rattle.apl_arrays.proofs.squeeze.range_of.Goals as goal
