@@ -1,13 +1,13 @@
 // A scalar function at each place, block by block, as far as its values fit a lane.
 ghost use Rattle.std.specs.Prelude.{◌≡◌, ◌≤◌, ◌<◌, ◌+◌, ℕ, ℤ, Result, length, min, IsTrue, IsFalse, IfOk, OnOk};
 ghost use Rattle.apl_faults.specs.declared.fault.Fault.{Fault};
-ghost use Rattle.apl_scalar.specs.Operands.{number_at, AreValues, Covers};
+ghost use Rattle.apl_scalar.specs.Operands.{number_at, shown, AreValues, Covers};
 ghost use Rattle.apl_scalar.specs.Lanes.{shown_in, AddsValues, IsBegun, SomeHasNoneIn};
 ghost use Rattle.apl_scalar.specs.inside.Rooms.{Holds, IsReady};
 
 use crate::computed::Computed;
 use crate::line::{Each, Line, Same};
-use crate::operand::Source;
+use crate::operand::{Operand, Source};
 use crate::pieces::{lay, piece};
 use crate::room::grow;
 use apl_arrays::Lane;
@@ -17,7 +17,7 @@ use std::alloc::AllocError;
 const BLOCK: usize = 256;
 
 /// Below this many places less room is made ready.
-const FEW: usize = 16;
+pub(crate) const FEW: usize = 16;
 
 /// A scalar function of numbers of one lane with its values in another.
 pub(crate) trait Kernel<L: Lane, M: Lane> {
@@ -59,7 +59,7 @@ fn push_block<L: Lane, M: Lane, K: Kernel<L, M>, X: Line<L>, Y: Line<L>>(
 }
 
 /// Appends the values for the places from the next one on, block by block, as long as the lane holds them.
-fn push_lines<L: Lane, M: Lane, K: Kernel<L, M>, X: Line<L>, Y: Line<L>>(
+pub(crate) fn push_lines<L: Lane, M: Lane, K: Kernel<L, M>, X: Line<L>, Y: Line<L>>(
     out: &mut Vec<M>,
     x: X,
     y: Y,
@@ -184,7 +184,6 @@ fn push_by_second<L: Computed, M: Lane, K: Kernel<L, M>, const N: usize>(
 }
 
 /// The same with room of `N` numbers for each operand that needs any.
-#[inline(never)]
 fn push_in_room<L: Computed, M: Lane, K: Kernel<L, M>, const N: usize>(
     out: &mut Vec<M>,
     a: &Source<'_, L>,
@@ -212,44 +211,28 @@ fn push_in_room<L: Computed, M: Lane, K: Kernel<L, M>, const N: usize>(
     }
 }
 
-/// Appends the values for the places from the next one on, as long as the lane holds them. For two numbers that serve at each place it makes none.
-#[inline(always)]
-pub(crate) fn push_values<L: Computed, M: Lane, K: Kernel<L, M>>(
+/// Appends the values for the places from the next one on, as long as the lane holds them, by way of room for what doesn't lie in it.
+#[inline(never)]
+pub(crate) fn push_by_room<L: Computed, M: Lane, K: Kernel<L, M>>(
     out: &mut Vec<M>,
-    a: &Source<'_, L>,
-    b: &Source<'_, L>,
+    a: Operand<'_>,
+    b: Operand<'_>,
     count: usize,
 ) -> Result<(), AllocError>
-    requires a { Covers (shown_in L.value L.numbers a.now) count }
-    requires b { Covers (shown_in L.value L.numbers b.now) count }
-    requires begun { IsBegun K.meaning (number_at (shown_in L.value L.numbers a.now)) (number_at (shown_in L.value L.numbers b.now)) count (M.numbers out.old.items) }
-    ensures { OnOk result (IsBegun K.meaning (number_at (shown_in L.value L.numbers a.now)) (number_at (shown_in L.value L.numbers b.now)) count (M.numbers out.new.items)) }
+    requires a { Covers (shown a) count }
+    requires b { Covers (shown b) count }
+    requires begun { IsBegun K.meaning (number_at (shown a)) (number_at (shown b)) count (M.numbers out.old.items) }
+    ensures { OnOk result (IsBegun K.meaning (number_at (shown a.entry)) (number_at (shown b.entry)) count (M.numbers out.new.items)) }
 {
-    let in_register = count < FEW || !K::spreads();
-    match a {
-        Source::Lies(x) => match b {
-            Source::Lies(y) => return push_lines::<L, M, K, Each<'_, L>, Each<'_, L>>(
-                out,
-                Each(x),
-                Each(y),
-                count,
-            ),
-            Source::One(y) if in_register => return push_lines::<L, M, K, Each<'_, L>, Same<L>>(
-                out,
-                Each(x),
-                Same(*y),
-                count,
-            ),
-            _ => {}
-        },
-        Source::One(x) if in_register => if let Source::Lies(y) = b {
-            return push_lines::<L, M, K, Same<L>, Each<'_, L>>(out, Same(*x), Each(y), count);
-        },
-        _ => {}
-    }
+    let Some(a) = a.in_lane() else {
+        return Ok(());
+    };
+    let Some(b) = b.in_lane() else {
+        return Ok(());
+    };
     if count < FEW {
-        push_in_room::<L, M, K, FEW>(out, a, b, count)
+        push_in_room::<L, M, K, FEW>(out, &a, &b, count)
     } else {
-        push_in_room::<L, M, K, BLOCK>(out, a, b, count)
+        push_in_room::<L, M, K, BLOCK>(out, &a, &b, count)
     }
 }

@@ -17,6 +17,10 @@ pub(crate) trait Computed: Lane {
     fn of(number: i8) -> Self
         ensures { Self.value result ≡ number };
 
+    /// Numbers that lie in this lane; none where they are stored in another one.
+    fn own(numbers: NumberSlice<'_>) -> Option<&[Self]>
+        ensures { IfSome result (λ items. Self.numbers items.now ≡ values numbers.entry) };
+
     /// Numbers of this lane or of a narrower one; none where they are stored in a wider one.
     fn source(numbers: NumberSlice<'_>) -> Option<Source<'_, Self>>
         ensures { IfSome result (λ s. shown_in Self.value Self.numbers s ≡ Each (values numbers.entry)) };
@@ -54,6 +58,14 @@ impl Computed for i8 {
     #[inline(always)]
     fn of(number: i8) -> i8 {
         number
+    }
+
+    #[inline(always)]
+    fn own(numbers: NumberSlice<'_>) -> Option<&[i8]> {
+        match numbers {
+            NumberSlice::I8(raw) => Some(raw),
+            NumberSlice::I32(_) | NumberSlice::I64(_) => None,
+        }
     }
 
     #[inline(always)]
@@ -101,6 +113,14 @@ impl Computed for i32 {
     }
 
     #[inline(always)]
+    fn own(numbers: NumberSlice<'_>) -> Option<&[i32]> {
+        match numbers {
+            NumberSlice::I32(raw) => Some(raw),
+            NumberSlice::I8(_) | NumberSlice::I64(_) => None,
+        }
+    }
+
+    #[inline(always)]
     fn source(numbers: NumberSlice<'_>) -> Option<Source<'_, i32>> {
         match numbers {
             NumberSlice::I8(_) => Some(Source::Narrow(numbers)),
@@ -145,6 +165,14 @@ impl Computed for i64 {
     #[inline(always)]
     fn of(number: i8) -> i64 {
         i64::from(number)
+    }
+
+    #[inline(always)]
+    fn own(numbers: NumberSlice<'_>) -> Option<&[i64]> {
+        match numbers {
+            NumberSlice::I64(raw) => Some(raw),
+            NumberSlice::I8(_) | NumberSlice::I32(_) => None,
+        }
     }
 
     #[inline(always)]

@@ -36,6 +36,7 @@ impl<F: Scalar> Tested<i64> for Whole<F> {
 }
 
 /// The values so far and those for the other places below a count, each tested before the next, or the first fault.
+#[inline(never)]
 pub(crate) fn finish<M: Lane, T: Tested<M>>(
     made: Vec<M>,
     a: Operand<'_>,

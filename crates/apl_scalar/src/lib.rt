@@ -13,6 +13,7 @@ mod division;
 mod exact_quotients;
 mod examples;
 mod finish;
+mod forms;
 mod function;
 mod in_lanes;
 mod in_wide;

@@ -40,8 +40,16 @@ impl<'a> Operand<'a> {
         matches!(self, Operand::One(_))
     }
 
-    /// The same numbers for a lane; none where it doesn't hold them.
+    /// Whether a lane holds it: the number, or the type that stores the numbers.
     #[inline(always)]
+    pub(crate) fn fits<L: Computed>(self) -> bool {
+        match self {
+            Operand::One(number) => L::cut(number).is_some(),
+            Operand::Many(numbers) => L::source(numbers).is_some(),
+        }
+    }
+
+    /// The same numbers for a lane; none where it doesn't hold them.
     pub(crate) fn in_lane<L: Computed>(self) -> Option<Source<'a, L>>
         ensures { IfSome result (λ s. shown_in L.value L.numbers s ≡ shown self.entry) }
     {

@@ -1,17 +1,18 @@
 // The values of a scalar function at the places below a count, in the narrowest lane that its kind allows.
-ghost use Rattle.std.specs.Prelude.{◌≡◌, pos, length, IfOk, IfSome};
+ghost use Rattle.std.specs.Prelude.{◌≡◌, pos, length, IfOk};
 ghost use Rattle.apl_arrays.specs.Answers.{Answers};
 ghost use Rattle.apl_arrays.specs.Numbers.{kept_values, values};
 ghost use Rattle.apl_scalar.specs.Operands.{number_at, shown, values_of, Covers, Each, Same};
-ghost use Rattle.apl_scalar.specs.Lanes.{shown_in, IsBegun};
+ghost use Rattle.apl_scalar.specs.Lanes.{IsBegun};
 
-use crate::blocks::push_values;
+use crate::blocks::push_by_room;
 use crate::computed::Computed;
-use crate::finish::{Whole, finish};
+use crate::finish::{Tested, Whole, finish};
+use crate::forms::push_values;
 use crate::in_lanes::{Beyond, InLanes, Within};
 use crate::in_wide::{InWide, Throughout};
 use crate::narrow::Narrow;
-use crate::operand::{Operand, Source};
+use crate::operand::Operand;
 use crate::room::grow;
 use crate::tells::{Telling, Tells};
 use apl_arrays::{Lane, NumberSlice, NumberVec, Stop, convert};
@@ -24,13 +25,6 @@ pub(crate) struct Places<'a> {
     pub(crate) a: Operand<'a>,
     pub(crate) b: Operand<'a>,
     pub(crate) count: usize,
-}
-
-/// Both operands in a lane.
-#[derive(Clone, Copy)]
-struct Both<'a, L> {
-    a: Source<'a, L>,
-    b: Source<'a, L>,
 }
 
 impl<'a> Places<'a> {
@@ -64,18 +58,24 @@ impl<'a> Places<'a> {
         }
     }
 
-    /// Both operands in a lane; none where it doesn't hold them, nor where each is one number, which serves at each place.
+    /// Whether a lane holds both operands, of which one has a number for each place.
     #[inline(always)]
-    fn in_lane<L: Computed>(&self) -> Option<Both<'a, L>>
-        ensures { IfSome result (λ both. (shown_in L.value L.numbers both.a ≡ shown self.now.a) × (shown_in L.value L.numbers both.b ≡ shown self.now.b)) }
+    fn fit<L: Computed>(&self) -> bool {
+        self.a.fits::<L>() && self.b.fits::<L>() && !(self.a.is_one() && self.b.is_one())
+    }
+
+    /// The values so far and those for the other places, each tested before the next, or the first fault.
+    #[inline(always)]
+    fn completed<M: Lane, T: Tested<M>>(&self, made: Vec<M>) -> Result<NumberVec, Stop>
+        requires a { Covers (shown self.now.a) self.now.count }
+        requires b { Covers (shown self.now.b) self.now.count }
+        requires begun { IsBegun T.meaning (number_at (shown self.now.a)) (number_at (shown self.now.b)) self.now.count (M.numbers made.items) }
+        ensures { Answers kept_values (values_of T.meaning (number_at (shown self.now.a)) (number_at (shown self.now.b)) self.now.count) result }
     {
-        if self.a.is_one() && self.b.is_one() {
-            return None;
+        if made.len() == self.count {
+            return Ok(M::kept(made));
         }
-        Some(Both {
-            a: self.a.in_lane()?,
-            b: self.b.in_lane()?,
-        })
+        finish::<M, T>(made, self.a, self.b, self.count)
     }
 
     /// The values of a function that tells.
@@ -85,14 +85,14 @@ impl<'a> Places<'a> {
         ensures { Answers kept_values (values_of F.meaning (number_at (shown self.now.a)) (number_at (shown self.now.b)) self.now.count) result }
     {
         let mut made = Vec::with_capacity(self.alloc, self.count)?;
-        if let Some(both) = self.in_lane::<i8>() {
-            push_values::<i8, i8, Telling<F>>(&mut made, &both.a, &both.b, self.count)?;
-        } else if let Some(both) = self.in_lane::<i32>() {
-            push_values::<i32, i8, Telling<F>>(&mut made, &both.a, &both.b, self.count)?;
-        } else if let Some(both) = self.in_lane::<i64>() {
-            push_values::<i64, i8, Telling<F>>(&mut made, &both.a, &both.b, self.count)?;
+        if self.fit::<i8>() {
+            push_values::<i8, i8, Telling<F>>(&mut made, self.a, self.b, self.count)?;
+        } else if self.fit::<i32>() {
+            push_values::<i32, i8, Telling<F>>(&mut made, self.a, self.b, self.count)?;
+        } else {
+            push_values::<i64, i8, Telling<F>>(&mut made, self.a, self.b, self.count)?;
         }
-        finish::<i8, Telling<F>>(made, self.a, self.b, self.count)
+        self.completed::<i8, Telling<F>>(made)
     }
 
     /// The values of a function of numbers of 64 bits.
@@ -102,10 +102,8 @@ impl<'a> Places<'a> {
         ensures { Answers kept_values (values_of F.meaning (number_at (shown self.now.a)) (number_at (shown self.now.b)) self.now.count) result }
     {
         let mut made = Vec::with_capacity(self.alloc, self.count)?;
-        if let Some(both) = self.in_lane::<i64>() {
-            push_values::<i64, i64, Throughout<F>>(&mut made, &both.a, &both.b, self.count)?;
-        }
-        finish::<i64, Whole<F>>(made, self.a, self.b, self.count)
+        push_values::<i64, i64, Throughout<F>>(&mut made, self.a, self.b, self.count)?;
+        self.completed::<i64, Whole<F>>(made)
     }
 
     /// The values of a function that is computed in the lanes of its arguments.
@@ -114,50 +112,42 @@ impl<'a> Places<'a> {
         requires b { Covers (shown self.now.b) self.now.count }
         ensures { Answers kept_values (values_of F.meaning (number_at (shown self.now.a)) (number_at (shown self.now.b)) self.now.count) result }
     {
-        if let Some(both) = self.in_lane::<i8>() {
-            return self.from_lane::<F, i8>(&both);
+        if self.fit::<i8>() {
+            return self.from_lane::<F, i8>();
         }
-        if let Some(both) = self.in_lane::<i32>() {
-            return self.from_lane::<F, i32>(&both);
+        if self.fit::<i32>() {
+            return self.from_lane::<F, i32>();
         }
         let mut made = Vec::with_capacity(self.alloc, self.count)?;
-        if let Some(both) = self.in_lane::<i64>() {
-            push_values::<i64, i64, Within<F>>(&mut made, &both.a, &both.b, self.count)?;
-        }
-        finish::<i64, Whole<F>>(made, self.a, self.b, self.count)
+        push_values::<i64, i64, Within<F>>(&mut made, self.a, self.b, self.count)?;
+        self.completed::<i64, Whole<F>>(made)
     }
 
     /// The same in a narrow lane, as far as it holds the values, and from there on in the next wider one.
-    fn from_lane<F: InLanes, L: Narrow>(&self, both: &Both<'_, L>) -> Result<NumberVec, Stop>
+    #[inline(always)]
+    fn from_lane<F: InLanes, L: Narrow>(&self) -> Result<NumberVec, Stop>
         requires a { Covers (shown self.now.a) self.now.count }
         requires b { Covers (shown self.now.b) self.now.count }
-        requires both_a { shown_in L.value L.numbers both.now.a ≡ shown self.now.a }
-        requires both_b { shown_in L.value L.numbers both.now.b ≡ shown self.now.b }
         ensures { Answers kept_values (values_of F.meaning (number_at (shown self.now.a)) (number_at (shown self.now.b)) self.now.count) result }
     {
         let mut made = Vec::with_capacity(self.alloc, self.count)?;
-        push_values::<L, L, Within<F>>(&mut made, &both.a, &both.b, self.count)?;
+        push_values::<L, L, Within<F>>(&mut made, self.a, self.b, self.count)?;
         if made.len() == self.count {
             return Ok(L::kept(made));
         }
-        self.go_on::<F, L>(both, made.as_slice())
+        self.go_on::<F, L>(made.as_slice())
     }
 
     /// The values so far and those for the other places, in the next wider lane.
-    fn go_on<F: InLanes, L: Narrow>(
-        &self,
-        both: &Both<'_, L>,
-        made: &[L],
-    ) -> Result<NumberVec, Stop>
+    #[inline(never)]
+    fn go_on<F: InLanes, L: Narrow>(&self, made: &[L]) -> Result<NumberVec, Stop>
         requires a { Covers (shown self.now.a) self.now.count }
         requires b { Covers (shown self.now.b) self.now.count }
-        requires both_a { shown_in L.value L.numbers both.now.a ≡ shown self.now.a }
-        requires both_b { shown_in L.value L.numbers both.now.b ≡ shown self.now.b }
         requires begun { IsBegun F.meaning (number_at (shown self.now.a)) (number_at (shown self.now.b)) self.now.count (L.numbers made.now) }
         ensures { Answers kept_values (values_of F.meaning (number_at (shown self.now.a)) (number_at (shown self.now.b)) self.now.count) result }
     {
         let mut wide = widened(self.alloc, made, self.count)?;
-        push_values::<L, L::Wider, Beyond<F>>(&mut wide, &both.a, &both.b, self.count)?;
+        push_by_room::<L, L::Wider, Beyond<F>>(&mut wide, self.a, self.b, self.count)?;
         if wide.len() == self.count {
             return Ok(L::Wider::kept(wide));
         }
