@@ -1,5 +1,5 @@
 // Bytes looked up among bytes, by a slot for each of the 256.
-ghost use Rattle.std.specs.Prelude.{◌≡◌, ◌+◌, ◌<◌, ◌^◌, length, map, pos, IfOk, IfSome};
+ghost use Rattle.std.specs.Prelude.{◌≡◌, ◌+◌, ◌<◌, ◌^◌, length, map, pos, IfSome};
 ghost use Rattle.std.specs.Ordering.{int_eq};
 ghost use Rattle.std.specs.List.{All, list_any, position_or_len};
 ghost use Rattle.apl_arrays.specs.Numbers.{values};
@@ -10,7 +10,6 @@ use crate::index::FEW;
 use crate::marks::mark;
 use crate::table::{Span, enter};
 use apl_arrays::NumberSlice;
-use std::alloc::{AllocError, Global};
 
 /// All bytes.
 const BYTES: Span = Span {
@@ -48,42 +47,40 @@ fn inspect(bytes: &[i8])
     }
 }
 
-/// For each byte its first place among others, or how many these are, counted from a number on.
-pub(crate) fn byte_places(
-    alloc: Global,
-    sought: &[i8],
-    among: &[i8],
-    first: usize,
-) -> Result<Vec<i32>, AllocError>
-    requires { first + length among.now < 2 ^ 31 }
-    ensures { IfOk result (λ v. v.items ≡ map (λ y. pos (first + position_or_len (int_eq y) among.now)) sought.now) }
+/// A place, counted from a number on.
+#[inline(always)]
+fn counted(first: usize, place: u32) -> i32
+    requires { first + place < 2 ^ 31 }
+    ensures { result ≡ pos (first + place) }
+{
+    (first + place as usize) as i32
+}
+
+/// Writes for each byte its first place among others, or how many these are, counted from a number on.
+pub(crate) fn byte_places(sought: &[i8], among: &[i8], first: usize, places: &mut [i32])
+    requires small { first + length among.now < 2 ^ 31 }
+    requires room { length places.old ≡ length sought.now }
+    ensures { places.new ≡ map (λ y. pos (first + position_or_len (int_eq y) among.now)) sought.now }
 {
     inspect(among);
     let mut firsts = [among.len() as u32; COUNT];
     enter(&mut firsts, BYTES, NumberSlice::I8(among));
-    let mut places = Vec::with_capacity(alloc, sought.len())?;
-    for byte in sought {
-        let slot = BYTES.slot(i64::from(*byte));
-        places.push((first + firsts[slot] as usize) as i32)?;
+    for k in 0..places.len() {
+        let slot = BYTES.slot(i64::from(sought[k]));
+        places[k] = counted(first, firsts[slot]);
     }
-    Ok(places)
 }
 
-/// For each byte 1 where it stands among others, else 0.
-pub(crate) fn bytes_standing(
-    alloc: Global,
-    sought: &[i8],
-    among: &[i8],
-) -> Result<Vec<i8>, AllocError>
-    ensures { IfOk result (λ v. v.items ≡ map (λ x. number_of (list_any (int_eq x) among.now)) sought.now) }
+/// Writes for each byte 1 where it stands among others, else 0.
+pub(crate) fn bytes_standing(sought: &[i8], among: &[i8], verdicts: &mut [i8])
+    requires { length verdicts.old ≡ length sought.now }
+    ensures { verdicts.new ≡ map (λ x. number_of (list_any (int_eq x) among.now)) sought.now }
 {
     inspect(among);
     let mut marks = [false; COUNT];
     mark(&mut marks, BYTES, NumberSlice::I8(among));
-    let mut verdicts = Vec::with_capacity(alloc, sought.len())?;
-    for byte in sought {
-        let slot = BYTES.slot(i64::from(*byte));
-        verdicts.push(i8::from(marks[slot]))?;
+    for k in 0..verdicts.len() {
+        let slot = BYTES.slot(i64::from(sought[k]));
+        verdicts[k] = i8::from(marks[slot]);
     }
-    Ok(verdicts)
 }

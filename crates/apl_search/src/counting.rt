@@ -1,5 +1,5 @@
 // The numbers up to a count.
-ghost use Rattle.std.specs.Prelude.{◌≡◌, ◌+◌, ◌^◌, ◌<◌, IfOk, map, pos};
+ghost use Rattle.std.specs.Prelude.{◌≡◌, ◌+◌, ◌^◌, ◌<◌, length, map, pos};
 ghost use Rattle.std.specs.List.{range_with_len};
 ghost use Rattle.apl_arrays.specs.Answers.{Answers, FaultsFirst};
 ghost use Rattle.apl_arrays.specs.Origins.{origin_number};
@@ -36,16 +36,14 @@ fn count_in(b: &Array) -> Result<usize, Fault>
     }
 }
 
-/// So many numbers from a number on.
-fn numbers_from(alloc: Global, first: usize, count: usize) -> Result<Vec<i32>, AllocError>
-    requires { first + count < 2 ^ 31 }
-    ensures { IfOk result (λ v. v.items ≡ map pos (range_with_len first count)) }
+/// Writes the numbers from a number on.
+fn count_up(numbers: &mut [i32], first: usize)
+    requires { first + length numbers.old < 2 ^ 31 }
+    ensures { numbers.new ≡ map pos (range_with_len first (length numbers.old)) }
 {
-    let mut numbers = Vec::with_capacity(alloc, count)?;
-    for number in first..first + count {
-        numbers.push(number as i32)?;
+    for k in 0..numbers.len() {
+        numbers[k] = (first + k) as i32;
     }
-    Ok(numbers)
 }
 
 /// The numbers from the index origin on, as many as an array of one number says, as a vector.
@@ -58,6 +56,7 @@ pub fn iota(alloc: Global, b: &Array, origin: Origin) -> Result<Array, Stop>
 {
     let count = count_in(b)?;
     within_limits(&[count])?;
-    let numbers = numbers_from(alloc, origin.number(), count)?;
+    let mut numbers = vec![in alloc; 0i32; count]?;
+    count_up(numbers.as_mut_slice(), origin.number());
     Ok(Array::vector(alloc, Ravel::Nums(NumberVec::I32(numbers)))?)
 }

@@ -35,35 +35,60 @@ pub(crate) fn places_among(
     requires { length (values among) ≤ MAX_ELEMENTS }
     ensures { IfOk result (λ v. v.items ≡ map (λ y. pos (origin_number origin + position_or_len (int_eq y) (values among.entry))) (values sought.entry)) }
 {
+    let mut places = vec![in alloc; 0i32; sought.len()]?;
     let first = origin.number();
     if let Some((sought, among)) = both_bytes(sought, among) {
-        return byte_places(alloc, sought, among, first);
+        byte_places(sought, among, first, places.as_mut_slice());
+        return Ok(places);
     }
     let index = Index::of(alloc, among, sought.len())?;
+    // Apart, so that the loop over a table has no branch for another index.
+    if let Index::Close(_) = index {
+        places_by(&index, sought, among, first, places.as_mut_slice());
+        return Ok(places);
+    }
+    places_by(&index, sought, among, first, places.as_mut_slice());
+    Ok(places)
+}
+
+/// Writes the same by the others' index, counted from a number on.
+#[inline(always)]
+fn places_by(
+    index: &Index,
+    sought: NumberSlice<'_>,
+    among: NumberSlice<'_>,
+    first: usize,
+    places: &mut [i32],
+)
+    requires index { IsIndexOf index.now (values among) }
+    requires small { first + length (values among) < 2 ^ 31 }
+    requires room { length places.old ≡ length (values sought) }
+    ensures { places.new ≡ map (λ y. pos (first + position_or_len (int_eq y) (values among.entry))) (values sought.entry) }
+{
     match sought {
-        NumberSlice::I8(sought) => places_by(alloc, &index, sought, among, first),
-        NumberSlice::I32(sought) => places_by(alloc, &index, sought, among, first),
-        NumberSlice::I64(sought) => places_by(alloc, &index, sought, among, first),
+        NumberSlice::I8(sought) => write_places(index, sought, among, first, places),
+        NumberSlice::I32(sought) => write_places(index, sought, among, first, places),
+        NumberSlice::I64(sought) => write_places(index, sought, among, first, places),
     }
 }
 
-/// The same by the others' index, counted from a number on.
-fn places_by<L: Lane>(
-    alloc: Global,
+/// The same of numbers of one type.
+#[inline(always)]
+fn write_places<L: Lane>(
     index: &Index,
     sought: &[L],
     among: NumberSlice<'_>,
     first: usize,
-) -> Result<Vec<i32>, AllocError>
+    places: &mut [i32],
+)
     requires index { IsIndexOf index.now (values among) }
     requires small { first + length (values among) < 2 ^ 31 }
-    ensures { IfOk result (λ v. v.items ≡ map (λ y. pos (first + position_or_len (int_eq y) (values among.entry))) (L.numbers sought.now)) }
+    requires room { length places.old ≡ length sought.now }
+    ensures { places.new ≡ map (λ y. pos (first + position_or_len (int_eq y) (values among.entry))) (L.numbers sought.now) }
 {
-    let mut places = Vec::with_capacity(alloc, sought.len())?;
-    for number in sought {
-        places.push((first + index.first_place(among, number.wide())) as i32)?;
+    for k in 0..places.len() {
+        places[k] = (first + index.first_place(among, sought[k].wide())) as i32;
     }
-    Ok(places)
 }
 
 /// For each number 1 where it stands among others, else 0.
@@ -74,30 +99,53 @@ pub(crate) fn standing_among(
 ) -> Result<Vec<i8>, AllocError>
     ensures { IfOk result (λ v. v.items ≡ map (λ x. number_of (list_any (int_eq x) (values among.entry))) (values sought.entry)) }
 {
+    let mut verdicts = vec![in alloc; 0i8; sought.len()]?;
     if let Some((sought, among)) = both_bytes(sought, among) {
-        return bytes_standing(alloc, sought, among);
+        bytes_standing(sought, among, verdicts.as_mut_slice());
+        return Ok(verdicts);
     }
     let standing = Standing::of(alloc, among, sought.len())?;
+    // Apart, so that the loop over marks has no branch for an index.
+    if let Standing::Marked(_) = standing {
+        standing_by(&standing, sought, among, verdicts.as_mut_slice());
+        return Ok(verdicts);
+    }
+    standing_by(&standing, sought, among, verdicts.as_mut_slice());
+    Ok(verdicts)
+}
+
+/// Writes the same by how it is found.
+#[inline(always)]
+fn standing_by(
+    standing: &Standing,
+    sought: NumberSlice<'_>,
+    among: NumberSlice<'_>,
+    verdicts: &mut [i8],
+)
+    requires standing { IsStandingOf standing.now (values among) }
+    requires room { length verdicts.old ≡ length (values sought) }
+    ensures { verdicts.new ≡ map (λ x. number_of (list_any (int_eq x) (values among.entry))) (values sought.entry) }
+{
     match sought {
-        NumberSlice::I8(sought) => standing_by(alloc, &standing, sought, among),
-        NumberSlice::I32(sought) => standing_by(alloc, &standing, sought, among),
-        NumberSlice::I64(sought) => standing_by(alloc, &standing, sought, among),
+        NumberSlice::I8(sought) => write_verdicts(standing, sought, among, verdicts),
+        NumberSlice::I32(sought) => write_verdicts(standing, sought, among, verdicts),
+        NumberSlice::I64(sought) => write_verdicts(standing, sought, among, verdicts),
     }
 }
 
-/// The same by how it is found.
-fn standing_by<L: Lane>(
-    alloc: Global,
+/// The same of numbers of one type.
+#[inline(always)]
+fn write_verdicts<L: Lane>(
     standing: &Standing,
     sought: &[L],
     among: NumberSlice<'_>,
-) -> Result<Vec<i8>, AllocError>
-    requires { IsStandingOf standing.now (values among) }
-    ensures { IfOk result (λ v. v.items ≡ map (λ x. number_of (list_any (int_eq x) (values among.entry))) (L.numbers sought.now)) }
+    verdicts: &mut [i8],
+)
+    requires standing { IsStandingOf standing.now (values among) }
+    requires room { length verdicts.old ≡ length sought.now }
+    ensures { verdicts.new ≡ map (λ x. number_of (list_any (int_eq x) (values among.entry))) (L.numbers sought.now) }
 {
-    let mut verdicts = Vec::with_capacity(alloc, sought.len())?;
-    for number in sought {
-        verdicts.push(i8::from(standing.has(among, number.wide())))?;
+    for k in 0..verdicts.len() {
+        verdicts[k] = i8::from(standing.has(among, sought[k].wide()));
     }
-    Ok(verdicts)
 }

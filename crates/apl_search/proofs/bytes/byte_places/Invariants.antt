@@ -4,5 +4,5 @@ use Rattle.std.specs.List.{position_or_len}
 use Rattle.apl_search.proofs.bytes.byte_places.Given as goal
 
 -- the places so far
-abbrev pub invariant-loop-byte : goal.invariant-loop-byte
-invariant-loop-byte l = l.places.items ≡ map (λ (y : ℤ). pos (l.first + position_or_len (int_eq y) l.among)) (take l.byte-index l.sought)
+abbrev pub invariant-loop-k : goal.invariant-loop-k
+invariant-loop-k l = take l.k l.places ≡ map (λ (y : ℤ). pos (l.first + position_or_len (int_eq y) l.among)) (take l.k l.sought)

@@ -5,5 +5,5 @@ use Rattle.apl_scalar.specs.Functions.{number_of}
 use Rattle.apl_search.proofs.bytes.bytes_standing.Given as goal
 
 -- the verdicts so far
-abbrev pub invariant-loop-byte : goal.invariant-loop-byte
-invariant-loop-byte l = l.verdicts.items ≡ map (λ (x : ℤ). number_of (list_any (int_eq x) l.among)) (take l.byte-index l.sought)
+abbrev pub invariant-loop-k : goal.invariant-loop-k
+invariant-loop-k l = take l.k l.verdicts ≡ map (λ (x : ℤ). number_of (list_any (int_eq x) l.among)) (take l.k l.sought)
