@@ -1,23 +1,24 @@
 //! `⎕STOP` and `⎕TRACE`, the stop and trace vectors of functions.
-ghost use Rattle.std.specs.Prelude.{◌≡◌, IfOk, option_copied, option_map, Some};
+ghost use Rattle.std.specs.Prelude.{◌≡◌, ℤ, List, Option, option_copied, option_map, Some};
 ghost use Rattle.apl_arrays.specs.Numbers.{values};
+ghost use Rattle.apl_arrays.specs.Cells.{Arr};
 ghost use Rattle.apl_machine_state.specs.Outcomes.{rewatch, watch, watched, watched_by};
 ghost use Rattle.apl_machine_state.specs.Watching.{function_named, is_list, numbers_in};
 ghost use Rattle.apl_names.specs.Maps.{function_in, last_map, said};
-ghost use Rattle.apl_phrases.specs.Effects.{ComesTo, Does};
+ghost use Rattle.apl_phrases.specs.Effects.{Does, IsEffect};
 ghost use Rattle.apl_phrases.specs.inside.Marks.{chosen};
 
 use crate::effect::Effect;
 use crate::lines_among::lines_among;
 use crate::scene::Scene;
-use apl_arrays::{Array, Elements, NumberSlice};
+use apl_arrays::{Array, Elements, NumberSlice, Stop};
 use apl_charset::Ch;
 use apl_defn::Definition;
 use apl_faults::Fault;
 use apl_machine_state::Watch;
 use apl_names::{Binding, Names};
 use apl_symbols::Name;
-use std::alloc::{AllocError, Global};
+use std::alloc::Global;
 
 /// Whether an array has at most one axis.
 pub fn is_list(array: &Array) -> bool
@@ -53,8 +54,8 @@ fn ask(
     name: Name,
     definition: &Definition,
     numbers: Option<NumberSlice<'_>>,
-) -> Result<Effect, AllocError>
-    ensures { IfOk result (ComesTo (watched_by which name (Some definition.now) (chosen (option_map values numbers.entry)))) }
+) -> Result<Effect, Stop>
+    ensures { (last : Option Arr) (lines : List ℤ) → IsEffect result last lines (watched_by which name (Some definition.now) (chosen (option_map values numbers.entry))) }
 {
     match numbers {
         Some(numbers) => {
@@ -72,15 +73,15 @@ fn ask_named(
     which: Watch,
     text: &[Ch],
     numbers: Option<NumberSlice<'_>>,
-) -> Result<Effect, AllocError>
-    ensures { IfOk result (Does scene.entry (λ s. watched_by which text.now (function_named s text.now) (chosen (option_map values numbers.entry)))) }
+) -> Result<Effect, Stop>
+    ensures { (last : Option Arr) → Does scene.entry last (λ s. watched_by which text.now (function_named s text.now) (chosen (option_map values numbers.entry))) result }
 {
     let Some(name) = Name::new(text) else {
-        return Ok(Effect::Fails(Fault::Domain));
+        return Err(Stop::Fault(Fault::Domain));
     };
     match global_function(scene.names, &name) {
         Some(definition) => ask(alloc, which, name, definition, numbers),
-        None => Ok(Effect::Fails(Fault::Domain)),
+        None => Err(Stop::Fault(Fault::Domain)),
     }
 }
 
@@ -91,21 +92,21 @@ fn watched(
     which: Watch,
     numbers: Option<NumberSlice<'_>>,
     b: &Array,
-) -> Result<Effect, AllocError>
-    ensures { IfOk result (Does scene.entry (λ s. watched s which b.now.items (chosen (option_map values numbers.entry)))) }
+) -> Result<Effect, Stop>
+    ensures { (last : Option Arr) → Does scene.entry last (λ s. watched s which b.now.items (chosen (option_map values numbers.entry))) result }
 {
     match b.items() {
-        Elements::Nums(_) => Ok(Effect::Fails(Fault::Domain)),
+        Elements::Nums(_) => Err(Stop::Fault(Fault::Domain)),
         Elements::Chars(text) => ask_named(alloc, scene, which, text, numbers),
     }
 }
 
 /// `⎕STOP B` and `⎕TRACE B`
-pub fn watch(alloc: Global, scene: Scene<'_>, which: Watch, b: &Array) -> Result<Effect, AllocError>
-    ensures { IfOk result (Does scene.entry (λ s. watch s which b.now)) }
+pub fn watch(alloc: Global, scene: Scene<'_>, which: Watch, b: &Array) -> Result<Effect, Stop>
+    ensures { (last : Option Arr) → Does scene.entry last (λ s. watch s which b.now) result }
 {
     if !is_list(b) {
-        return Ok(Effect::Fails(Fault::Rank));
+        return Err(Stop::Fault(Fault::Rank));
     }
     watched(alloc, scene, which, None, b)
 }
@@ -117,14 +118,14 @@ pub fn rewatch(
     which: Watch,
     a: &Array,
     b: &Array,
-) -> Result<Effect, AllocError>
-    ensures { IfOk result (Does scene.entry (λ s. rewatch s which a.now b.now)) }
+) -> Result<Effect, Stop>
+    ensures { (last : Option Arr) → Does scene.entry last (λ s. rewatch s which a.now b.now) result }
 {
     if !is_list(a) || !is_list(b) {
-        return Ok(Effect::Fails(Fault::Rank));
+        return Err(Stop::Fault(Fault::Rank));
     }
     match numbers_in(a) {
         Some(numbers) => watched(alloc, scene, which, Some(numbers), b),
-        None => Ok(Effect::Fails(Fault::Domain)),
+        None => Err(Stop::Fault(Fault::Domain)),
     }
 }
