@@ -193,7 +193,7 @@ fn identities(alloc: Global, function: Dyadic, count: usize) -> Result<Vec<i64>,
     requires { 0 < count }
     ensures { Answers (λ v. v.items) (all_ok (λ k. folded function []) (range_with_len 0 count)) result }
 {
-    let identity = fold_numbers(function, &[])?;
+    let identity = fold_numbers::<i64>(function, &[])?;
     Ok(vec![in alloc; identity; count]?)
 }
 
