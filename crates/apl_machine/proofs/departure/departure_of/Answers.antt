@@ -6,7 +6,10 @@ use Rattle.apl_frames.specs.declared.frame.Stage.TheVariants.{Emptied}
 use Rattle.apl_frames.specs.Ends.{has_place}
 use Rattle.apl_frames.proofs.Standing.{at_end, no_both}
 use Rattle.apl_machine.proofs.Steps.{is_ready, fetches_value, end_is, empties_well, ends_well}
+use Rattle.apl_machine.specs.Changes.{Departs}
 use Rattle.apl_machine.specs.Worlds.{settings}
+use Rattle.apl_machine.specs.inside.Leaving.{EndsAt, left_by}
+use Rattle.apl_operands.specs.declared.operands.Operands.{Operands}
 use Rattle.apl_machine.proofs.departure.departure_of.Goals as goal
 
 pub leaving-requires-clause-value : goal.leaving-requires-clause-value
@@ -34,7 +37,9 @@ returns c =
     let does = sym c.line.ensures ∙ ap option_copied c.in-Some.is in
     let ready = is_ready c.args.contexts.now line c.requires.stacked does (λ (e : line.stage ≡ Emptied). no_both (rw (c.stage.ensures ∙ e) at c.if-eq.ensures)) in
     let e = at_end line i c.next-instr.ensures.stands ready c.next-instr.ensures.next (ap is_end c.in-End.is) in
-    IfOk-weaker c.leaving.result _ _
+    let from : Operands = record { constants = c.constants.result; stack = c.operands.result } in
+    let cs = c.args.contexts.now in
+    IfOk-weaker c.leaving.result (EndsAt i.at (left_by c.in-End.ending i from cs) c.args.traces.now cs) (Departs c.args.traces.now cs)
     (λ departure left ms stops origin sound. ends_well ms (settings stops c.args.traces.now origin) c.args.contexts.now line sound does i c.in-End.ending departure c.constants.result.now c.operands.result.now e c.in-End.is c.constants.ensures c.operands.ensures left)
     c.leaving.ensures
 
