@@ -1,4 +1,4 @@
-use Rattle.std.proofs.Common.{rules, ◌≡◌, ap, sym, ◌∙◌}
+use Rattle.std.proofs.Common.{rules, ◌≡◌, [], None, ap, sym, ◌∙◌}
 use Rattle.std.specs.Prelude.{option_copied}
 use Rattle.std.proofs.lemmas.Result.{IfOk-weaker}
 use Rattle.apl_code.specs.Code.{is_end}
@@ -7,8 +7,9 @@ use Rattle.apl_frames.specs.Ends.{has_place}
 use Rattle.apl_frames.proofs.Standing.{at_end, no_both}
 use Rattle.apl_machine.proofs.Steps.{is_ready, fetches_value, end_is, empties_well, ends_well}
 use Rattle.apl_machine.specs.Changes.{Departs}
+use Rattle.apl_machine.specs.Executing.{executes}
 use Rattle.apl_machine.specs.Worlds.{settings}
-use Rattle.apl_machine.specs.inside.Leaving.{EndsAt, left_by}
+use Rattle.apl_machine.specs.inside.Leaving.{EndsAt, Leaves, finished, left_by}
 use Rattle.apl_operands.specs.declared.operands.Operands.{Operands}
 use Rattle.apl_machine.proofs.departure.departure_of.Goals as goal
 
@@ -48,6 +49,7 @@ returns-then-eq c =
     let line = c.in-Some.line.now in
     let does = sym c.line.ensures ∙ ap option_copied c.in-Some.is in
     let emptied : line.stage ≡ Emptied = search rules in
-    IfOk-weaker c.finishing.result _ _
+    let cs = c.args.contexts.now in
+    IfOk-weaker c.finishing.result (Leaves (finished (executes cs) None [] [] []) c.args.traces.now cs) (Departs c.args.traces.now cs)
     (λ departure left ms stops origin sound. empties_well ms (settings stops c.args.traces.now origin) c.args.contexts.now line sound does departure emptied left)
     c.finishing.ensures
