@@ -200,7 +200,10 @@ impl Computed for i64 {
 
     #[inline(always)]
     fn fill_small<X: Line<i64>, Y: Line<i64>>(x: X, y: Y, out: &mut [i64]) -> bool {
-        products::begins_low(x, y, out.len()) && products::fill_low(x, y, out)
+        if products::begins_low(x, y, out.len()) && products::fill_low(x, y, out) {
+            return true;
+        }
+        products::fill_tested(x, y, out)
     }
 
     #[inline(always)]
