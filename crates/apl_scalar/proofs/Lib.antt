@@ -1,4 +1,7 @@
 pub mod Signs
+pub mod Widths
+pub mod WideProducts
+pub mod Filling
 pub mod Rooms
 pub mod Extension
 pub mod Whole
