@@ -10,7 +10,6 @@ pub mod Growth
 pub mod Flags
 pub mod Truths
 pub mod Scalars
-pub mod LowHalves
 pub mod Inverses
 pub mod Turns
 pub mod Multiples

@@ -1,5 +1,5 @@
 -- Products in a wider type, and whether their low bits are the whole.
-use Rattle.std.proofs.Common.{◌≡◌, ℕ, zero, suc, ℤ, pos, negsuc, neg_ℤ, Bool, true, false, ◌*ℤ◌, ◌≤ℤ◌, ◌<ℤ◌, ◌+◌, ◌-◌, ◌*◌, ◌/◌, ◌%◌, ◌^◌, ◌<◌, ◌≤◌, FitsSigned, to_z, of_z, refl, ap, sym, ◌∙◌, subst, arith}
+use Rattle.std.proofs.Common.{◌≡◌, ℕ, zero, suc, ℤ, pos, negsuc, neg_ℤ, Bool, true, false, ◌*ℤ◌, ◌≤ℤ◌, ◌<ℤ◌, ◌+◌, ◌-◌, ◌*◌, ◌/◌, ◌%◌, ◌^◌, ◌<◌, ◌≤◌, FitsSigned, Ok, to_z, of_z, refl, ap, sym, ◌∙◌, subst, arith}
 use Rattle.std.specs.Prelude.{nat_eq, not, unsigned_abs, bit_and, bit_xor, bit_or}
 use Rattle.std.specs.Int.{Width, w32, w64, int_shr, int_wrap, int_wrapping_neg}
 use Rattle.std.proofs.lemmas.Bool.{eqb-true, eq-eqb}
@@ -7,6 +7,8 @@ use Rattle.std.proofs.lemmas.Int.{ints, to_z-of_z, of_z-to_z, fits_signed_mul, f
 use Rattle.std.proofs.lemmas.Nat.{and_le_l, and_le_r, xor_lt}
 use lib.Bits.{xor_add_and, xor_self}
 use mir.Val.{hbits}
+use Rattle.apl_scalar.specs.Functions.{in_range}
+use Rattle.apl_scalar.proofs.Signs.{in_range-fits}
 use Rattle.apl_scalar.proofs.Widths.{bits_lt, neither}
 
 -- a product of small numbers doesn't wrap
@@ -20,6 +22,11 @@ product_args w m a b x y l f g p q =
 pub product_in : (w : Width) (m : ℕ) (a b x y : ℤ) → m < 2 ^ hbits w → m * m < 2 ^ hbits w → unsigned_abs x ≤ m → unsigned_abs y ≤ m → a ≡ x → b ≡ y
     → to_z w (of_z w (to_z w (of_z w a) *ℤ to_z w (of_z w b))) ≡ x *ℤ y
 product_in w m a b x y l s f g p q = ap (λ z. to_z w (of_z w z)) (product_args w m a b x y l f g p q) ∙ to_z-of_z w (x *ℤ y) (fits_signed_mul w x y m m f g s)
+
+pub product_in_range : (m : ℕ) (a b x y : ℤ) → m < 2 ^ 63 → m * m < 2 ^ 63 → unsigned_abs x ≤ m → unsigned_abs y ≤ m → a ≡ x → b ≡ y
+    → in_range (x *ℤ y) ≡ Ok (to_z w64 (of_z w64 (to_z w64 (of_z w64 a) *ℤ to_z w64 (of_z w64 b))))
+product_in_range m a b x y l s f g p q =
+    in_range-fits (x *ℤ y) (fits_signed_mul w64 x y m m f g s) ∙ ap (λ (z : ℤ). Ok z) (sym (product_in w64 m a b x y l s f g p q))
 
 pub same_bits : (w : Width) (m n : ℕ) → not (nat_eq m n) ≡ false → to_z w m ≡ to_z w n
 same_bits w m n h = ap (to_z w) (eqb-true m n (plain (nat_eq m n) h))

@@ -16,7 +16,7 @@ returns-clause-value c h =
     let a : c.from.result ≡ x = c.from.ensures ∙ to_z-of_z w8 x c.ranges.x in
     let b : c.from-2.result ≡ y = c.from-2.ensures ∙ to_z-of_z w8 y c.ranges.y in
     let same : to_z w16 (of_z w16 (to_z w16 (of_z w16 c.from.result) *ℤ to_z w16 (of_z w16 c.from-2.result))) ≡ x *ℤ y =
-        product_in w16 128 c.from.result c.from-2.result x y (lit< tt) (lit< tt) (small x c.ranges.x) (small y c.ranges.y) a b in
+    product_in w16 128 c.from.result c.from-2.result x y (lit< tt) (lit< tt) (small x c.ranges.x) (small y c.ranges.y) a b in
     let fits : FitsSigned w16 c.from-4.result = search rules in
     let fits_wide : FitsSigned w64 (to_z w8 (of_z w8 c.low-low.result)) = omega (arith, ints) in
     low_value w8 (x *ℤ y) (to_z w8 (of_z w8 c.low-low.result)) _ fits_wide
@@ -29,9 +29,9 @@ returns-clause-none c h =
     let a : c.from.result ≡ x = c.from.ensures ∙ to_z-of_z w8 x c.ranges.x in
     let b : c.from-2.result ≡ y = c.from-2.ensures ∙ to_z-of_z w8 y c.ranges.y in
     let args : to_z w16 (of_z w16 c.from.result) *ℤ to_z w16 (of_z w16 c.from-2.result) ≡ x *ℤ y =
-        product_args w16 128 c.from.result c.from-2.result x y (lit< tt) (small x c.ranges.x) (small y c.ranges.y) a b in
+    product_args w16 128 c.from.result c.from-2.result x y (lit< tt) (small x c.ranges.x) (small y c.ranges.y) a b in
     let same : to_z w16 (of_z w16 (to_z w16 (of_z w16 c.from.result) *ℤ to_z w16 (of_z w16 c.from-2.result))) ≡ x *ℤ y =
-        product_in w16 128 c.from.result c.from-2.result x y (lit< tt) (lit< tt) (small x c.ranges.x) (small y c.ranges.y) a b in
+    product_in w16 128 c.from.result c.from-2.result x y (lit< tt) (lit< tt) (small x c.ranges.x) (small y c.ranges.y) a b in
     let fits : FitsSigned w8 c.low-low.result = search rules in
     let fits_wide : FitsSigned w64 c.from-3.result = search rules in
     let wide : to_z w64 (of_z w64 c.from-3.result) ≡ x *ℤ y = to_z-of_z w64 c.from-3.result fits_wide ∙ c.from-3.ensures ∙ same in

@@ -12,6 +12,6 @@ loop-i-preserved g c =
     let value = rw (c.at.ensures, c.at-in-loop-i.ensures) at c.flagged-value.ensures.value in
     let none = rw (c.at.ensures, c.at-in-loop-i.ensures) at c.flagged-value.ensures.none in (
       λ h. let neither = c.either-flags.ensures.neither h in
-        fill_step g.L.Lane.value g.L.Lane.numbers g.met.L.Lane.each (λ k z. f k ≡ Ok z) i c.loop-i.out c.flagged-value.result.0 within (c.loop-i.invariant.0 neither.0) (value neither.1),
+          fill_step g.L.Lane.value g.L.Lane.numbers g.met.L.Lane.each (λ k z. f k ≡ Ok z) i c.loop-i.out c.flagged-value.result.0 within (c.loop-i.invariant.0 neither.0) (value neither.1),
       λ h. raised_at (λ k. HasNoneIn g.L.Lane.width (f k)) i (g.L.Lane.value c.loop-i.flags) (g.L.Lane.value c.flagged-value.result.1) (c.either-flags.ensures.one h) c.loop-i.invariant.1 none,
     )
