@@ -1,4 +1,7 @@
 pub mod Signs
+pub mod Widths
+pub mod WideProducts
+pub mod Filling
 pub mod Rooms
 pub mod Extension
 pub mod Whole
@@ -7,7 +10,6 @@ pub mod Growth
 pub mod Flags
 pub mod Truths
 pub mod Scalars
-pub mod LowHalves
 pub mod Inverses
 pub mod Turns
 pub mod Multiples

@@ -108,12 +108,14 @@ impl Scalar for Magnitude {
 impl InLanes for Magnitude {
     #[inline(always)]
     fn flagged<L: Computed>(_x: L, y: L) -> (L, L) {
+        let _number = y.wide();
         let (negated, flag) = L::flagged_difference(L::of(0), y);
         (y.greater(negated), flag)
     }
 
     #[inline(always)]
     fn widened<L: Narrow>(_x: L, y: L) -> L::Wider {
+        let _number = y.wide();
         y.widen().greater(L::wide_difference(L::of(0), y))
     }
 }
