@@ -11,7 +11,6 @@ pub mod Comparisons
 pub mod Totals
 pub mod Reach
 pub mod LastTwo
-pub mod Associative
 pub mod InQuarters
 pub mod Faults
 pub mod ByPlaces
