@@ -9,6 +9,7 @@ pub mod Rests
 pub mod Growth
 pub mod Flags
 pub mod Truths
+pub mod Verdicts
 pub mod Scalars
 pub mod Inverses
 pub mod Turns
