@@ -1,5 +1,5 @@
 -- Numbers of any width, their flags and their bits.
-use Rattle.std.proofs.Common.{◌≡◌, ◌⊎◌, inl, inr, ℕ, zero, suc, ℤ, pos, negsuc, Bool, true, false, cond, ◌-ℤ◌, ◌≤ℤ◌, ◌<ℤ◌, ◌+◌, ◌-◌, ◌*◌, ◌^◌, ◌<◌, ◌≤◌, Ok, Err, FitsSigned, to_z, of_z, lit<, refl, ap, sym, ◌∙◌, subst, arith}
+use Rattle.std.proofs.Common.{◌≡◌, ◌⊎◌, inl, inr, ℕ, zero, suc, ℤ, pos, negsuc, Bool, true, false, cond, ◌-ℤ◌, ◌≤ℤ◌, ◌<ℤ◌, ◌^◌, ◌<◌, Ok, Err, FitsSigned, to_z, of_z, lit<, refl, ap, sym, ◌∙◌, subst, arith}
 use Rattle.std.specs.Prelude.{bit_or, unsigned_abs}
 use Rattle.std.specs.Int.{Width, w8, w16, w32, w64, w128}
 use Rattle.std.proofs.lemmas.Int.{ints, to_z_pos, of_z-to_z}
@@ -7,7 +7,7 @@ use Rattle.std.proofs.lemmas.Nat.{or_lt, le_or_l, le_or_r, pow_pos}
 use mir.Val.{bits, hbits, bool_byte}
 use mir.ValLaws.{pow-bits}
 use Rattle.apl_faults.specs.declared.fault.Fault.TheVariants.{Limit}
-use Rattle.apl_scalar.specs.Functions.{in_range, is_in_range, number_of}
+use Rattle.apl_scalar.specs.Functions.{in_range, is_in_range}
 use Rattle.apl_scalar.specs.Operands.{IsTruth}
 use Rattle.apl_scalar.specs.Lanes.{HasNoneIn}
 use Rattle.apl_scalar.proofs.Signs.{in_range-fits}

@@ -108,6 +108,7 @@ impl Scalar for Magnitude {
 impl InLanes for Magnitude {
     #[inline(always)]
     fn flagged<L: Computed>(_x: L, y: L) -> (L, L) {
+        // What is read fits its lane.
         let _number = y.wide();
         let (negated, flag) = L::flagged_difference(L::of(0), y);
         (y.greater(negated), flag)
@@ -115,6 +116,7 @@ impl InLanes for Magnitude {
 
     #[inline(always)]
     fn widened<L: Narrow>(_x: L, y: L) -> L::Wider {
+        // What is read fits its lane.
         let _number = y.wide();
         y.widen().greater(L::wide_difference(L::of(0), y))
     }

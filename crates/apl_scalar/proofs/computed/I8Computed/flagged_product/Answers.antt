@@ -1,5 +1,5 @@
 use Rattle.std.proofs.Common.{◌≡◌, ℤ, ◌*ℤ◌, ◌≤◌, FitsSigned, to_z, of_z, lit<, sym, ◌∙◌, subst, arith, rules, w8, w64}
-use Rattle.std.specs.Prelude.{unsigned_abs, nat_eq, not, false}
+use Rattle.std.specs.Prelude.{unsigned_abs}
 use Rattle.std.specs.Int.{w16}
 use Rattle.std.proofs.lemmas.Int.{ints, to_z-of_z}
 use Rattle.apl_scalar.proofs.Widths.{low_value, low_none}
