@@ -10,6 +10,7 @@ ghost use Rattle.apl_operands.specs.Operands.{Offers};
 ghost use Rattle.apl_phrases.specs.Effects.{Does, last_of, outcome_of};
 ghost use Rattle.apl_phrases.specs.Kinds.{phrase_kind};
 ghost use Rattle.apl_phrases.specs.declared.phrase.PhraseKind.TheVariants.{Systems};
+ghost use Rattle.apl_phrases.specs.declared.scene.Scene.{Scene as LentScene};
 
 use crate::assign::{assign, assign_indexed};
 use crate::effect::Effect;
@@ -27,10 +28,9 @@ use apl_symbols::SystemName;
 use std::alloc::Global;
 
 /// `N`
-fn call(scene: Scene<'_>, system: SystemName) -> Result<Effect, Stop>
-    ensures { (last : Option Arr) → Does scene.entry last (λ s. called s (Variable.System system)) result }
+fn call(system: SystemName) -> Result<Effect, Stop>
+    ensures { (scene : LentScene) (last : Option Arr) → Does scene last (λ s. called s (Variable.System system)) result }
 {
-    let _ = scene;
     match system {
         SystemName::LineCounter => Ok(Effect::GivesLineNumbers),
         _ => Err(Stop::Fault(Fault::Syntax)),
@@ -113,7 +113,7 @@ pub fn effect_of(alloc: Global, phrase: Phrase<'_, '_>) -> Result<Effect, Stop>
     let scene = phrase.scene;
     let arguments = arguments(phrase.sources, phrase.operands);
     match row {
-        Row::Call(Variable::System(system)) => call(scene, *system),
+        Row::Call(Variable::System(system)) => call(*system),
         Row::Monadic(Function::System(system)) => monadic(alloc, scene, *system, arguments),
         Row::Dyadic(Function::System(system)) => dyadic(alloc, scene, *system, arguments),
         Row::Assign(Variable::System(system)) => assign(scene, *system, arguments),

@@ -33,7 +33,13 @@ fn numbers_in(array: &Array) -> Option<NumberSlice<'_>>
 {
     match array.items() {
         Elements::Nums(numbers) => Some(numbers),
-        Elements::Chars(text) => { if text.is_empty() { Some(NumberSlice::I64(&[])) } else { None } }
+        Elements::Chars(text) => {
+            if text.is_empty() {
+                Some(NumberSlice::I64(&[]))
+            } else {
+                None
+            }
+        }
     }
 }
 
