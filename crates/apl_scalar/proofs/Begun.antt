@@ -1,12 +1,13 @@
 -- The values so far, and with more of them.
-use Rattle.std.proofs.Common.{◌≡◌, ℕ, zero, suc, ℤ, pos, ◌+◌, ◌-◌, ◌<◌, ◌≤◌, List, [], ◌∷◌, ◌++◌, length, get_or, Result, Ok, Err, refl, ap, sym, ◌∙◌, subst, arith, length-append, add-zero}
+use Rattle.std.proofs.Common.{◌≡◌, ℕ, zero, suc, ℤ, pos, ◌+◌, ◌-◌, ◌<◌, ◌≤◌, List, [], ◌∷◌, ◌++◌, map, length, get_or, Result, Ok, Err, refl, ap, sym, ◌∙◌, subst, arith, length-append, add-zero}
 use Rattle.std.specs.Prelude.{Bool, OnOk}
 use Rattle.std.specs.List.{range_with_len}
 use Rattle.apl_faults.specs.declared.fault.Fault.{Fault}
 use Rattle.apl_arrays.specs.Results.{all_ok}
-use Rattle.apl_arrays.proofs.InTurn.{after, turns_start, turns_part, turns_whole, turns_fault, turns_same}
+use Rattle.apl_arrays.proofs.InTurn.{after, turns_start, turns_part, turns_whole, turns_fault}
 use Rattle.apl_scalar.specs.Operands.{Shown, number_at, values_of}
 use Rattle.apl_scalar.specs.Lanes.{AddsValues, IsBegun, IsPiece}
+use Rattle.apl_scalar.proofs.OfLanes.{as_many, numbers-append}
 
 -- none so far
 pub begun_none : (f : ℤ → ℤ → Result ℤ Fault) (x y : ℕ → ℤ) (count : ℕ) → IsBegun f x y count []
@@ -54,10 +55,21 @@ begun_one f x y count k old z e h here begun =
     one zero l = ap (λ (i : ℕ). f (x i) (y i)) (add-zero k) ∙ here
     one (suc j) l = absurd (omega arith)
 
+-- the same where an item is pushed
+pub begun_push : {A : Type 0} (value : A → ℤ) (numbers : List A → List ℤ) → ((xs : List A) → numbers xs ≡ map value xs) → (f : ℤ → ℤ → Result ℤ Fault) (x y : ℕ → ℤ) (count k : ℕ) (old new : List A) (z : A) →
+    k ≡ length old → new ≡ old ++ z ∷ [] → k < count → f (x k) (y k) ≡ Ok (value z) → IsBegun f x y count (numbers old) → IsBegun f x y count (numbers new)
+begun_push value numbers each f x y count k old new z e more h here begun =
+    let made : numbers new ≡ numbers old ++ value z ∷ [] = ap numbers more ∙ numbers-append value numbers each old (z ∷ []) ∙ ap (λ (l : List ℤ). numbers old ++ l) (each (z ∷ [])) in
+    subst (λ (l : List ℤ). IsBegun f x y count l) (sym made) (begun_one f x y count k (numbers old) (value z) (e ∙ sym (as_many value numbers each old)) h here begun)
+
 -- the next place has a fault
 pub begun_fault : (f : ℤ → ℤ → Result ℤ Fault) (x y : ℕ → ℤ) (count k : ℕ) (old : List ℤ) (e : Fault) → k ≡ length old → k < count → f (x k) (y k) ≡ Err e → IsBegun f x y count old → values_of f x y count ≡ Err e
 begun_fault f x y count k old e s h here begun =
     begun_rest f x y count old begun.0 begun.1 ∙ turns_fault (λ j. f (x j) (y j)) old e (length old) count (omega arith) (ap (λ (i : ℕ). f (x i) (y i)) (sym s) ∙ here)
+
+-- what a call with the numbers of a place gives
+pub at_place : {A : Type 0} (f : ℤ → ℤ → A) (x y i j : ℤ) (r : A) → i ≡ x → j ≡ y → f i j ≡ r → f x y ≡ r
+at_place f x y i j r p q e = cc
 
 -- the same for operands that show the same
 pub begun_along : {T E : Type 0} (r : Result T E) (f : ℤ → ℤ → Result ℤ Fault) (a b p q : Shown) (count : ℕ) (zs : List ℤ) → p ≡ a → q ≡ b →

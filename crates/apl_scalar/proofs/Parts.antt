@@ -1,7 +1,7 @@
 -- Pieces of the numbers of an operand.
-use Rattle.std.proofs.Common.{◌≡◌, ℕ, ◌+◌, ◌-◌, ◌<◌, ◌≤◌, ℤ, pos, List, map, length, get_or, take, drop, min, ap, sym, ◌∙◌, subst, arith, length-take, length-drop, get_or-take, get_or-drop}
+use Rattle.std.proofs.Common.{◌≡◌, ℕ, ◌-◌, ◌≤◌, ℤ, pos, List, map, length, take, drop, ap, sym, ◌∙◌, subst, arith, length-take, length-drop, get_or-take, get_or-drop}
 use Rattle.std.specs.Prelude.{slice_range}
-use Rattle.apl_scalar.specs.Operands.{Shown, Same, Each}
+use Rattle.apl_scalar.specs.Operands.{Same, Each}
 use Rattle.apl_scalar.specs.Lanes.{IsPiece}
 use Rattle.apl_scalar.specs.inside.Rooms.{IsEach}
 use Rattle.apl_scalar.proofs.OfLanes.{numbers-take, numbers-drop}

@@ -1,4 +1,4 @@
-use Rattle.std.proofs.Common.{◌≡◌, ℕ, length, take, [], refl, ap, sym, ◌∙◌, rules, arith, append-nil}
+use Rattle.std.proofs.Common.{◌≡◌, length, [], refl, ap, sym, ◌∙◌, rules, arith, append-nil}
 use Rattle.apl_scalar.proofs.OfLanes.{as_many, numbers-append}
 use Rattle.apl_scalar.proofs.Rooms.{room_size, written_over, taken_back}
 use Rattle.apl_scalar.proofs.blocks.push_block.Goals as goal

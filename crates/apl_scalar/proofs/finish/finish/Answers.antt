@@ -1,36 +1,31 @@
-use Rattle.std.proofs.Common.{◌≡◌, ℤ, List, [], ◌∷◌, ◌++◌, length, Ok, Err, ap, sym, ◌∙◌, subst, rules, arith, w64}
+use Rattle.std.proofs.Common.{◌≡◌, Ok, Err, sym, ◌∙◌, rules, arith, w64}
 use Rattle.std.proofs.lemmas.Int.{to_z-of_z}
 use Rattle.std.proofs.lemmas.Grind.{common_steps}
 use mir.Val.{SFits}
 use Rattle.apl_scalar.specs.Operands.{number_at, shown}
-use Rattle.apl_scalar.specs.Lanes.{IsBegun}
-use Rattle.apl_scalar.proofs.OfLanes.{as_many, numbers-append}
-use Rattle.apl_scalar.proofs.Begun.{begun_one, begun_fault}
+use Rattle.apl_scalar.proofs.OfLanes.{as_many}
+use Rattle.apl_scalar.proofs.Begun.{at_place, begun_push, begun_fault}
 use Rattle.apl_scalar.proofs.finish.finish.Goals as goal
 
 pub loop-k-preserved : goal.loop-k-preserved
 loop-k-preserved g c =
     let f = g.T.Tested.meaning in
-    let numbers = g.M.Lane.numbers in
-    let each = g.met.M.Lane.each in
+    let value = g.M.Lane.value in
     let x = number_at (shown c.args.a) in
     let y = number_at (shown c.args.b) in
     let k = c.loop-k.k in
-    let old = c.loop-k.made.items in
+    let i = c.at.result in
+    let j = c.at-in-loop-k.result in
     let z = c.in-Ok.value in
-    let fits_a : SFits w64 c.at.result = search rules in
-    let fits_b : SFits w64 c.at-in-loop-k.result = search rules in
-    let there : f c.at.result c.at-in-loop-k.result ≡ Ok (g.M.Lane.value z) = simp to_z-of_z at c.in-Ok.ensures.value in
-    let value : f (x k) (y k) ≡ Ok (g.M.Lane.value z) = ap (λ (i : ℤ). f i (y k)) (sym c.at.ensures) ∙ ap (λ (j : ℤ). f c.at.result j) (sym c.at-in-loop-k.ensures) ∙ there in
-    let more : c.push.new.self.items ≡ old ++ z ∷ [] = c.in_ok-push-in-Ok.ensures.items in
-    let made : numbers c.push.new.self.items ≡ numbers old ++ g.M.Lane.value z ∷ [] =
-    ap numbers more ∙ numbers-append g.M.Lane.value numbers each old (z ∷ []) ∙ ap (λ (l : List ℤ). numbers old ++ l) (each (z ∷ []))
-    in
+    let fits_i : SFits w64 i = search rules in
+    let fits_j : SFits w64 j = search rules in
+    let there : f i j ≡ Ok (value z) = simp to_z-of_z at c.in-Ok.ensures.value in
+    let before = c.loop-k.invariant in
     record {
-      here = let before = c.loop-k.invariant.here in grind (arith, common_steps);
+      here = let e = before.here in grind (arith, common_steps);
       begun =
-          subst (λ (l : List ℤ). IsBegun f x y c.args.count l) (sym made)
-          (begun_one f x y c.args.count k (numbers old) (g.M.Lane.value z) (c.loop-k.invariant.here ∙ sym (as_many g.M.Lane.value numbers each old)) c.loop-k-test.true value c.loop-k.invariant.begun);
+          begun_push value g.M.Lane.numbers g.met.M.Lane.each f x y c.args.count k c.loop-k.made.items c.push.new.self.items z before.here c.in_ok-push-in-Ok.ensures.items c.loop-k-test.true
+          (at_place f (x k) (y k) i j (Ok (value z)) c.at.ensures c.at-in-loop-k.ensures there) before.begun;
     }
 
 pub returns-in-Err : goal.returns-in-Err
@@ -40,9 +35,11 @@ returns-in-Err g c =
     let x = number_at (shown c.args.a) in
     let y = number_at (shown c.args.b) in
     let k = c.loop-k.k in
+    let i = c.at.result in
+    let j = c.at-in-loop-k.result in
     let old = c.loop-k.made.items in
-    let fits_a : SFits w64 c.at.result = search rules in
-    let fits_b : SFits w64 c.at-in-loop-k.result = search rules in
-    let there : f c.at.result c.at-in-loop-k.result ≡ Err c.in-Err.fault = simp to_z-of_z at c.in-Err.ensures.fault in
+    let fits_i : SFits w64 i = search rules in
+    let fits_j : SFits w64 j = search rules in
+    let there : f i j ≡ Err c.in-Err.fault = simp to_z-of_z at c.in-Err.ensures.fault in
     begun_fault f x y c.args.count k (numbers old) c.in-Err.fault (c.loop-k.invariant.here ∙ sym (as_many g.M.Lane.value numbers g.met.M.Lane.each old)) c.loop-k-test.true
-    (ap (λ (i : ℤ). f i (y k)) (sym c.at.ensures) ∙ ap (λ (j : ℤ). f c.at.result j) (sym c.at-in-loop-k.ensures) ∙ there) c.loop-k.invariant.begun
+    (at_place f (x k) (y k) i j (Err c.in-Err.fault) c.at.ensures c.at-in-loop-k.ensures there) c.loop-k.invariant.begun

@@ -1,4 +1,4 @@
-use Rattle.std.proofs.Common.{◌≡◌, ap, sym, ◌∙◌}
+use Rattle.std.proofs.Common.{ap, sym, ◌∙◌}
 use Rattle.apl_scalar.specs.Operands.{shown, Same, Each}
 use Rattle.apl_scalar.specs.Lanes.{laid_in}
 use Rattle.apl_scalar.proofs.Begun.{begun_along}

@@ -1,4 +1,4 @@
-use Rattle.std.proofs.Common.{◌-◌, ◌≤◌, ◌<◌, ◌∙◌, length, arith}
+use Rattle.std.proofs.Common.{◌-◌, ◌<◌, ◌∙◌, length, arith}
 use Rattle.std.proofs.lemmas.Grind.{common_steps}
 use Rattle.apl_scalar.proofs.OfLanes.{as_many, numbers-take}
 use Rattle.apl_scalar.proofs.Parts.{numbers-range, piece_range, piece_spread}

@@ -1,4 +1,4 @@
-use Rattle.std.proofs.Common.{◌≡◌, ◌-◌, ℤ, List, pos, length, get_or, take, drop, ap, ◌∙◌, arith, length-drop, get_or-drop}
+use Rattle.std.proofs.Common.{◌-◌, ℤ, List, pos, length, get_or, drop, ap, ◌∙◌, arith, length-drop, get_or-drop}
 use Rattle.std.proofs.lemmas.List.{take_all}
 use Rattle.apl_scalar.proofs.OfLanes.{numbers-drop}
 use Rattle.apl_scalar.proofs.line.EachLine.after.Goals as goal
