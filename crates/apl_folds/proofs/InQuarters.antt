@@ -11,10 +11,6 @@ fold_cons : (f : ℤ → ℤ → Result ℤ Fault) (x : ℤ) (xs : List ℤ) →
 fold_cons f x [] h = absurd (omega arith)
 fold_cons f x (y ∷ ys) h = refl
 
-some_more : (xs ys : List ℤ) → 0 < length ys → 0 < length (xs ++ ys)
-some_more [] ys h = h
-some_more (x ∷ xs) ys h = omega arith
-
 -- numbers of which the fold is known, before others
 fold_append : (f : ℤ → ℤ → Result ℤ Fault) → IsAssociative f → (xs ys : List ℤ) (x : ℤ) → fold_by f xs ≡ Ok x → 0 < length ys → fold_by f (xs ++ ys) ≡ and_then (fold_by f ys) (λ y. f x y)
 fold_append f a [] ys x e h = absurd (cc)
