@@ -2,6 +2,7 @@ pub mod Signs
 pub mod Rooms
 pub mod Extension
 pub mod Whole
+pub mod Alone
 pub mod Rests
 pub mod Growth
 pub mod Flags
