@@ -1,5 +1,5 @@
 -- Functions of numbers that are the only argument.
-use Rattle.std.proofs.Common.{◌≡◌, ◌⊎◌, inl, inr, ℕ, ℤ, pos, List, length, get_or, Result, Ok, ap, sym, ◌∙◌}
+use Rattle.std.proofs.Common.{◌≡◌, ◌⊎◌, inl, inr, ℕ, ℤ, pos, List, length, get_or, Ok, ap, sym, ◌∙◌}
 use Rattle.std.specs.List.{range_with_len}
 use Rattle.apl_arrays.specs.Results.{all_ok}
 use Rattle.apl_scalar.specs.declared.function.Monadic.{Monadic}

@@ -1,4 +1,4 @@
-use Rattle.std.proofs.Common.{◌≡◌, ℤ, List, length, get_or, pos, Ok, refl, ap, sym, ◌∙◌}
+use Rattle.std.proofs.Common.{ℤ, List, length, get_or, pos, Ok, refl, ap, sym, ◌∙◌}
 use Rattle.apl_arrays.proofs.Exits.{answers_along}
 use Rattle.apl_arrays.specs.Numbers.{kept_values, values}
 use Rattle.apl_scalar.specs.declared.function.Monadic.TheVariants as one
