@@ -5,6 +5,7 @@ pub mod Filling
 pub mod Rooms
 pub mod Extension
 pub mod Whole
+pub mod Alone
 pub mod Rests
 pub mod Growth
 pub mod Flags

@@ -1,4 +1,4 @@
-use Rattle.std.proofs.Common.{◌≡◌, ◌%◌, ◌^◌, pos, Ok, get_or, FitsSigned, to_z, of_z, w64, ap, sym, ◌∙◌, arith, rules}
+use Rattle.std.proofs.Common.{◌≡◌, ◌%◌, ◌^◌, pos, Ok, FitsSigned, to_z, of_z, w64, ap, sym, ◌∙◌, arith, rules}
 use Rattle.std.specs.Prelude.{bit_or}
 use Rattle.std.proofs.lemmas.Int.{to_z-of_z}
 use Rattle.apl_scalar.specs.Functions.{quotient}

@@ -1,4 +1,4 @@
-use Rattle.std.proofs.Common.{◌≡◌, pos, Ok, FitsSigned, w8, w64, subst, sym, ◌∙◌, rules, arith}
+use Rattle.std.proofs.Common.{◌≡◌, Ok, FitsSigned, w8, w64, subst, sym, ◌∙◌, rules, arith}
 use Rattle.std.proofs.lemmas.Int.{to_z-of_z}
 use Rattle.apl_scalar.specs.Functions.{logical}
 use Rattle.apl_scalar.specs.Operands.{IsTruth}
