@@ -16,7 +16,6 @@ pub mod Faults
 pub mod ByPlaces
 pub mod Whole
 pub mod Vectors
-pub mod OfLanes
 pub mod OrOfLanes
 pub mod InRooms
 pub mod Runs

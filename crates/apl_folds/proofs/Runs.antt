@@ -13,7 +13,7 @@ use Rattle.apl_folds.specs.Lines.{fold_by, line_of, IsLine}
 use Rattle.apl_folds.specs.Rooms.{HaveRoom}
 use Rattle.apl_folds.proofs.ByPlaces.{before_first, line_of_place, one_longer, prefix_told, prefix_before, prefixes_whole}
 use Rattle.apl_folds.proofs.InRooms.{line_magnitudes}
-use Rattle.apl_folds.proofs.OfLanes.{as_many}
+use Rattle.apl_scalar.proofs.OfLanes.{as_many}
 use Rattle.apl_folds.proofs.Told.{filled_more}
 use Rattle.apl_folds.proofs.Totals.{total_small}
 

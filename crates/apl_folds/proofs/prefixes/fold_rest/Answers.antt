@@ -1,6 +1,6 @@
 use Rattle.std.proofs.Common.{ℤ, List, length, ◌<◌, arith, sym, ◌∙◌}
 use Rattle.apl_folds.proofs.ByPlaces.{prefix_fault}
-use Rattle.apl_folds.proofs.OfLanes.{as_many}
+use Rattle.apl_scalar.proofs.OfLanes.{as_many}
 use Rattle.apl_folds.proofs.prefixes.fold_rest.Goals as goal
 
 pub returns-in-Err-clause-prefixes : goal.returns-in-Err-clause-prefixes

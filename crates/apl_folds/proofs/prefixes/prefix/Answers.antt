@@ -2,7 +2,7 @@ use Rattle.std.proofs.Common.{ℤ, List, length, ◌≡◌, ℕ, ◌+◌, ◌-�
 use Rattle.apl_folds.specs.Lines.{IsLine}
 use Rattle.apl_folds.specs.inside.Prefixes.{index_along}
 use Rattle.apl_folds.proofs.ByPlaces.{line_of_place}
-use Rattle.apl_folds.proofs.OfLanes.{as_many}
+use Rattle.apl_scalar.proofs.OfLanes.{as_many}
 use Rattle.apl_folds.proofs.prefixes.prefix.Goals as goal
 
 pub fold_strided-requires : goal.fold_strided-requires

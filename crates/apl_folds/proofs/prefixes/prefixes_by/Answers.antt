@@ -2,7 +2,7 @@ use Rattle.std.proofs.Common.{rules, ◌≡◌, ◌++◌, ℕ, ℤ, List, pos, l
 use Rattle.std.proofs.Math.Seq.{take-append_seam}
 use Rattle.std.proofs.lemmas.List.{length-replicate}
 use Rattle.apl_folds.proofs.ByPlaces.{prefixes_whole}
-use Rattle.apl_folds.proofs.OfLanes.{as_many}
+use Rattle.apl_scalar.proofs.OfLanes.{as_many}
 use Rattle.apl_folds.specs.inside.Prefixes.{ArePrefixes}
 use Rattle.apl_folds.proofs.prefixes.prefixes_by.Goals as goal
 

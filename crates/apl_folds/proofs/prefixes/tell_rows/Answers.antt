@@ -1,7 +1,7 @@
 use Rattle.std.proofs.Common.{arith, ◌≡◌, ◌<◌, ◌+◌, ◌*◌, ◌/◌, ◌%◌, ℕ, ℤ, List, length, get_or, ap, sym, subst, ◌∙◌}
 use Rattle.apl_folds.specs.inside.Prefixes.{index_along}
 use Rattle.apl_folds.proofs.ByPlaces.{before_step, index_in_row, all_rows}
-use Rattle.apl_folds.proofs.OfLanes.{as_many}
+use Rattle.apl_scalar.proofs.OfLanes.{as_many}
 use Rattle.apl_folds.proofs.Rows.{whole_row}
 use Rattle.apl_folds.proofs.prefixes.tell_rows.Goals as goal
 

@@ -1,6 +1,6 @@
 use Rattle.std.proofs.Common.{rules, ◌≡◌, ℕ, length, Ok, ap, sym, subst, ◌∙◌}
 use Rattle.apl_folds.specs.inside.Prefixes.{ArePrefixes}
-use Rattle.apl_folds.proofs.OfLanes.{as_many}
+use Rattle.apl_scalar.proofs.OfLanes.{as_many}
 use Rattle.apl_folds.proofs.Runs.{all_written}
 use Rattle.apl_folds.proofs.running.run.Goals as goal
 

@@ -4,7 +4,7 @@ use Rattle.apl_arrays.specs.Widths.{more_than_w32}
 use Rattle.apl_folds.specs.Rooms.{HaveRoom}
 use Rattle.apl_folds.specs.inside.Sums.{total}
 use Rattle.apl_folds.proofs.InRooms.{room_fold}
-use Rattle.apl_folds.proofs.OfLanes.{as_many}
+use Rattle.apl_scalar.proofs.OfLanes.{as_many}
 use Rattle.apl_folds.proofs.sums.sum_row.Goals as goal
 
 pub returns-then-has_room : goal.returns-then-has_room
