@@ -1,4 +1,7 @@
 pub mod Signs
+pub mod Widths
+pub mod WideProducts
+pub mod Filling
 pub mod Rooms
 pub mod Extension
 pub mod Whole
@@ -9,7 +12,6 @@ pub mod Flags
 pub mod Truths
 pub mod Verdicts
 pub mod Scalars
-pub mod LowHalves
 pub mod Inverses
 pub mod Turns
 pub mod Multiples
