@@ -16,3 +16,6 @@ pub mod Inverses
 pub mod Turns
 pub mod Multiples
 pub mod Exact
+pub mod OfLanes
+pub mod Begun
+pub mod Parts

@@ -1,18 +1,13 @@
-use Rattle.std.proofs.Common.{◌≡◌, ◌++◌, ◌+◌, ◌-◌, ℕ, List, length, take, replicate, ap, ◌∙◌, arith, rules, pos}
-use Rattle.std.specs.Vec.{vec_len}
-use Rattle.std.proofs.lemmas.Grind.{common_steps}
-use Rattle.std.proofs.lemmas.Nat.{pow_pos}
-use mir.Val.{hbits}
-use Rattle.apl_scalar.proofs.Filling.{numbers_grown}
+use Rattle.std.proofs.Common.{◌++◌, ◌+◌, pos, replicate, ap, ◌∙◌, rules, arith}
+use Rattle.apl_scalar.proofs.OfLanes.{numbers-append, numbers-replicate}
+use Rattle.apl_scalar.proofs.Rooms.{resized}
 use Rattle.apl_scalar.proofs.room.grow.Goals as goal
-
-resized : {A : Type 0} (old new : List A) (all len n : ℕ) (x : A) → len ≡ length old → all ≡ len + n → new ≡ take all old ++ replicate (all - len) x → new ≡ old ++ replicate n x
-resized old new all len n x l a e = grind (arith, common_steps)
 
 pub returns-clause-grown : goal.returns-clause-grown
 returns-clause-grown g c =
-    let len : vec_len c.args.out.now ≡ length c.args.out.now.items = search rules in
-    let all : c.in-Some.all ≡ vec_len c.args.out.now + c.args.count = c.in-Some.ensures.1 ∙ ap (λ n. n + c.args.count) c.len-before.ensures in
-    numbers_grown g.L.Lane.value g.L.Lane.numbers g.met.L.Lane.each c.args.out.now.items c.resize.new.self.items c.args.count c.low.result (pos 0)
-    (c.low.ensures (record { sfits = pow_pos (hbits g.L.Lane.width) }))
-    (resized c.args.out.now.items c.resize.new.self.items c.in-Some.all (vec_len c.args.out.now) c.args.count c.low.result len all c.in_ok-resize.ensures.items)
+    let numbers = g.L.Lane.numbers in
+    let old = c.args.out.now in
+    let low = c.low.result in
+    ap numbers (resized old.items c.resize.new.self.items low c.args.count old.len c.in-Some.all (search rules) (omega arith) c.in_ok-resize.ensures.items)
+    ∙ numbers-append g.L.Lane.value numbers g.met.L.Lane.each old.items (replicate c.args.count low)
+    ∙ ap (λ zs. numbers old.items ++ zs) (numbers-replicate g.L.Lane.value numbers g.met.L.Lane.each c.args.count low (pos 0) (c.low.ensures (search rules)))
