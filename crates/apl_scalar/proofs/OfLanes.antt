@@ -1,5 +1,5 @@
 -- Lists of numbers in a type that stores them, of which each item is a number.
-use Rattle.std.proofs.Common.{◌≡◌, ℕ, ℤ, pos, ◌+◌, ◌<◌, List, ◌++◌, map, length, take, drop, get_or, replicate, ap, sym, ◌∙◌}
+use Rattle.std.proofs.Common.{◌≡◌, ℕ, ℤ, pos, ◌<◌, List, ◌++◌, map, length, take, drop, get_or, replicate, ap, sym, ◌∙◌}
 use Rattle.std.proofs.lemmas.List.{length-map, take-map, drop-map, get_or-map, map-append}
 use lib.LanesLaws.{map-replicate}
 

@@ -1,4 +1,4 @@
-use Rattle.std.proofs.Common.{◌≡◌, ◌<◌, length, ℤ, ◌*ℤ◌, FitsSigned, Ok, arith, rules, w64}
+use Rattle.std.proofs.Common.{◌≡◌, ◌<◌, length, ◌*ℤ◌, FitsSigned, Ok, arith, rules, w64}
 use Rattle.std.proofs.lemmas.Int.{to_z-of_z}
 use Rattle.apl_scalar.specs.Functions.{in_range}
 use Rattle.apl_scalar.proofs.Exact.{each_step}

@@ -1,4 +1,4 @@
-use Rattle.std.proofs.Common.{◌++◌, ◌+◌, pos, replicate, ap, ◌∙◌, rules, arith}
+use Rattle.std.proofs.Common.{◌++◌, pos, replicate, ap, ◌∙◌, rules, arith}
 use Rattle.apl_scalar.proofs.OfLanes.{numbers-append, numbers-replicate}
 use Rattle.apl_scalar.proofs.Rooms.{resized}
 use Rattle.apl_scalar.proofs.room.grow.Goals as goal
