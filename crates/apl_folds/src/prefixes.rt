@@ -8,7 +8,7 @@ ghost use Rattle.apl_folds.specs.inside.Prefixes.{before, prefix_fold, prefix_fo
 
 use crate::ends::Ends;
 use crate::kept::Kept;
-use crate::lanes::{has_room, most, number_at};
+use crate::lanes::{has_room, most_of, number_at};
 use crate::line::fold_strided;
 use crate::running::{Chosen, Total, run};
 use crate::scale::Scale;
@@ -248,7 +248,7 @@ fn sums<L: Lane>(alloc: Global, numbers: &[L], axis: Axis) -> Result<NumberVec, 
     requires { AreWhole (L.numbers numbers.now) axis }
     ensures { Answers (λ v. kept_values v) (prefix_folds (dyadic_of two.Plus) (L.numbers numbers.now) axis) result }
 {
-    let bound = most(numbers);
+    let bound = most_of(numbers, axis.length);
     if has_room::<i32>(bound, axis.length) {
         Ok(run::<Total, L, i32>(alloc, numbers, axis)?)
     } else if has_room::<i64>(bound, axis.length) {
