@@ -1,5 +1,6 @@
 use Rattle.std.proofs.Common.{rules, ◌≡◌, ap, sym, ◌∙◌}
 use Rattle.std.specs.Prelude.{option_copied}
+use Rattle.std.proofs.lemmas.Result.{IfOk-weaker}
 use Rattle.apl_code.specs.Code.{is_end}
 use Rattle.apl_frames.specs.declared.frame.Stage.TheVariants.{Emptied}
 use Rattle.apl_frames.specs.Ends.{has_place}
@@ -26,18 +27,22 @@ leaving-requires-clause-placed c =
     let e = at_end line i c.next-instr.ensures.stands ready c.next-instr.ensures.next (ap is_end c.in-End.is) in
     λ h. e.placed (ap has_place (end_is line i c.in-End.ending e c.in-End.is) ∙ h)
 
-pub returns-clause-departs : goal.returns-clause-departs
-returns-clause-departs c =
+pub returns : goal.returns
+returns c =
     let line = c.in-Some.line.now in
     let i = c.next-instr.result.now in
     let does = sym c.line.ensures ∙ ap option_copied c.in-Some.is in
     let ready = is_ready c.args.contexts.now line c.requires.stacked does (λ (e : line.stage ≡ Emptied). no_both (rw (c.stage.ensures ∙ e) at c.if-eq.ensures)) in
     let e = at_end line i c.next-instr.ensures.stands ready c.next-instr.ensures.next (ap is_end c.in-End.is) in
-    λ ms stops origin sound. ends_well ms (settings stops c.args.traces.now origin) c.args.contexts.now line sound does i c.in-End.ending c.in_ok-departure.departure c.constants.result.now c.operands.result.now e c.in-End.is c.constants.ensures c.operands.ensures c.in_ok-departure.ensures
+    IfOk-weaker c.leaving.result _ _
+    (λ departure left ms stops origin sound. ends_well ms (settings stops c.args.traces.now origin) c.args.contexts.now line sound does i c.in-End.ending departure c.constants.result.now c.operands.result.now e c.in-End.is c.constants.ensures c.operands.ensures left)
+    c.leaving.ensures
 
-pub returns-then-eq-clause-departs : goal.returns-then-eq-clause-departs
-returns-then-eq-clause-departs c =
+pub returns-then-eq : goal.returns-then-eq
+returns-then-eq c =
     let line = c.in-Some.line.now in
     let does = sym c.line.ensures ∙ ap option_copied c.in-Some.is in
     let emptied : line.stage ≡ Emptied = search rules in
-    λ ms stops origin sound. empties_well ms (settings stops c.args.traces.now origin) c.args.contexts.now line sound does c.in_ok-finishing.field-0 emptied c.in_ok-finishing.ensures
+    IfOk-weaker c.finishing.result _ _
+    (λ departure left ms stops origin sound. empties_well ms (settings stops c.args.traces.now origin) c.args.contexts.now line sound does departure emptied left)
+    c.finishing.ensures
