@@ -83,7 +83,7 @@ index_in_row axis row q l h = ap (λ (m : ℕ). m % axis.length) (ap (λ (p : �
     there q x l = omega arith
 
 -- the line of a prefix is that of the prefix before and the number at its place
-one_longer : (zs : List ℤ) (axis : Axis) (q : ℕ) → axis.down ≡ 0 →
+pub one_longer : (zs : List ℤ) (axis : Axis) (q : ℕ) → axis.down ≡ 0 →
     line_of (pos 0) zs axis (q - index_along axis q * axis.up) (index_along axis q) ++ get_or zs q (pos 0) ∷ [] ≡ line_of (pos 0) zs axis (q - index_along axis q * axis.up) (index_along axis q + 1)
 one_longer zs axis q d =
     let k : ℕ = index_along axis q in

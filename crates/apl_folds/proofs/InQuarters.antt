@@ -5,15 +5,11 @@ use Rattle.apl_faults.specs.declared.fault.Fault.{Fault}
 use Rattle.apl_arrays.specs.Results.{and_then}
 use Rattle.apl_folds.specs.Chains.{IsAssociative}
 use Rattle.apl_folds.specs.Lines.{fold_by}
-use Rattle.apl_folds.proofs.OfLanes.{as_many, number_of_item, numbers-append}
+use Rattle.apl_scalar.proofs.OfLanes.{as_many, number_of_item, numbers-append}
 
 fold_cons : (f : ℤ → ℤ → Result ℤ Fault) (x : ℤ) (xs : List ℤ) → 0 < length xs → fold_by f (x ∷ xs) ≡ and_then (fold_by f xs) (λ z. f x z)
 fold_cons f x [] h = absurd (omega arith)
 fold_cons f x (y ∷ ys) h = refl
-
-some_more : (xs ys : List ℤ) → 0 < length ys → 0 < length (xs ++ ys)
-some_more [] ys h = h
-some_more (x ∷ xs) ys h = omega arith
 
 -- numbers of which the fold is known, before others
 fold_append : (f : ℤ → ℤ → Result ℤ Fault) → IsAssociative f → (xs ys : List ℤ) (x : ℤ) → fold_by f xs ≡ Ok x → 0 < length ys → fold_by f (xs ++ ys) ≡ and_then (fold_by f ys) (λ y. f x y)

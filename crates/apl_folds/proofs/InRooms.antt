@@ -55,14 +55,18 @@ room_fold w zs count bounded h size some =
     fold_total zs (omega arith) (omega (arith, magnitudes_within h.bound zs h.within))
 
 -- a line of such numbers
-pub line_room : (zs : List ℤ) (n bound : ℕ) (axis : Axis) (p count : ℕ) → AreWithin bound zs → length zs ≡ n → IsLine n axis p count → ((z : ℤ) → unsigned_abs z ≤ count * bound → FitsSigned w64 z) →
-    magnitudes (line_of (pos 0) zs axis p count) < 2 ^ 63
-line_room zs n bound axis p count within size line fits =
-    let all : FitsSigned w64 (pos (count * bound)) = fits (pos (count * bound)) (omega arith) in
-    let near : count * bound < 2 ^ 63 = omega (arith, ints) in
+pub line_magnitudes : (zs : List ℤ) (n bound : ℕ) (axis : Axis) (p count : ℕ) → AreWithin bound zs → length zs ≡ n → IsLine n axis p count → magnitudes (line_of (pos 0) zs axis p count) ≤ count * bound
+line_magnitudes zs n bound axis p count within size line =
     let raw : List ℤ = line_of (pos 0) zs axis p count in
     let few : length raw ≡ count = length-line (pos 0) zs axis p count in
     let each : AreWithin bound raw =
     λ k h. subst (λ (z : ℤ). unsigned_abs z ≤ bound) (sym (line_at (pos 0) zs axis p count k (omega arith))) (within (p + step_at axis k) (omega (arith, line.placed k (omega (arith, line.within))))) in
     let same : length raw * bound ≡ count * bound = ap (λ (m : ℕ). m * bound) few in
     omega (arith, magnitudes_within bound raw each)
+
+pub line_room : (zs : List ℤ) (n bound : ℕ) (axis : Axis) (p count : ℕ) → AreWithin bound zs → length zs ≡ n → IsLine n axis p count → ((z : ℤ) → unsigned_abs z ≤ count * bound → FitsSigned w64 z) →
+    magnitudes (line_of (pos 0) zs axis p count) < 2 ^ 63
+line_room zs n bound axis p count within size line fits =
+    let all : FitsSigned w64 (pos (count * bound)) = fits (pos (count * bound)) (omega arith) in
+    let near : count * bound < 2 ^ 63 = omega (arith, ints) in
+    omega (arith, line_magnitudes zs n bound axis p count within size line)

@@ -1,4 +1,3 @@
-pub mod Chains
 pub mod Ends
 pub mod Prefixes
 pub mod Reach

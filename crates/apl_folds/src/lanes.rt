@@ -3,6 +3,7 @@ ghost use Rattle.std.specs.Prelude.{◌≡◌, ◌<◌, ◌≤◌, ◌+◌, ◌*
 ghost use Rattle.apl_folds.specs.Rooms.{AreWithin};
 
 use apl_arrays::Lane;
+use apl_scalar::wider;
 
 /// The number at a place.
 #[inline(always)]
@@ -36,6 +37,29 @@ pub fn most<L: Lane>(numbers: &[L]) -> u64
         0x8000_0000
     } else {
         0x8000_0000_0000_0000
+    }
+}
+
+/// The same by their bits: at most twice the largest magnitude.
+fn most_by_bits<L: Lane>(numbers: &[L]) -> u64
+    ensures { AreWithin result (L.numbers numbers.now) }
+{
+    let mut bound = 0u64;
+    for number in numbers {
+        bound = wider(bound, number.wide().unsigned_abs());
+    }
+    bound
+}
+
+/// The same by their bits only where their type alone leaves no room in 64 bits for the sum of so many.
+pub(crate) fn most_of<L: Lane>(numbers: &[L], count: usize) -> u64
+    ensures { AreWithin result (L.numbers numbers.now) }
+{
+    let bound = most(numbers);
+    if has_room::<i64>(bound, count) {
+        bound
+    } else {
+        most_by_bits(numbers)
     }
 }
 

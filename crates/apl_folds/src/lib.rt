@@ -1,7 +1,6 @@
 //! Folds of numbers, and reduction and scan along an axis.
 #![tactic(auto)]
 
-mod chains;
 mod characters;
 mod choice;
 mod columns;

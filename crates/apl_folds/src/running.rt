@@ -1,6 +1,7 @@
 // Scans of numbers in row-major order, each prefix from the one before it, where all have values.
 ghost use Rattle.std.specs.Prelude.{◌≡◌, ◌<◌, ◌≤◌, ◌+◌, ◌*◌, ◌∷◌, ◌++◌, [], ℤ, List, Result, length, IfOk, Ok};
 ghost use Rattle.apl_faults.specs.declared.fault.Fault.{Fault};
+ghost use Rattle.apl_arrays.specs.Numbers.{kept_values};
 ghost use Rattle.apl_scalar.specs.declared.function.Dyadic.TheVariants as two;
 ghost use Rattle.apl_scalar.specs.Functions.{dyadic_of};
 ghost use Rattle.apl_folds.specs.Lines.{fold_by};
@@ -9,7 +10,7 @@ ghost use Rattle.apl_folds.specs.inside.Sums.{HasRoom};
 
 use crate::choice::Choice;
 use crate::sums::plus;
-use apl_arrays::{Axis, Lane};
+use apl_arrays::{Axis, Lane, NumberVec};
 use std::alloc::{AllocError, Global};
 use std::marker::PhantomData;
 
@@ -167,16 +168,16 @@ pub(crate) fn run<R: Running<L, M>, L: Lane, M: Lane>(
     alloc: Global,
     numbers: &[L],
     axis: Axis,
-) -> Result<Vec<M>, AllocError>
+) -> Result<NumberVec, AllocError>
     requires whole { AreWhole (L.numbers numbers.now) axis }
     requires room { AllHaveRoom R.room (L.numbers numbers.now) axis }
-    ensures { IfOk result (λ out. prefix_folds R.meaning (L.numbers numbers.now) axis ≡ Ok (M.numbers out.items)) }
+    ensures { IfOk result (λ out. prefix_folds R.meaning (L.numbers numbers.now) axis ≡ Ok (kept_values out)) }
 {
     let mut out = vec![in alloc; M::low(0); numbers.len()]?;
     if axis.up == 1 {
         run_lines::<R, L, M>(numbers, axis, out.as_mut_slice());
-    } else {
-        run_rows::<R, L, M>(numbers, axis, out.as_mut_slice());
+        return Ok(M::kept(out));
     }
-    Ok(out)
+    run_rows::<R, L, M>(numbers, axis, out.as_mut_slice());
+    Ok(M::kept(out))
 }

@@ -108,12 +108,16 @@ impl Scalar for Magnitude {
 impl InLanes for Magnitude {
     #[inline(always)]
     fn flagged<L: Computed>(_x: L, y: L) -> (L, L) {
+        // What is read fits its lane.
+        let _number = y.wide();
         let (negated, flag) = L::flagged_difference(L::of(0), y);
         (y.greater(negated), flag)
     }
 
     #[inline(always)]
     fn widened<L: Narrow>(_x: L, y: L) -> L::Wider {
+        // What is read fits its lane.
+        let _number = y.wide();
         y.widen().greater(L::wide_difference(L::of(0), y))
     }
 }

@@ -3,10 +3,10 @@ ghost use Rattle.std.specs.Prelude.{◌≡◌, ◌≤◌, ◌<◌, ◌+◌, ℕ,
 ghost use Rattle.apl_faults.specs.declared.fault.Fault.{Fault};
 ghost use Rattle.apl_scalar.specs.Operands.{number_at, shown, AreValues, Covers};
 ghost use Rattle.apl_scalar.specs.Lanes.{shown_in, AddsValues, IsBegun, SomeHasNoneIn};
-ghost use Rattle.apl_scalar.specs.inside.Rooms.{Holds, IsReady};
+ghost use Rattle.apl_scalar.specs.inside.Rooms.{HasRoom, Holds, IsReady};
 
 use crate::computed::Computed;
-use crate::line::{Each, Line, Same};
+use crate::line::{Each, Laid, Line, Same};
 use crate::operand::{Operand, Source};
 use crate::pieces::{lay, piece};
 use crate::room::grow;
@@ -14,7 +14,7 @@ use apl_arrays::Lane;
 use std::alloc::AllocError;
 
 /// How many values are made at a time.
-const BLOCK: usize = 256;
+pub(crate) const BLOCK: usize = 256;
 
 /// Below this many places less room is made ready.
 pub(crate) const FEW: usize = 16;
@@ -80,7 +80,8 @@ pub(crate) fn push_lines<L: Lane, M: Lane, K: Kernel<L, M>, X: Line<L>, Y: Line<
     Ok(())
 }
 
-/// Appends the values for the places from the next one to another, and says whether the lane holds them.
+/// Appends the values for the places from the next one to another, and says whether the lane holds them. For two numbers that serve at each place
+/// it makes none.
 fn push_pieces<L: Lane, M: Lane, K: Kernel<L, M>>(
     out: &mut Vec<M>,
     a: &Source<'_, L>,
@@ -100,23 +101,23 @@ fn push_pieces<L: Lane, M: Lane, K: Kernel<L, M>>(
 {
     let from = out.len();
     let some = till - from;
-    match a {
-        Source::One(x) if room_a.is_empty() => {
-            let y = Each(piece(b, from, till, room_b));
-            push_block::<L, M, K, Same<L>, Each<'_, L>>(out, Same(*x), y, some)
-        }
-        _ => {
-            let x = Each(piece(a, from, till, room_a));
-            match b {
-                Source::One(y) if room_b.is_empty() => {
-                    push_block::<L, M, K, Each<'_, L>, Same<L>>(out, x, Same(*y), some)
-                }
-                _ => {
-                    let y = Each(piece(b, from, till, room_b));
-                    push_block::<L, M, K, Each<'_, L>, Each<'_, L>>(out, x, y, some)
-                }
+    let x = piece(a, from, till, room_a);
+    let y = piece(b, from, till, room_b);
+    match x {
+        Laid::One(x) => match y {
+            Laid::One(_) => Ok(false),
+            Laid::Many(y) => {
+                push_block::<L, M, K, Same<L>, Each<'_, L>>(out, Same(x), Each(y), some)
             }
-        }
+        },
+        Laid::Many(x) => match y {
+            Laid::One(y) => {
+                push_block::<L, M, K, Each<'_, L>, Same<L>>(out, Each(x), Same(y), some)
+            }
+            Laid::Many(y) => {
+                push_block::<L, M, K, Each<'_, L>, Each<'_, L>>(out, Each(x), Each(y), some)
+            }
+        },
     }
 }
 
@@ -164,6 +165,7 @@ fn push_by_second<L: Computed, M: Lane, K: Kernel<L, M>, const N: usize>(
     requires b { Covers (shown_in L.value L.numbers b.now) count }
     requires room { IsReady L.value a.now (min count BLOCK) (L.numbers room.old) }
     requires enough { min count BLOCK ≤ N }
+    requires memory { HasRoom L.row N }
     requires begun { IsBegun K.meaning (number_at (shown_in L.value L.numbers a.now)) (number_at (shown_in L.value L.numbers b.now)) count (M.numbers out.old.items) }
     ensures { OnOk result (IsBegun K.meaning (number_at (shown_in L.value L.numbers a.now)) (number_at (shown_in L.value L.numbers b.now)) count (M.numbers out.new.items)) }
 {
@@ -193,6 +195,7 @@ fn push_in_room<L: Computed, M: Lane, K: Kernel<L, M>, const N: usize>(
     requires a { Covers (shown_in L.value L.numbers a.now) count }
     requires b { Covers (shown_in L.value L.numbers b.now) count }
     requires enough { min count BLOCK ≤ N }
+    requires memory { HasRoom L.row N }
     requires begun { IsBegun K.meaning (number_at (shown_in L.value L.numbers a.now)) (number_at (shown_in L.value L.numbers b.now)) count (M.numbers out.old.items) }
     ensures { OnOk result (IsBegun K.meaning (number_at (shown_in L.value L.numbers a.now)) (number_at (shown_in L.value L.numbers b.now)) count (M.numbers out.new.items)) }
 {
@@ -221,6 +224,7 @@ pub(crate) fn push_by_room<L: Computed, M: Lane, K: Kernel<L, M>>(
 ) -> Result<(), AllocError>
     requires a { Covers (shown a) count }
     requires b { Covers (shown b) count }
+    requires memory { HasRoom L.row BLOCK }
     requires begun { IsBegun K.meaning (number_at (shown a)) (number_at (shown b)) count (M.numbers out.old.items) }
     ensures { OnOk result (IsBegun K.meaning (number_at (shown a.entry)) (number_at (shown b.entry)) count (M.numbers out.new.items)) }
 {

@@ -145,7 +145,7 @@ impl Computed for i32 {
     #[inline(always)]
     fn flagged_product(x: i32, y: i32) -> (i32, i32) {
         let product = i64::from(x) * i64::from(y);
-        let low = i32::low(product);
+        let low = ((product.cast_unsigned() & 0xFFFF_FFFF) as u32).cast_signed();
         let far = (product >> 32) as i32 ^ (low >> 31);
         (low, far | far.wrapping_neg())
     }
@@ -200,7 +200,10 @@ impl Computed for i64 {
 
     #[inline(always)]
     fn fill_small<X: Line<i64>, Y: Line<i64>>(x: X, y: Y, out: &mut [i64]) -> bool {
-        products::begins_low(x, y, out.len()) && products::fill_low(x, y, out)
+        if products::begins_low(x, y, out.len()) && products::fill_low(x, y, out) {
+            return true;
+        }
+        products::fill_tested(x, y, out)
     }
 
     #[inline(always)]

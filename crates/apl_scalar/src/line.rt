@@ -3,6 +3,13 @@ ghost use Rattle.std.specs.Prelude.{◌≡◌, ◌<◌, ◌+◌, ℕ, ℤ, lengt
 
 use apl_arrays::Lane;
 
+/// Numbers by places where they lie: one that serves at each place, or one for each place.
+#[derive(Clone, Copy)]
+pub(crate) enum Laid<'a, L> {
+    One(L),
+    Many(&'a [L]),
+}
+
 /// Numbers by places.
 pub(crate) trait Line<L: Lane>: Copy {
     /// The number for a place.

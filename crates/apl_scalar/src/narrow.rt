@@ -1,6 +1,7 @@
 // Lanes from which values are widened.
-ghost use Rattle.std.specs.Prelude.{◌≡◌, ◌+ℤ◌, ◌-ℤ◌, ◌*ℤ◌, ℤ, FitsSigned};
+ghost use Rattle.std.specs.Prelude.{◌≡◌, ◌+ℤ◌, ◌-ℤ◌, ◌*ℤ◌, ℤ, FitsSigned, Ok};
 ghost use Rattle.apl_arrays.specs.Widths.{more_than_w32};
+ghost use Rattle.apl_scalar.specs.Functions.{in_range};
 ghost use Rattle.apl_scalar.specs.inside.Widths.{more_than_w8};
 
 use crate::computed::Computed;
@@ -14,13 +15,13 @@ pub(crate) trait Narrow: Computed {
         ensures { Self.Wider.value result ≡ Self.value self };
 
     fn wide_sum(x: Self, y: Self) -> Self::Wider
-        ensures { Self.Wider.value result ≡ Self.value x +ℤ Self.value y };
+        ensures { in_range (Self.value x +ℤ Self.value y) ≡ Ok (Self.Wider.value result) };
 
     fn wide_difference(x: Self, y: Self) -> Self::Wider
-        ensures { Self.Wider.value result ≡ Self.value x -ℤ Self.value y };
+        ensures { in_range (Self.value x -ℤ Self.value y) ≡ Ok (Self.Wider.value result) };
 
     fn wide_product(x: Self, y: Self) -> Self::Wider
-        ensures { Self.Wider.value result ≡ Self.value x *ℤ Self.value y };
+        ensures { in_range (Self.value x *ℤ Self.value y) ≡ Ok (Self.Wider.value result) };
 
     ghost within: { (z : ℤ) → FitsSigned Self.width z → FitsSigned Self.Wider.width z };
 }

@@ -1,9 +1,10 @@
 // The numbers of an operand by the places of the result.
 ghost use Rattle.std.specs.Prelude.{◌≡◌, ◌+◌, IfSome};
 ghost use Rattle.apl_scalar.specs.Operands.{shown, number_at, Covers};
-ghost use Rattle.apl_scalar.specs.Lanes.{shown_in};
+ghost use Rattle.apl_scalar.specs.Lanes.{laid_in, shown_in};
 
 use crate::computed::Computed;
+use crate::line::Laid;
 use apl_arrays::NumberSlice;
 
 /// The numbers of an operand: one that serves at each place of the result, or one for each place.
@@ -46,6 +47,17 @@ impl<'a> Operand<'a> {
         match self {
             Operand::One(number) => L::cut(number).is_some(),
             Operand::Many(numbers) => L::source(numbers).is_some(),
+        }
+    }
+
+    /// The same numbers where they lie in a lane; none where they don't.
+    #[inline(always)]
+    pub(crate) fn laid<L: Computed>(self) -> Option<Laid<'a, L>>
+        ensures { IfSome result (λ l. laid_in L.value L.numbers l ≡ shown self.entry) }
+    {
+        match self {
+            Operand::One(number) => Some(Laid::One(L::cut(number)?)),
+            Operand::Many(numbers) => Some(Laid::Many(L::own(numbers)?)),
         }
     }
 

@@ -2,9 +2,10 @@
 ghost use Rattle.std.specs.Prelude.{◌≡◌, ◌≤◌, ◌-◌, ℕ, length, slice_range, IsTrue};
 ghost use Rattle.apl_arrays.specs.Numbers.{values};
 ghost use Rattle.apl_scalar.specs.Operands.{Covers};
-ghost use Rattle.apl_scalar.specs.Lanes.{shown_in, IsPiece};
+ghost use Rattle.apl_scalar.specs.Lanes.{laid_in, shown_in, IsPiece};
 ghost use Rattle.apl_scalar.specs.inside.Rooms.{IsReady, Holds};
 
+use crate::line::Laid;
 use crate::operand::Source;
 use apl_arrays::{Lane, NumberSlice};
 
@@ -60,14 +61,16 @@ pub(crate) fn piece<'a, L: Lane>(
     from: usize,
     till: usize,
     room: &'a [L],
-) -> &'a [L]
+) -> Laid<'a, L>
     requires covers { Covers (shown_in L.value L.numbers source.now) till }
     requires order { from ≤ till }
     requires holds { Holds L.value source.now from till (L.numbers room.now) }
-    ensures { IsPiece (shown_in L.value L.numbers source.now) from till (L.numbers result.now) }
+    ensures { IsPiece (shown_in L.value L.numbers source.now) from till (laid_in L.value L.numbers result) }
 {
     match source {
-        Source::Lies(numbers) => &numbers[from..till],
-        Source::One(_) | Source::Narrow(_) => &room[..till - from],
+        Source::One(number) if room.is_empty() => Laid::One(*number),
+        Source::One(_) => Laid::Many(&room[..till - from]),
+        Source::Lies(numbers) => Laid::Many(&numbers[from..till]),
+        Source::Narrow(_) => Laid::Many(&room[..till - from]),
     }
 }

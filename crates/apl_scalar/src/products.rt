@@ -58,3 +58,19 @@ pub(crate) fn fill_low<X: Line<i64>, Y: Line<i64>>(x: X, y: Y, out: &mut [i64]) 
     }
     far < LOW
 }
+
+/// Writes the products, each tested before the next, and says whether all have values.
+#[inline(always)]
+pub(crate) fn fill_tested<X: Line<i64>, Y: Line<i64>>(x: X, y: Y, out: &mut [i64]) -> bool
+    requires x { (k : ℕ) → k < length out.old → X.has x k }
+    requires y { (k : ℕ) → k < length out.old → Y.has y k }
+    ensures { IsTrue result → AreValues (dyadic_of two.Times) (X.number x) (Y.number y) out.new }
+{
+    for i in 0..out.len() {
+        match x.at(i).checked_mul(y.at(i)) {
+            Some(product) => out[i] = product,
+            None => return false,
+        }
+    }
+    true
+}

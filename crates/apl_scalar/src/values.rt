@@ -4,8 +4,9 @@ ghost use Rattle.apl_arrays.specs.Answers.{Answers};
 ghost use Rattle.apl_arrays.specs.Numbers.{kept_values, values};
 ghost use Rattle.apl_scalar.specs.Operands.{number_at, shown, values_of, Covers, Each, Same};
 ghost use Rattle.apl_scalar.specs.Lanes.{IsBegun};
+ghost use Rattle.apl_scalar.specs.inside.Rooms.{HasRoom};
 
-use crate::blocks::push_by_room;
+use crate::blocks::{BLOCK, push_by_room};
 use crate::computed::Computed;
 use crate::finish::{Tested, Whole, finish};
 use crate::forms::push_values;
@@ -126,6 +127,7 @@ impl<'a> Places<'a> {
     /// The same in a narrow lane, as far as it holds the values, and from there on in the next wider one.
     #[inline(always)]
     fn from_lane<F: InLanes, L: Narrow>(&self) -> Result<NumberVec, Stop>
+        requires memory { HasRoom L.row BLOCK }
         requires a { Covers (shown self.now.a) self.now.count }
         requires b { Covers (shown self.now.b) self.now.count }
         ensures { Answers kept_values (values_of F.meaning (number_at (shown self.now.a)) (number_at (shown self.now.b)) self.now.count) result }
@@ -141,6 +143,7 @@ impl<'a> Places<'a> {
     /// The values so far and those for the other places, in the next wider lane.
     #[inline(never)]
     fn go_on<F: InLanes, L: Narrow>(&self, made: &[L]) -> Result<NumberVec, Stop>
+        requires memory { HasRoom L.row BLOCK }
         requires a { Covers (shown self.now.a) self.now.count }
         requires b { Covers (shown self.now.b) self.now.count }
         requires begun { IsBegun F.meaning (number_at (shown self.now.a)) (number_at (shown self.now.b)) self.now.count (L.numbers made.now) }

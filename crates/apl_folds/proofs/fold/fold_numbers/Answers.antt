@@ -1,5 +1,5 @@
 use Rattle.std.proofs.Common.{rules, ◌<◌, length, sym, ◌∙◌, arith}
-use Rattle.apl_folds.proofs.OfLanes.{as_many}
+use Rattle.apl_scalar.proofs.OfLanes.{as_many}
 use Rattle.apl_folds.proofs.Rights.{folded_numbers}
 use Rattle.apl_folds.proofs.fold.fold_numbers.Goals as goal
 

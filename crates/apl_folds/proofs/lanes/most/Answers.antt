@@ -1,5 +1,5 @@
-use Rattle.std.proofs.Common.{◌≡◌, ◌<◌, ℕ, ℤ, pos, FitsSigned, get_or, subst, sym, ap, ◌∙◌}
-use Rattle.apl_folds.proofs.OfLanes.{number_of_item}
+use Rattle.std.proofs.Common.{ℤ, pos, FitsSigned, get_or, subst, sym}
+use Rattle.apl_scalar.proofs.OfLanes.{number_of_item}
 use Rattle.apl_folds.proofs.Told.{one_more}
 use Rattle.apl_folds.proofs.lanes.most.Goals as goal
 

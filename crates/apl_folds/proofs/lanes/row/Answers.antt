@@ -1,5 +1,5 @@
 use Rattle.std.proofs.Common.{◌+◌, ◌-◌, drop, take, ap, ◌∙◌}
-use Rattle.apl_folds.proofs.OfLanes.{numbers-take, numbers-drop}
+use Rattle.apl_scalar.proofs.OfLanes.{numbers-take, numbers-drop}
 use Rattle.apl_folds.proofs.lanes.row.Goals as goal
 
 pub returns-clause-numbers : goal.returns-clause-numbers

@@ -1,7 +1,7 @@
 use Rattle.std.proofs.Common.{arith, ◌≡◌, ◌≤◌, ◌+◌, ℤ, pos, length, Result, ap, sym, ◌∙◌}
 use Rattle.apl_faults.specs.declared.fault.Fault.{Fault}
 use Rattle.apl_folds.specs.Lines.{fold_by}
-use Rattle.apl_folds.proofs.OfLanes.{as_many}
+use Rattle.apl_scalar.proofs.OfLanes.{as_many}
 use Rattle.apl_folds.proofs.Rows.{side_by_side, line_within}
 use Rattle.apl_folds.proofs.line.fold_line.Goals as goal
 

@@ -1,5 +1,5 @@
-use Rattle.std.proofs.Common.{◌≡◌, ◌<◌, ◌-◌, ℤ, length, ap, ◌∙◌, arith}
-use Rattle.apl_folds.proofs.OfLanes.{as_many, number_of_item}
+use Rattle.std.proofs.Common.{◌<◌, ◌-◌, ℤ, length, ap, ◌∙◌, arith}
+use Rattle.apl_scalar.proofs.OfLanes.{as_many, number_of_item}
 use Rattle.apl_folds.proofs.Rights.{fold_before}
 use Rattle.apl_folds.proofs.quarters.choose_from.Goals as goal
 

@@ -1,5 +1,4 @@
-use Rattle.std.proofs.Common.{List, ◌++◌, ap, sym, ◌∙◌, take-append-drop}
-use Rattle.apl_folds.proofs.InQuarters.{fold_parts, in_parts}
+use Rattle.apl_folds.proofs.InQuarters.{in_parts}
 use Rattle.apl_folds.proofs.quarters.choose_quarters.Goals as goal
 
 pub returns : goal.returns

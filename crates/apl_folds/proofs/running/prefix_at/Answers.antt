@@ -1,8 +1,8 @@
-use Rattle.std.proofs.Common.{◌≡◌, ◌<◌, ◌≤◌, ◌+◌, ◌-◌, ◌*◌, ℕ, ℤ, pos, length, get_or, Ok, ap, sym, ◌∙◌, arith}
+use Rattle.std.proofs.Common.{◌<◌, ◌≤◌, ◌-◌, ◌*◌, ℕ, ℤ, length, Ok, ap, ◌∙◌, arith}
 use Rattle.std.proofs.Math.Nat.{mul-le-mul_right}
 use Rattle.apl_folds.specs.inside.Prefixes.{index_along}
 use Rattle.apl_folds.proofs.ByPlaces.{index_low}
-use Rattle.apl_folds.proofs.OfLanes.{as_many, number_of_item}
+use Rattle.apl_scalar.proofs.OfLanes.{as_many, number_of_item}
 use Rattle.apl_folds.proofs.Runs.{begun, gone}
 use Rattle.apl_folds.proofs.running.prefix_at.Goals as goal
 

@@ -1,8 +1,8 @@
-use Rattle.std.proofs.Common.{◌≡◌, ◌<◌, ◌+◌, ◌-◌, ℕ, pos, length, get_or, Ok, ap, sym, ◌∙◌, arith}
+use Rattle.std.proofs.Common.{◌≡◌, ◌<◌, ◌≤◌, ◌+◌, ◌-◌, ℕ, length, Ok, ap, ◌∙◌, arith}
 use Rattle.std.proofs.lemmas.List.{length-set}
 use Rattle.apl_folds.specs.inside.Prefixes.{index_along, prefix_fold}
 use Rattle.apl_folds.proofs.ByPlaces.{index_beside}
-use Rattle.apl_folds.proofs.OfLanes.{as_many, number_of_item}
+use Rattle.apl_scalar.proofs.OfLanes.{as_many, number_of_item}
 use Rattle.apl_folds.proofs.Runs.{begun, gone, written_one}
 use Rattle.apl_folds.proofs.running.run_line.Goals as goal
 

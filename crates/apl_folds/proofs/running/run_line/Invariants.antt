@@ -1,4 +1,4 @@
-use Rattle.std.proofs.Common.{◌≡◌, ◌<◌, ◌-◌, length, Ok}
+use Rattle.std.proofs.Common.{◌≡◌, ◌-◌, length, Ok}
 use Rattle.apl_folds.specs.inside.Prefixes.{prefix_fold, ArePrefixes}
 use Rattle.apl_folds.proofs.running.run_line.Given as goal
 

@@ -1,7 +1,6 @@
 use Rattle.std.proofs.Common.{arith, ◌≡◌, ◌*◌, ◌/◌, length, ap, sym, ◌∙◌}
 use Rattle.apl_folds.proofs.ByPlaces.{line_begins, all_lines}
-use Rattle.apl_folds.proofs.OfLanes.{as_many}
-use Rattle.apl_folds.proofs.Rows.{whole_row}
+use Rattle.apl_scalar.proofs.OfLanes.{as_many}
 use Rattle.apl_folds.proofs.running.run_lines.Goals as goal
 
 pub run_line-requires-clause-line : goal.run_line-requires-clause-line

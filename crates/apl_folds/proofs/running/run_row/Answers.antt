@@ -1,4 +1,4 @@
-use Rattle.std.proofs.Common.{arith, ◌<◌, length, ◌∙◌}
+use Rattle.std.proofs.Common.{arith, ◌∙◌}
 use Rattle.std.proofs.lemmas.List.{length-set}
 use Rattle.apl_folds.proofs.ByPlaces.{index_in_row}
 use Rattle.apl_folds.proofs.Runs.{written_one}

@@ -1,6 +1,6 @@
 use Rattle.std.proofs.Common.{arith, ◌≡◌, ◌*◌, ◌/◌, length, ap, sym, ◌∙◌}
 use Rattle.apl_folds.proofs.ByPlaces.{all_rows}
-use Rattle.apl_folds.proofs.OfLanes.{as_many}
+use Rattle.apl_scalar.proofs.OfLanes.{as_many}
 use Rattle.apl_folds.proofs.running.run_rows.Goals as goal
 
 pub returns-clause-prefixes : goal.returns-clause-prefixes

@@ -2,7 +2,7 @@ use Rattle.std.proofs.Common.{rules, length, to_z, of_z, sym, ◌∙◌, arith, 
 use Rattle.std.proofs.lemmas.Int.{to_z-of_z}
 use mir.Val.{SFits}
 use Rattle.apl_folds.proofs.InRooms.{room_more}
-use Rattle.apl_folds.proofs.OfLanes.{as_many, number_of_item}
+use Rattle.apl_scalar.proofs.OfLanes.{as_many, number_of_item}
 use Rattle.apl_folds.proofs.sums.sum_in.Goals as goal
 
 pub loop-number-preserved : goal.loop-number-preserved

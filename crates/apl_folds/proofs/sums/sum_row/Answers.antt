@@ -1,10 +1,10 @@
-use Rattle.std.proofs.Common.{◌≡◌, ◌<◌, ℤ, length, Ok, to_z, of_z, w32, w64, ap, sym, ◌∙◌, arith, rules, FitsSigned, refl}
-use Rattle.std.proofs.lemmas.Int.{ints, to_z-of_z}
+use Rattle.std.proofs.Common.{◌≡◌, ℤ, length, Ok, to_z, of_z, w32, w64, ap, sym, ◌∙◌, rules, FitsSigned, refl}
+use Rattle.std.proofs.lemmas.Int.{to_z-of_z}
 use Rattle.apl_arrays.specs.Widths.{more_than_w32}
 use Rattle.apl_folds.specs.Rooms.{HaveRoom}
 use Rattle.apl_folds.specs.inside.Sums.{total}
 use Rattle.apl_folds.proofs.InRooms.{room_fold}
-use Rattle.apl_folds.proofs.OfLanes.{as_many}
+use Rattle.apl_scalar.proofs.OfLanes.{as_many}
 use Rattle.apl_folds.proofs.sums.sum_row.Goals as goal
 
 pub returns-then-has_room : goal.returns-then-has_room

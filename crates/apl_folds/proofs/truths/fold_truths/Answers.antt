@@ -1,5 +1,5 @@
-use Rattle.std.proofs.Common.{◌≡◌, ◌<◌, ◌-◌, length, arith}
-use Rattle.apl_folds.proofs.OfLanes.{as_many, number_of_item}
+use Rattle.std.proofs.Common.{◌<◌, ◌-◌, length, arith}
+use Rattle.apl_scalar.proofs.OfLanes.{as_many, number_of_item}
 use Rattle.apl_folds.proofs.TruthRows.{truth_before}
 use Rattle.apl_folds.proofs.truths.fold_truths.Goals as goal
 

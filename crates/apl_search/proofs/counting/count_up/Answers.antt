@@ -15,4 +15,6 @@ loop-k-preserved c =
     ∙ sym (map-range_with_len_more pos first k (first + k) (omega arith))
 
 pub returns : goal.returns
-returns c = ?
+returns c =
+    let all : c.loop-k.k ≡ length c.args.numbers.now = omega arith in
+    sym (take_all c.loop-k.k c.loop-k.numbers (omega arith)) ∙ c.loop-k.invariant ∙ ap (λ n. map pos (range_with_len c.args.first n)) all

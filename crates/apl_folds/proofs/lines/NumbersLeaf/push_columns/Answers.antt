@@ -1,7 +1,7 @@
 use Rattle.std.proofs.Common.{ap, sym, ◌∙◌, refl, arith}
 use Rattle.apl_scalar.specs.Functions.{dyadic_of}
 use Rattle.apl_folds.proofs.InRooms.{line_room}
-use Rattle.apl_folds.proofs.OfLanes.{as_many}
+use Rattle.apl_scalar.proofs.OfLanes.{as_many}
 use Rattle.apl_folds.proofs.lines.NumbersLeaf.push_columns.Goals as goal
 
 pub push_columns-requires-clause-same : goal.push_columns-requires-clause-same

@@ -1,4 +1,4 @@
-use Rattle.std.proofs.Common.{rules, ◌≡◌, ◌+ℤ◌, ℤ, List, ◌++◌, ◌∷◌, [], FitsSigned, to_z, of_z, ◌∙◌, subst, w64}
+use Rattle.std.proofs.Common.{rules, ◌≡◌, ◌+ℤ◌, ℤ, FitsSigned, ◌∙◌, subst, w64}
 use Rattle.std.proofs.lemmas.Int.{to_z-of_z}
 use mir.Val.{SFits}
 use Rattle.apl_folds.proofs.Totals.{sum_behind}
