@@ -1,5 +1,5 @@
-//! The kernels of apl_bench in plain Rust, with the same operands, the same tests of the range and the same memory: one
-//! vector for a result. It takes the same words and writes the same lines.
+//! The kernels of apl_bench in plain Rust, with the same tests of the range and the same memory: one vector for a result. It takes the
+//! same words and writes the same lines. The operands have the same numbers, and here these always have 64 bits.
 use std::hint::black_box;
 use std::process::ExitCode;
 
@@ -52,45 +52,44 @@ enum Form {
 }
 use Form::{Cube, Edge, Scalar, Square, Vector};
 
-/// The numbers of an operand for a place, where a vector has so many elements.
-type Numbers = fn(u64, u64) -> i64;
-
 /// A kernel: its name, its function, and its operands A and B.
 struct Kernel(&'static str, fn(&Operand, &Operand) -> Values, (Form, Numbers), (Form, Numbers));
 
 const KERNELS: &[Kernel] = &[
-    Kernel("a+b", |a, b| both(a, b, i64::checked_add), (Vector, wide), (Vector, wide)),
-    Kernel("a-b", |a, b| both(a, b, i64::checked_sub), (Vector, wide), (Vector, wide)),
-    Kernel("a×b", |a, b| both(a, b, i64::checked_mul), (Vector, wide), (Vector, wide)),
-    Kernel("a÷b", |a, b| both(a, b, quotient), (Vector, multiple), (Vector, divisor)),
-    Kernel("a|b", |a, b| both(a, b, residue), (Vector, divisor), (Vector, wide)),
-    Kernel("a⌈b", |a, b| both(a, b, |x, y| Some(x.max(y))), (Vector, wide), (Vector, wide)),
-    Kernel("a≤b", |a, b| both(a, b, |x, y| Some(i64::from(x <= y))), (Vector, wide), (Vector, wide)),
-    Kernel("a=b", |a, b| both(a, b, |x, y| Some(i64::from(x == y))), (Vector, few), (Vector, few)),
-    Kernel("a∧b", |a, b| both(a, b, and), (Vector, truth), (Vector, truth)),
-    Kernel("7+b", |a, b| each(b, with(a, i64::checked_add)), (Scalar, seven), (Vector, wide)),
-    Kernel("7×b", |a, b| each(b, with(a, i64::checked_mul)), (Scalar, seven), (Vector, wide)),
-    Kernel("a÷7", |a, b| { let y = b.numbers[0]; each(a, |x| quotient(x, y)) }, (Vector, multiple), (Scalar, seven)),
-    Kernel("7|b", |a, b| each(b, with(a, residue)), (Scalar, seven), (Vector, wide)),
-    Kernel("7≤b", |a, b| each(b, with(a, |x, y| Some(i64::from(x <= y)))), (Scalar, seven), (Vector, wide)),
-    Kernel("-b", |_, b| each(b, i64::checked_neg), (Scalar, seven), (Vector, wide)),
-    Kernel("|b", |_, b| each(b, i64::checked_abs), (Scalar, seven), (Vector, wide)),
-    Kernel("+/b", |_, b| fold_rows(b, i64::checked_add), (Scalar, seven), (Vector, wide)),
-    Kernel("⌈/b", |_, b| fold_rows(b, |x, y| Some(x.max(y))), (Scalar, seven), (Vector, wide)),
-    Kernel("∧/b", |_, b| fold_rows(b, and), (Scalar, seven), (Vector, truth)),
-    Kernel("+⌿B", |_, b| fold_columns(b, i64::checked_add), (Scalar, seven), (Square, wide)),
-    Kernel("+/⍉B", |_, b| fold_rows(&turned(b), i64::checked_add), (Scalar, seven), (Square, wide)),
-    Kernel("+\\b", |_, b| prefixes(b, i64::checked_add), (Scalar, seven), (Vector, wide)),
-    Kernel("⌈\\b", |_, b| prefixes(b, |x, y| Some(x.max(y))), (Scalar, seven), (Vector, wide)),
-    Kernel("⌽b", |_, b| Ok(b.numbers.iter().rev().copied().collect()), (Scalar, seven), (Vector, wide)),
-    Kernel("⍉B", |_, b| Ok(turned(b).numbers), (Scalar, seven), (Square, wide)),
-    Kernel("⍋b", |_, b| Ok(grade(b)), (Scalar, seven), (Vector, wide)),
-    Kernel("a/b", kept, (Vector, truth), (Vector, wide)),
-    Kernel("b[a]", chosen, (Vector, index), (Vector, wide)),
-    Kernel("a⍳b", |a, b| Ok(places(a, b)), (Vector, member), (Vector, member)),
-    Kernel("a∊b", |a, b| Ok(members(a, b)), (Vector, member), (Vector, member)),
-    Kernel("a∘.×b", |a, b| outer(a, b, i64::checked_mul), (Edge, wide), (Edge, wide)),
-    Kernel("A+.×B", inner, (Cube, divisor), (Cube, divisor)),
+    Kernel("a+b", |a, b| both(a, b, i64::checked_add), (Vector, Term), (Vector, Term)),
+    Kernel("a-b", |a, b| both(a, b, i64::checked_sub), (Vector, Term), (Vector, Term)),
+    Kernel("a×b", |a, b| both(a, b, i64::checked_mul), (Vector, Factor), (Vector, Factor)),
+    Kernel("a÷b", |a, b| both(a, b, quotient), (Vector, Multiple), (Vector, Divisor)),
+    Kernel("a|b", |a, b| both(a, b, residue), (Vector, Divisor), (Vector, Term)),
+    Kernel("a⌈b", |a, b| both(a, b, |x, y| Some(x.max(y))), (Vector, Term), (Vector, Term)),
+    Kernel("a≤b", |a, b| both(a, b, |x, y| Some(i64::from(x <= y))), (Vector, Term), (Vector, Term)),
+    Kernel("a=b", |a, b| both(a, b, |x, y| Some(i64::from(x == y))), (Vector, Few), (Vector, Few)),
+    Kernel("a∧b", |a, b| both(a, b, and), (Vector, Truth), (Vector, Truth)),
+    Kernel("~b", |_, b| each(b, not), (Scalar, Seven), (Vector, Truth)),
+    Kernel("7+b", |a, b| each(b, with(a, i64::checked_add)), (Scalar, Seven), (Vector, Term)),
+    Kernel("7×b", |a, b| each(b, with(a, i64::checked_mul)), (Scalar, Seven), (Vector, Factor)),
+    Kernel("a÷7", |a, b| { let y = b.numbers[0]; each(a, |x| quotient(x, y)) }, (Vector, Multiple), (Scalar, Seven)),
+    Kernel("7|b", |a, b| each(b, with(a, residue)), (Scalar, Seven), (Vector, Term)),
+    Kernel("7≤b", |a, b| each(b, with(a, |x, y| Some(i64::from(x <= y)))), (Scalar, Seven), (Vector, Term)),
+    Kernel("-b", |_, b| each(b, i64::checked_neg), (Scalar, Seven), (Vector, Term)),
+    Kernel("|b", |_, b| each(b, i64::checked_abs), (Scalar, Seven), (Vector, Term)),
+    Kernel("+/b", |_, b| fold_rows(b, i64::checked_add), (Scalar, Seven), (Vector, Term)),
+    Kernel("⌈/b", |_, b| fold_rows(b, |x, y| Some(x.max(y))), (Scalar, Seven), (Vector, Term)),
+    Kernel("∧/b", |_, b| fold_rows(b, and), (Scalar, Seven), (Vector, One)),
+    Kernel("+⌿B", |_, b| fold_columns(b, i64::checked_add), (Scalar, Seven), (Square, Term)),
+    Kernel("+/⍉B", |_, b| fold_rows(&turned(b), i64::checked_add), (Scalar, Seven), (Square, Term)),
+    Kernel("+/A×B", row_products, (Square, Factor), (Square, Weight)),
+    Kernel("+\\b", |_, b| prefixes(b, i64::checked_add), (Scalar, Seven), (Vector, Term)),
+    Kernel("⌈\\b", |_, b| prefixes(b, |x, y| Some(x.max(y))), (Scalar, Seven), (Vector, Term)),
+    Kernel("⌽b", |_, b| Ok(b.numbers.iter().rev().copied().collect()), (Scalar, Seven), (Vector, Term)),
+    Kernel("⍉B", |_, b| Ok(turned(b).numbers), (Scalar, Seven), (Square, Term)),
+    Kernel("⍋b", |_, b| Ok(grade(b)), (Scalar, Seven), (Vector, Term)),
+    Kernel("a/b", kept, (Vector, Truth), (Vector, Term)),
+    Kernel("b[a]", chosen, (Vector, Index), (Vector, Term)),
+    Kernel("a⍳b", |a, b| Ok(places(a, b)), (Vector, Member), (Vector, Member)),
+    Kernel("a∊b", |a, b| Ok(members(a, b)), (Vector, Member), (Vector, Member)),
+    Kernel("a∘.×b", |a, b| outer(a, b, i64::checked_mul), (Edge, Factor), (Edge, Factor)),
+    Kernel("A+.×B", inner, (Cube, Factor), (Cube, Weight)),
 ];
 
 /// The folds of rows from the right.
@@ -112,6 +111,16 @@ fn fold_columns(b: &Operand, function: impl Fn(i64, i64) -> Option<i64>) -> Valu
         for (value, x) in values.iter_mut().zip(row) {
             *value = function(*x, *value).ok_or(Fault)?;
         }
+    }
+    Ok(values)
+}
+
+/// The sums of the products of two rows each, from the right.
+fn row_products(a: &Operand, b: &Operand) -> Values {
+    let mut values = Vec::with_capacity(b.rows);
+    for (xs, ys) in a.numbers.chunks_exact(a.columns).zip(b.numbers.chunks_exact(b.columns)) {
+        let sum = xs.iter().zip(ys).rev().try_fold(0, |sum: i64, (x, y)| x.checked_mul(*y)?.checked_add(sum));
+        values.push(sum.ok_or(Fault)?);
     }
     Ok(values)
 }
@@ -261,6 +270,88 @@ fn and(x: i64, y: i64) -> Option<i64> {
     (matches!(x, 0 | 1) && matches!(y, 0 | 1)).then_some(x & y)
 }
 
+fn not(y: i64) -> Option<i64> {
+    matches!(y, 0 | 1).then_some(1 - y)
+}
+
+/// A type that stores numbers in apl_bench.
+#[derive(Clone, Copy, PartialEq)]
+enum Width {
+    I64,
+    I32,
+    I8,
+}
+use Width::{I8, I32, I64};
+
+impl Width {
+    fn name(self) -> &'static str {
+        match self {
+            I64 => "i64",
+            I32 => "i32",
+            I8 => "i8",
+        }
+    }
+}
+
+/// The numbers of an operand, as apl_bench tells of them.
+#[derive(Clone, Copy)]
+enum Numbers {
+    Seven,
+    Term,
+    Factor,
+    Weight,
+    Few,
+    Divisor,
+    /// At each place a multiple of 7 and of the second operand's divisor there.
+    Multiple,
+    Member,
+    Truth,
+    One,
+    Index,
+}
+use Numbers::{Divisor, Factor, Few, Index, Member, Multiple, One, Seven, Term, Truth, Weight};
+
+impl Numbers {
+    /// The first number, the step from one to the next, and how many there are, where a vector has so many elements.
+    fn range(self, width: Width, size: u64) -> (i64, i64, u64) {
+        match (self, width) {
+            (Seven, _) => (7, 1, 1),
+            (Term, I64) => (-1_000_000_000_000, 1000, 2_000_000_000),
+            (Term, I32) => (-1_000_000, 1, 2_000_001),
+            (Term, I8) => (-64, 1, 128),
+            (Factor, I64) => (-3_000_000_000, 3, 2_000_000_000),
+            (Factor, I32) => (-46_340, 1, 92_681),
+            (Factor | Weight, I8) => (-11, 1, 23),
+            (Weight, I64) => (-3_000_000, 1, 6_000_001),
+            (Weight, I32) => (-400, 1, 801),
+            (Few, I64) => (0, 10_000_000_000, 8),
+            (Few, I32) => (0, 100_000_000, 8),
+            (Few, I8) => (0, 1, 8),
+            (Divisor, I64) => (1, 5, 2_000_000_000),
+            (Divisor, I32) => (1, 1, 1000),
+            (Divisor, I8) => (1, 1, 9),
+            (Multiple, I64 | I32) => (0, 7, 65_536),
+            (Multiple, I8) => (0, 7, 3),
+            (Member, I64) => (1_000_000_000_000, 1, 2 * size),
+            (Member, I32) => (0, 1, 2 * size),
+            (Member, I8) => (0, 1, 128),
+            (Truth, _) => (0, 1, 2),
+            (One, _) => (1, 1, 1),
+            (Index, _) => (1, 1, size),
+        }
+    }
+
+    /// The number for a place.
+    fn at(self, width: Width, place: u64, size: u64) -> i64 {
+        let (first, step, count) = self.range(width, size);
+        let number = first + step * (spread(place) % count) as i64;
+        match self {
+            Multiple => number * Divisor.at(width, place.wrapping_add(APART), size),
+            _ => number,
+        }
+    }
+}
+
 /// A number below 2^31 for a place, pseudo-random.
 fn spread(place: u64) -> u64 {
     let once = place.wrapping_mul(0x9E37_79B9_7F4A_7C15);
@@ -268,47 +359,12 @@ fn spread(place: u64) -> u64 {
     twice >> 33
 }
 
-fn seven(_place: u64, _size: u64) -> i64 {
-    7
-}
-
-fn wide(place: u64, _size: u64) -> i64 {
-    spread(place) as i64 - 0x4000_0000
-}
-
-fn few(place: u64, _size: u64) -> i64 {
-    spread(place) as i64 % 8
-}
-
-fn truth(place: u64, _size: u64) -> i64 {
-    spread(place) as i64 % 2
-}
-
-fn divisor(place: u64, _size: u64) -> i64 {
-    1 + spread(place) as i64 % 1000
-}
-
-/// A multiple of 7 and of the second operand's divisor at the same place.
-fn multiple(place: u64, size: u64) -> i64 {
-    divisor(place.wrapping_add(APART), size) * 7 * (spread(place) as i64 % 65_536)
-}
-
-/// 1 to the number of elements.
-fn index(place: u64, size: u64) -> i64 {
-    1 + (spread(place) % size) as i64
-}
-
-/// 0 to twice the number of elements, so that about half of those of one operand are in the other one.
-fn member(place: u64, size: u64) -> i64 {
-    (spread(place) % (2 * size)) as i64
-}
-
 /// The side of the largest square, or with a power of 3 of the largest cube, of at most so many elements.
 fn side(size: u64, power: u32) -> u64 {
     (1..=1000u64).take_while(|side| side.pow(power) <= size).last().unwrap_or(0)
 }
 
-fn operand((form, numbers): (Form, Numbers), from: u64, size: u64) -> Operand {
+fn operand((form, numbers): (Form, Numbers), width: Width, from: u64, size: u64) -> Operand {
     let (rows, columns) = match form {
         Scalar => (1, 1),
         Vector => (1, size),
@@ -316,7 +372,7 @@ fn operand((form, numbers): (Form, Numbers), from: u64, size: u64) -> Operand {
         Square => (side(size, 2), side(size, 2)),
         Cube => (side(size, 3), side(size, 3)),
     };
-    let numbers = (0..rows * columns).map(|place| numbers(from.wrapping_add(place), size));
+    let numbers = (0..rows * columns).map(|place| numbers.at(width, from.wrapping_add(place), size));
     Operand { rows: rows as usize, columns: columns as usize, numbers: numbers.collect() }
 }
 
@@ -344,20 +400,25 @@ fn processor_time() -> u128 {
     time.seconds as u128 * 1_000_000_000 + time.nanoseconds as u128
 }
 
-/// Times one kernel. The first application, from which the checksum is taken, is not timed.
-fn time(Kernel(name, function, a, b): &Kernel, size: u64, repeats: u64) -> Result<(), Fault> {
-    let a = operand(*a, 0, size);
-    let b = operand(*b, APART, size);
+/// Times one kernel with the numbers of a type. The first application, from which the checksum is taken, is not timed.
+fn time(Kernel(name, function, a, b): &Kernel, width: Width, size: u64, repeats: u64) -> Result<(), Fault> {
+    let a = operand(*a, width, 0, size);
+    let b = operand(*b, width, APART, size);
     let mut result = function(&a, &b)?;
-    println!("{name} {}", checksum(&result));
+    println!("{name} {} {}", width.name(), checksum(&result));
     let start = processor_time();
     for _ in 0..repeats {
         result = black_box(function(black_box(&a), black_box(&b))?);
     }
     let spent = processor_time() - start;
     drop(result);
-    eprintln!("{name} {}", spent / u128::from(repeats.max(1)));
+    eprintln!("{name} {} {}", width.name(), spent / u128::from(repeats.max(1)));
     Ok(())
+}
+
+/// Whether a kernel has a row with the numbers of a type: Booleans are bytes.
+fn has(Kernel(_, _, _, (_, numbers)): &Kernel, width: Width) -> bool {
+    width == I8 || !matches!(numbers, Truth | One)
 }
 
 /// The number behind a word of the command line, or what it is without.
@@ -374,8 +435,10 @@ fn main() -> ExitCode {
     let size = number(&words, "--size", 1_000_000);
     let repeats = number(&words, "--repeats", 50);
     for kernel in KERNELS {
-        if time(kernel, size, repeats).is_err() {
-            return ExitCode::from(2);
+        for width in [I64, I32, I8] {
+            if has(kernel, width) && time(kernel, width, size, repeats).is_err() {
+                return ExitCode::from(2);
+            }
         }
     }
     ExitCode::SUCCESS

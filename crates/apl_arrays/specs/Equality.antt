@@ -6,6 +6,8 @@ use Rattle.std.specs.Cmp.{IsEquivalence, first_so, second_so, unsigned_Decides, 
 use Rattle.std.specs.Cmp.Lexicographic.{pointwise, pointwise_decides, lists_equiv}
 use Rattle.std.specs.Hash as fed
 use Rattle.apl_arrays.specs.Cells.{Arr, Items, Numbers, Characters}
+use Rattle.apl_arrays.specs.declared.numbers.NumberSlice.{NumberSlice}
+use Rattle.apl_arrays.specs.Numbers.{values}
 
 -- what a hasher is fed of the elements
 abbrev pub items_input : Items → List (List ℕ)
@@ -17,6 +19,13 @@ abbrev pub items_eq : Items → Items → Bool
 items_eq (Numbers xs) (Numbers ys) = pointwise int_eq xs ys
 items_eq (Characters xs) (Characters ys) = pointwise nat_eq xs ys
 items_eq xs ys = false
+
+-- numbers, each equal to its counterpart, whatever types store them
+abbrev pub slice_eq : NumberSlice → NumberSlice → Bool
+slice_eq xs ys = pointwise int_eq (values xs) (values ys)
+
+pub slice_equiv : IsEquivalence slice_eq
+slice_equiv = on_equiv values (lists_equiv int_eq_equiv)
 
 -- one shape, and equal elements
 abbrev pub array_eq : Arr → Arr → Bool

@@ -1,5 +1,7 @@
 pub mod Index
 pub mod Cells
+pub mod Numbers
+pub mod Widths
 pub mod Ravels
 pub mod Simple
 pub mod Dense
@@ -18,3 +20,4 @@ pub mod Checks
 pub mod Origins
 pub mod Along
 pub mod Equality
+pub mod Structural

@@ -4,6 +4,7 @@ ghost use Rattle.std.specs.Prelude.{◌≡◌, ◌≤◌, ◌<◌, length, [], �
 use crate::cell::Cell;
 use crate::dense::Dense;
 use crate::elements::Elements;
+use crate::numbers::NumberSlice;
 use crate::shape::{MAX_ELEMENTS, MAX_RANK, place_of};
 use apl_charset::Ch;
 use std::alloc::AllocError;
@@ -135,14 +136,14 @@ impl Array {
             Kept::Num(number) | Kept::Single(number) => {
                 // Read, since a number that is read is one of 64 bits.
                 let _number = *number;
-                Elements::Nums(std::slice::from_ref(number))
+                Elements::Nums(NumberSlice::I64(std::slice::from_ref(number)))
             }
             Kept::Char(character) => {
                 // A character that is read is in the set.
                 let _code = character.code();
                 Elements::Chars(std::slice::from_ref(character))
             }
-            Kept::Empty => Elements::Nums(&[]),
+            Kept::Empty => Elements::Nums(NumberSlice::I8(&[])),
             Kept::Dense(dense) => Elements::new(dense.ravel()),
         }
     }
@@ -212,7 +213,8 @@ impl Array {
 
     /// Writes a number over another, and says whether it did. It did not where there is no number at the place. In a scalar and in a vector of
     /// one number it did where there is one. It takes no memory.
-    // Nor did it where a copy shares the elements of another array. That isn't in the model, so no clause can say when it did.
+    // Nor did it where a copy shares the elements of another array, nor where the number doesn't fit the type that stores the others. That
+    // isn't in the model, so no clause can say when it did.
     pub fn set_number(&mut self, place: usize, number: i64) -> bool
         ensures value { self.new ≡ cond result (number_written self.old place number) self.old }
         ensures there { IsTrue result → (are_numbers self.old.items ≡ true) × (place < length (cells_of self.old.items)) }
@@ -247,7 +249,8 @@ impl Array {
 
     /// Writes elements at places one after another, so that the last one for a place stands, and says whether it did. A single one serves at
     /// each place, and elements of another type are not written.
-    // It did not where a copy shares the elements, nor where they are stored in place. That isn't in the model, so no clause can say it.
+    // It did not where a copy shares the elements, nor where they are stored in place, nor where they are stored in a type that doesn't hold
+    // all new ones. That isn't in the model, so no clause can say it.
     pub fn write(&mut self, places: &[usize], items: Elements<'_>) -> bool
         requires within { All (λ q. q < length (cells_of self.old.items)) places.now }
         requires enough { AreEnough (length (cells_of (listed items))) (length places.now) }
@@ -257,10 +260,7 @@ impl Array {
             return false;
         };
         match Rc::get_mut(dense) {
-            Some(dense) => {
-                dense.write(places, items);
-                true
-            }
+            Some(dense) => dense.write(places, items),
             None => false,
         }
     }

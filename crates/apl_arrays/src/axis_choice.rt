@@ -60,9 +60,9 @@ fn counted(items: Elements<'_>, rank: usize, origin: usize) -> Result<usize, Fau
     ensures { result ≡ axis_of rank origin (listed items.entry) }
 {
     match items {
-        Elements::Nums(numbers) => match numbers {
-            [number] => numbered(*number, rank, origin),
-            _ => Err(Fault::Axis),
+        Elements::Nums(numbers) => match numbers.only() {
+            Some(number) => numbered(number, rank, origin),
+            None => Err(Fault::Axis),
         },
         Elements::Chars(_) => Err(Fault::Axis),
     }

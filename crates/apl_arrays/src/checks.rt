@@ -2,9 +2,11 @@
 ghost use Rattle.std.specs.Prelude.{◌≡◌};
 ghost use Rattle.apl_arrays.specs.Checks.{limited, numbers_of};
 ghost use Rattle.apl_arrays.specs.Left.{listed};
+ghost use Rattle.apl_arrays.specs.Numbers.{values};
 ghost use Rattle.apl_arrays.specs.Results.{ok_map};
 
 use crate::elements::Elements;
+use crate::numbers::NumberSlice;
 use crate::shape::{MAX_RANK, is_in_bounds};
 use apl_faults::Fault;
 
@@ -21,14 +23,14 @@ pub fn within_limits(shape: &[usize]) -> Result<(), Fault>
 }
 
 /// The numbers among elements. Characters are a domain fault, but where there are none they serve as numbers.
-pub fn numbers_in(items: Elements<'_>) -> Result<&[i64], Fault>
-    ensures { numbers_of (listed items.entry) ≡ ok_map (λ numbers. numbers.now) result }
+pub fn numbers_in(items: Elements<'_>) -> Result<NumberSlice<'_>, Fault>
+    ensures { numbers_of (listed items.entry) ≡ ok_map values result }
 {
     match items {
         Elements::Nums(numbers) => Ok(numbers),
         Elements::Chars(characters) => {
             if characters.is_empty() {
-                Ok(&[])
+                Ok(NumberSlice::I8(&[]))
             } else {
                 Err(Fault::Domain)
             }

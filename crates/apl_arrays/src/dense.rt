@@ -80,22 +80,20 @@ impl Dense {
         ensures there { IsTrue result → (are_numbers self.old.items ≡ true) × (place < length (cells_of self.old.items)) }
     {
         match &mut self.ravel {
-            Ravel::Nums(numbers) if place < numbers.len() => {
-                numbers[place] = number;
-                true
-            }
-            _ => false,
+            Ravel::Nums(numbers) => numbers.set(place, number),
+            Ravel::Chars(_) => false,
         }
     }
 
-    /// Writes elements at places one after another, so that the last one for a place stands. A single one serves at each place. Elements of
-    /// another type are not written.
-    pub(crate) fn write(&mut self, places: &[usize], items: Elements<'_>)
+    /// Writes elements at places one after another, so that the last one for a place stands, and says whether it did. A single one serves at
+    /// each place, and elements of another type are not written.
+    pub(crate) fn write(&mut self, places: &[usize], items: Elements<'_>) -> bool
         requires within { All (λ q. q < length (cells_of self.old.items)) places.now }
         requires enough { AreEnough (length (cells_of (listed items))) (length places.now) }
-        ensures { self.new ≡ elements_written self.old places.now (listed items.entry) }
+        ensures { self.new ≡ cond result (elements_written self.old places.now (listed items.entry)) self.old }
     {
-        self.ravel.write(places, items);
+        let wrote = self.ravel.write_in_place(places, items);
         self.ravel.inspect();
+        wrote
     }
 }

@@ -2,6 +2,7 @@
 ghost use Rattle.std.specs.Prelude.{◌≡◌, ◌==◌, length, slice_get, IfOk};
 
 use crate::cell::{Cell, Ravel};
+use crate::numbers::NumberSlice;
 use apl_charset::Ch;
 use std::alloc::{AllocError, Global};
 
@@ -9,7 +10,7 @@ use std::alloc::{AllocError, Global};
 /// after another, and is then what is left.
 #[derive(Clone, Copy, Debug, PartialEq, Eq)]
 pub enum Elements<'a> {
-    Nums(&'a [i64]),
+    Nums(NumberSlice<'a>),
     Chars(&'a [Ch]),
 }
 
@@ -63,7 +64,7 @@ impl<'a> Elements<'a> {
         ensures { result ≡ slice_get (cells_of (listed self.entry)) place }
     {
         match self {
-            Elements::Nums(numbers) => numbers.get(place).map(|x| Cell::Num(*x)),
+            Elements::Nums(numbers) => numbers.get(place).map(Cell::Num),
             Elements::Chars(characters) => characters.get(place).map(|x| Cell::Char(*x)),
         }
     }
@@ -73,7 +74,7 @@ impl<'a> Elements<'a> {
         ensures { IfOk result (λ ravel. items_of ravel ≡ listed self.entry) }
     {
         match self {
-            Elements::Nums(numbers) => Ok(Ravel::Nums(Vec::from_slice(alloc, numbers)?)),
+            Elements::Nums(numbers) => Ok(Ravel::Nums(numbers.to_vec(alloc)?)),
             Elements::Chars(characters) => Ok(Ravel::Chars(Vec::from_slice(alloc, characters)?)),
         }
     }
@@ -91,11 +92,7 @@ impl<'a> Iterator for Elements<'a> {
 
     fn next(&mut self) -> Option<Cell> {
         match self {
-            Elements::Nums(numbers) => {
-                let (first, rest) = numbers.split_first()?;
-                *numbers = rest;
-                Some(Cell::Num(*first))
-            }
+            Elements::Nums(numbers) => Some(Cell::Num(numbers.next()?)),
             Elements::Chars(characters) => {
                 let (first, rest) = characters.split_first()?;
                 *characters = rest;

@@ -12,7 +12,28 @@ ghost use Rattle.apl_arrays.specs.inside.Rows.{four_from, line_from, AreRowsTo};
 use crate::axis::{Axis, along};
 use crate::cell::Ravel;
 use crate::elements::Elements;
+use crate::structural::Structural;
 use std::alloc::{AllocError, Global};
+
+/// Reads elements by steps, in the order of their index lists, with room for so many.
+#[derive(Clone, Copy)]
+struct Steps<'a> {
+    room: usize,
+    at: usize,
+    axes: &'a [Axis],
+}
+
+impl<'a> Structural for Steps<'a> {
+    ghost takes = { λ s n. AllPlaced n s.at s.axes.now × (reach_of s.at s.axes.now < 2 ^ 63) };
+
+    ghost makes = { λ A s d fill xs. all_at xs (place_at s.at s.axes.now) (indices (lengths s.axes.now)) d };
+
+    fn make<T: Copy>(self, alloc: Global, items: &[T], _fill: T) -> Result<Vec<T>, AllocError> {
+        let mut out = Vec::with_capacity(alloc, self.room)?;
+        gather(items, self.at, self.axes, &mut out)?;
+        Ok(out)
+    }
+}
 
 /// The elements at all index lists, with room for so many.
 pub(crate) fn gathered(
@@ -26,27 +47,7 @@ pub(crate) fn gathered(
     requires near { reach_of at axes.now < 2 ^ 63 }
     ensures { IfOk result (λ r. items_of r ≡ seen (listed items.entry) at axes.now) }
 {
-    match items {
-        Elements::Nums(raw) => Ok(Ravel::Nums(gather_all(alloc, room, raw, at, axes)?)),
-        Elements::Chars(raw) => Ok(Ravel::Chars(gather_all(alloc, room, raw, at, axes)?)),
-    }
-}
-
-/// The elements of a slice at all index lists, with room for so many.
-fn gather_all<T: Copy>(
-    alloc: Global,
-    room: usize,
-    raw: &[T],
-    at: usize,
-    axes: &[Axis],
-) -> Result<Vec<T>, AllocError>
-    requires placed { AllPlaced (length raw.now) at axes.now }
-    requires near { reach_of at axes.now < 2 ^ 63 }
-    ensures { IfOk result (λ v. (d : T) → v.items ≡ all_at raw.now (place_at at axes.now) (indices (lengths axes.now)) d) }
-{
-    let mut out = Vec::with_capacity(alloc, room)?;
-    gather(raw, at, axes, &mut out)?;
-    Ok(out)
+    items.made_by(alloc, Steps { room, at, axes })
 }
 
 /// Appends the elements at all index lists. The last axis has a loop of its own.

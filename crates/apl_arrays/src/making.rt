@@ -142,7 +142,7 @@ impl Array {
         ensures value { IfOk result (λ array. array ≡ simple (Numbers numbers.items)) }
         ensures scalar { length numbers.items ≡ 1 → IsOk result }
     {
-        Array::from_ravel(alloc, Ravel::Nums(numbers))
+        Array::from_ravel(alloc, Ravel::wide(numbers))
     }
 
     /// One character as a scalar, which takes no memory, any other number of characters as a vector.

@@ -1,9 +1,10 @@
 // What is timed: the table of kernels.
-ghost use Rattle.std.specs.Prelude.{◌<◌};
-
-use crate::operands::Numbers::{Divisor, Few, Index, Member, Multiple, Truth, Wide};
+use crate::numbers::Numbers::{
+    Divisor, Factor, Few, Index, Member, Multiple, One, Term, Truth, Weight,
+};
+use crate::numbers::{APART, Width};
 use crate::operands::Operand::{Cube, Edge, Seven, Square, Vector};
-use crate::operands::{APART, Operand};
+use crate::operands::{Operand, Place};
 use Phrase::{Derived, Dyadic, Inner, Monadic, Outer, Select};
 use Phrases::{After, Once};
 use apl_arrays::{Array, Origin, Stop};
@@ -12,7 +13,7 @@ use apl_primitives::{Arguments, phrase_value};
 use apl_symbols::Operator::{Slash, SlashBar, Slope};
 use apl_symbols::Primitive::{
     And, CircleSlope, CircleStile, Divide, Epsilon, Equal, GradeUp, Iota, Minus, NotGreater, Plus,
-    Stile, Times, Upstile,
+    Stile, Tilde, Times, Upstile,
 };
 use apl_symbols::{Operator, Primitive};
 use std::alloc::Global;
@@ -41,14 +42,20 @@ pub(crate) enum Phrases {
 }
 
 /// The expression by which the tables show a kernel, where a small letter is a vector, a capital one a table and a digit a scalar; its
-/// phrases; and its operands A and B, of which a function of one array takes B.
+/// phrases; and its operands A and B, of which a function of one array takes B. Each has a row for each type that stores their numbers, and one
+/// where B has Booleans.
 pub(crate) struct Kernel(&'static str, Phrases, Option<Operand>, Operand);
 
 /// Each kernel that is timed, a line each. The operands are such that each element has a value.
 pub(crate) const KERNELS: &[Kernel] = &[
-    Kernel("a+b", Once(Dyadic(Plus)), Some(Vector(Wide)), Vector(Wide)),
-    Kernel("a-b", Once(Dyadic(Minus)), Some(Vector(Wide)), Vector(Wide)),
-    Kernel("a×b", Once(Dyadic(Times)), Some(Vector(Wide)), Vector(Wide)),
+    Kernel("a+b", Once(Dyadic(Plus)), Some(Vector(Term)), Vector(Term)),
+    Kernel("a-b", Once(Dyadic(Minus)), Some(Vector(Term)), Vector(Term)),
+    Kernel(
+        "a×b",
+        Once(Dyadic(Times)),
+        Some(Vector(Factor)),
+        Vector(Factor),
+    ),
     Kernel(
         "a÷b",
         Once(Dyadic(Divide)),
@@ -59,51 +66,58 @@ pub(crate) const KERNELS: &[Kernel] = &[
         "a|b",
         Once(Dyadic(Stile)),
         Some(Vector(Divisor)),
-        Vector(Wide),
+        Vector(Term),
     ),
     Kernel(
         "a⌈b",
         Once(Dyadic(Upstile)),
-        Some(Vector(Wide)),
-        Vector(Wide),
+        Some(Vector(Term)),
+        Vector(Term),
     ),
     Kernel(
         "a≤b",
         Once(Dyadic(NotGreater)),
-        Some(Vector(Wide)),
-        Vector(Wide),
+        Some(Vector(Term)),
+        Vector(Term),
     ),
     Kernel("a=b", Once(Dyadic(Equal)), Some(Vector(Few)), Vector(Few)),
     Kernel("a∧b", Once(Dyadic(And)), Some(Vector(Truth)), Vector(Truth)),
-    Kernel("7+b", Once(Dyadic(Plus)), Some(Seven), Vector(Wide)),
-    Kernel("7×b", Once(Dyadic(Times)), Some(Seven), Vector(Wide)),
+    Kernel("~b", Once(Monadic(Tilde)), None, Vector(Truth)),
+    Kernel("7+b", Once(Dyadic(Plus)), Some(Seven), Vector(Term)),
+    Kernel("7×b", Once(Dyadic(Times)), Some(Seven), Vector(Factor)),
     Kernel("a÷7", Once(Dyadic(Divide)), Some(Vector(Multiple)), Seven),
-    Kernel("7|b", Once(Dyadic(Stile)), Some(Seven), Vector(Wide)),
-    Kernel("7≤b", Once(Dyadic(NotGreater)), Some(Seven), Vector(Wide)),
-    Kernel("-b", Once(Monadic(Minus)), None, Vector(Wide)),
-    Kernel("|b", Once(Monadic(Stile)), None, Vector(Wide)),
-    Kernel("+/b", Once(Derived(Plus, Slash)), None, Vector(Wide)),
-    Kernel("⌈/b", Once(Derived(Upstile, Slash)), None, Vector(Wide)),
-    Kernel("∧/b", Once(Derived(And, Slash)), None, Vector(Truth)),
-    Kernel("+⌿B", Once(Derived(Plus, SlashBar)), None, Square(Wide)),
+    Kernel("7|b", Once(Dyadic(Stile)), Some(Seven), Vector(Term)),
+    Kernel("7≤b", Once(Dyadic(NotGreater)), Some(Seven), Vector(Term)),
+    Kernel("-b", Once(Monadic(Minus)), None, Vector(Term)),
+    Kernel("|b", Once(Monadic(Stile)), None, Vector(Term)),
+    Kernel("+/b", Once(Derived(Plus, Slash)), None, Vector(Term)),
+    Kernel("⌈/b", Once(Derived(Upstile, Slash)), None, Vector(Term)),
+    Kernel("∧/b", Once(Derived(And, Slash)), None, Vector(One)),
+    Kernel("+⌿B", Once(Derived(Plus, SlashBar)), None, Square(Term)),
     Kernel(
         "+/⍉B",
         After(Monadic(CircleSlope), Derived(Plus, Slash)),
         None,
-        Square(Wide),
+        Square(Term),
     ),
-    Kernel("+\\b", Once(Derived(Plus, Slope)), None, Vector(Wide)),
-    Kernel("⌈\\b", Once(Derived(Upstile, Slope)), None, Vector(Wide)),
-    Kernel("⌽b", Once(Monadic(CircleStile)), None, Vector(Wide)),
-    Kernel("⍉B", Once(Monadic(CircleSlope)), None, Square(Wide)),
-    Kernel("⍋b", Once(Monadic(GradeUp)), None, Vector(Wide)),
+    Kernel(
+        "+/A×B",
+        After(Dyadic(Times), Derived(Plus, Slash)),
+        Some(Square(Factor)),
+        Square(Weight),
+    ),
+    Kernel("+\\b", Once(Derived(Plus, Slope)), None, Vector(Term)),
+    Kernel("⌈\\b", Once(Derived(Upstile, Slope)), None, Vector(Term)),
+    Kernel("⌽b", Once(Monadic(CircleStile)), None, Vector(Term)),
+    Kernel("⍉B", Once(Monadic(CircleSlope)), None, Square(Term)),
+    Kernel("⍋b", Once(Monadic(GradeUp)), None, Vector(Term)),
     Kernel(
         "a/b",
         Once(Dyadic(Primitive::Slash)),
         Some(Vector(Truth)),
-        Vector(Wide),
+        Vector(Term),
     ),
-    Kernel("b[a]", Once(Select), Some(Vector(Index)), Vector(Wide)),
+    Kernel("b[a]", Once(Select), Some(Vector(Index)), Vector(Term)),
     Kernel(
         "a⍳b",
         Once(Dyadic(Iota)),
@@ -116,12 +130,17 @@ pub(crate) const KERNELS: &[Kernel] = &[
         Some(Vector(Member)),
         Vector(Member),
     ),
-    Kernel("a∘.×b", Once(Outer(Times)), Some(Edge(Wide)), Edge(Wide)),
+    Kernel(
+        "a∘.×b",
+        Once(Outer(Times)),
+        Some(Edge(Factor)),
+        Edge(Factor),
+    ),
     Kernel(
         "A+.×B",
         Once(Inner(Plus, Times)),
-        Some(Cube(Divisor)),
-        Cube(Divisor),
+        Some(Cube(Factor)),
+        Cube(Weight),
     ),
 ];
 
@@ -169,15 +188,24 @@ impl Kernel {
         self.0
     }
 
-    /// The operands, where a vector has so many elements, more than 0.
-    pub(crate) fn operands(&self, alloc: Global, size: u64) -> Result<Operands, Stop>
-        requires { 0 < size }
-    {
+    /// Whether it has a row with numbers of this type.
+    pub(crate) fn has(&self, width: Width) -> bool {
+        width == Width::I8 || !self.3.has_booleans()
+    }
+
+    /// The operands in a row of this type, where a vector has so many elements.
+    pub(crate) fn operands(
+        &self,
+        alloc: Global,
+        width: Width,
+        size: u64,
+    ) -> Result<Operands, Stop> {
+        let at = |from| Place { width, from, size };
         let left = match self.2 {
-            Some(left) => Some(left.array(alloc, 0, size)?),
+            Some(left) => Some(left.array(alloc, at(0))?),
             None => None,
         };
-        let right = self.3.array(alloc, APART, size)?;
+        let right = self.3.array(alloc, at(APART))?;
         Ok(Operands {
             left: [left],
             right,

@@ -1,15 +1,15 @@
-//! Times primitive functions and operators. For each kernel it writes a checksum of the result on standard output, and on standard error the nanoseconds
-//! of processor time that one application takes, on the average of so many.
+//! Times primitive functions and operators. For each kernel and each type that stores its operands it writes a checksum of the result on standard
+//! output, and on standard error the nanoseconds of processor time that one application takes, on the average of so many.
 #![tactic(auto)]
 
-ghost use Rattle.std.specs.Prelude.{◌<◌};
-
 mod kernels;
+mod numbers;
 mod operands;
 mod words;
 
 use crate::kernels::{KERNELS, Kernel};
-use crate::words::{planned, words};
+use crate::numbers::{WIDTHS, Width};
+use crate::words::{Plan, planned, words};
 use apl_arrays::{Array, Elements, Stop};
 use std::alloc::AllocError;
 use std::io;
@@ -53,35 +53,48 @@ fn checksum(array: &Array) -> i64 {
     let mut sum = 0i64;
     if let Elements::Nums(numbers) = array.items() {
         for number in numbers {
-            sum = sum.wrapping_mul(31).wrapping_add(*number);
+            sum = sum.wrapping_mul(31).wrapping_add(number);
         }
     }
     sum
 }
 
-/// Times one kernel. The first application, from which the checksum is taken, is not timed.
+/// Times one kernel with operands of one type. The first application, from which the checksum is taken, is not timed.
 fn time<R: CpuClock + Print + Eprint + AllocGlobal>(
     rt: &R,
     kernel: &Kernel,
-    size: u64,
-    repeats: u64,
-) -> Result<(), Ended>
-    requires { 0 < size }
-{
+    width: Width,
+    plan: &Plan<'_>,
+) -> Result<(), Ended> {
     let alloc = rt.alloc();
-    let operands = kernel.operands(alloc, size)?;
+    let operands = kernel.operands(alloc, width, plan.size)?;
     let mut result = kernel.apply(alloc, &operands)?;
-    println!(rt; "{} {}", kernel.name(), checksum(&result))?;
+    println!(rt; "{} {} {}", kernel.name(), width.name(), checksum(&result))?;
     let start = rt.thread_cpu_time()?;
-    for _ in 0..repeats {
+    for _ in 0..plan.repeats {
         result = kernel.apply(alloc, &operands)?;
     }
     let spent = rt.thread_cpu_time()?.saturating_sub(start);
     eprintln!(rt;
-        "{} {}",
+        "{} {} {}",
         kernel.name(),
-        spent.as_nanos() / u128::from(repeats.max(1))
+        width.name(),
+        spent.as_nanos() / u128::from(plan.repeats.max(1))
     )?;
+    Ok(())
+}
+
+/// Times one kernel with operands of each type that it has.
+fn time_each<R: CpuClock + Print + Eprint + AllocGlobal>(
+    rt: &R,
+    kernel: &Kernel,
+    plan: &Plan<'_>,
+) -> Result<(), Ended> {
+    for width in WIDTHS {
+        if kernel.has(*width) {
+            time(rt, kernel, *width, plan)?;
+        }
+    }
     Ok(())
 }
 
@@ -101,7 +114,7 @@ fn run<R: CpuClock + Env + Print + Eprint + AllocGlobal>(rt: &R) -> Result<(), E
     for kernel in KERNELS {
         if is_asked(plan.kernel, kernel) {
             found = true;
-            time(rt, kernel, plan.size.max(1), plan.repeats)?;
+            time_each(rt, kernel, &plan)?;
         }
     }
     if !found {

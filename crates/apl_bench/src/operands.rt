@@ -1,33 +1,10 @@
-// The operands of kernels, the same in each run.
-ghost use Rattle.std.specs.Prelude.{◌<◌, ◌≤◌, ◌^◌};
-
-use apl_arrays::{Array, Origin, Ravel, Stop};
+// The operands of kernels.
+use crate::numbers::{Numbers, Width};
+use apl_arrays::{Array, Lane, NumberVec, Origin, Ravel, Stop};
 use apl_code::{Function, Row};
 use apl_primitives::{Arguments, phrase_value};
 use apl_symbols::Primitive;
-use std::alloc::Global;
-
-/// The first place of a second operand, far from those of a first one.
-pub(crate) const APART: u64 = 1_000_000_007;
-
-/// The numbers of an operand, where a vector has so many elements.
-#[derive(Clone, Copy)]
-pub(crate) enum Numbers {
-    /// From -2^30 up to 2^30, so that sums and products fit 64 bits.
-    Wide,
-    /// 0 to 7, so that two are often equal.
-    Few,
-    /// 0 and 1.
-    Truth,
-    /// 1 to 1000.
-    Divisor,
-    /// At each place a multiple of 7 and of the second operand's divisor there.
-    Multiple,
-    /// 1 to the number of elements.
-    Index,
-    /// 0 to twice the number of elements, so that about half of those of one operand are in the other one.
-    Member,
-}
+use std::alloc::{AllocError, Global};
 
 /// An operand, where a vector has so many elements.
 #[derive(Clone, Copy)]
@@ -44,76 +21,47 @@ pub(crate) enum Operand {
     Cube(Numbers),
 }
 
-/// A number below 2^31 for a place, spread as if at random.
-fn spread(place: u64) -> u32
-    ensures { result < 2 ^ 31 }
-{
-    let once = place.wrapping_mul(0x9E37_79B9_7F4A_7C15);
-    let twice = (once ^ once / 0x1_0000_0000).wrapping_mul(0xD6E8_FEB8_6659_FD93);
-    (twice / 0x2_0000_0000) as u32
+/// Where the numbers of an operand begin, in a row of which type, and how many elements a vector has there.
+#[derive(Clone, Copy)]
+pub(crate) struct Place {
+    pub(crate) width: Width,
+    pub(crate) from: u64,
+    pub(crate) size: u64,
 }
 
-fn divisor(place: u64) -> u32
-    ensures { result ≤ 1000 }
-{
-    1 + spread(place) % 1000
+/// So many numbers from a place on, in a type that holds each of them.
+fn items<L: Lane>(
+    alloc: Global,
+    numbers: Numbers,
+    place: Place,
+    count: u64,
+) -> Result<Vec<L>, AllocError> {
+    let mut items = Vec::new(alloc);
+    for k in 0..count {
+        let number = numbers.at(place.width, place.from.wrapping_add(k), place.size);
+        items.push(L::low(number))?;
+    }
+    Ok(items)
 }
 
-/// A number below a limit, which is more than 0, for a place.
-fn below(place: u64, limit: u64) -> u32
-    requires { 0 < limit }
-    ensures { result < 2 ^ 31 }
-{
-    (u64::from(spread(place)) % limit) as u32
+/// So many numbers from a place on as a vector, in the type that stores them.
+fn vector(alloc: Global, numbers: Numbers, place: Place, count: u64) -> Result<Array, Stop> {
+    let kept = match numbers.stored(place.width) {
+        Width::I64 => NumberVec::I64(items(alloc, numbers, place, count)?),
+        Width::I32 => NumberVec::I32(items(alloc, numbers, place, count)?),
+        Width::I8 => NumberVec::I8(items(alloc, numbers, place, count)?),
+    };
+    let length = kept.len();
+    Array::from_shape(alloc, &[length], Ravel::Nums(kept))
 }
 
-impl Numbers {
-    /// The number for a place, where a vector has so many elements, more than 0.
-    fn at(self, place: u64, size: u64) -> i64
-        requires { 0 < size }
-    {
-        match self {
-            Numbers::Wide => i64::from(spread(place)) - 0x4000_0000,
-            Numbers::Few => i64::from(spread(place) % 8),
-            Numbers::Truth => i64::from(spread(place) % 2),
-            Numbers::Divisor => i64::from(divisor(place)),
-            Numbers::Multiple => {
-                i64::from(divisor(place.wrapping_add(APART)))
-                    * 7
-                    * i64::from(spread(place) % 65_536)
-            }
-            Numbers::Index => 1 + i64::from(below(place, size)),
-            Numbers::Member => i64::from(below(place, size.saturating_mul(2))),
-        }
-    }
-
-    /// So many of the numbers from a place on.
-    fn vector(self, alloc: Global, from: u64, size: u64, count: u64) -> Result<Array, Stop>
-        requires { 0 < size }
-    {
-        let mut numbers = Vec::new(alloc);
-        for place in 0..count {
-            numbers.push(self.at(from.wrapping_add(place), size))?;
-        }
-        let length = numbers.len();
-        Array::from_shape(alloc, &[length], Ravel::Nums(numbers))
-    }
-
-    /// The numbers from a place on in a square table.
-    fn square(self, alloc: Global, from: u64, size: u64, side: u32) -> Result<Array, Stop>
-        requires { 0 < size }
-    {
-        let numbers = self.vector(alloc, from, size, u64::from(side) * u64::from(side))?;
-        let lengths = Vec::from_slice(alloc, &[i64::from(side), i64::from(side)])?;
-        let shape = Array::from_shape(alloc, &[2], Ravel::Nums(lengths))?;
-        let reshape = Row::Dyadic(Function::Primitive(Primitive::Rho));
-        phrase_value(
-            alloc,
-            &reshape,
-            Arguments::Two(&shape, &numbers),
-            Origin::One,
-        )
-    }
+/// The numbers from a place on in a square table.
+fn square(alloc: Global, numbers: Numbers, place: Place, side: u32) -> Result<Array, Stop> {
+    let all = vector(alloc, numbers, place, u64::from(side) * u64::from(side))?;
+    let lengths = Vec::from_slice(alloc, &[i64::from(side), i64::from(side)])?;
+    let shape = Array::from_shape(alloc, &[2], Ravel::wide(lengths))?;
+    let reshape = Row::Dyadic(Function::Primitive(Primitive::Rho));
+    phrase_value(alloc, &reshape, Arguments::Two(&shape, &all), Origin::One)
 }
 
 /// The side of the largest square of at most so many elements, up to 1000.
@@ -137,18 +85,28 @@ fn cube_side(size: u64) -> u32 {
 }
 
 impl Operand {
-    /// The operand, whose numbers are those from a place on, where a vector has so many elements, more than 0.
-    pub(crate) fn array(self, alloc: Global, from: u64, size: u64) -> Result<Array, Stop>
-        requires { 0 < size }
-    {
+    /// Whether its elements are only 0 and 1.
+    pub(crate) fn has_booleans(self) -> bool {
+        match self {
+            Operand::Seven => false,
+            Operand::Vector(numbers)
+            | Operand::Edge(numbers)
+            | Operand::Square(numbers)
+            | Operand::Cube(numbers) => numbers.are_booleans(),
+        }
+    }
+
+    /// The operand, whose numbers are those from a place on.
+    pub(crate) fn array(self, alloc: Global, place: Place) -> Result<Array, Stop> {
         match self {
             Operand::Seven => Ok(Array::number(7)),
-            Operand::Vector(numbers) => numbers.vector(alloc, from, size, size),
+            Operand::Vector(numbers) => vector(alloc, numbers, place, place.size),
             Operand::Edge(numbers) => {
-                numbers.vector(alloc, from, size, u64::from(square_side(size)))
+                let count = u64::from(square_side(place.size));
+                vector(alloc, numbers, place, count)
             }
-            Operand::Square(numbers) => numbers.square(alloc, from, size, square_side(size)),
-            Operand::Cube(numbers) => numbers.square(alloc, from, size, cube_side(size)),
+            Operand::Square(numbers) => square(alloc, numbers, place, square_side(place.size)),
+            Operand::Cube(numbers) => square(alloc, numbers, place, cube_side(place.size)),
         }
     }
 }

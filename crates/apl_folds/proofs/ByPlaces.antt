@@ -83,7 +83,7 @@ index_in_row axis row q l h = ap (λ (m : ℕ). m % axis.length) (ap (λ (p : �
     there q x l = omega arith
 
 -- the line of a prefix is that of the prefix before and the number at its place
-one_longer : (zs : List ℤ) (axis : Axis) (q : ℕ) → axis.down ≡ 0 →
+pub one_longer : (zs : List ℤ) (axis : Axis) (q : ℕ) → axis.down ≡ 0 →
     line_of (pos 0) zs axis (q - index_along axis q * axis.up) (index_along axis q) ++ get_or zs q (pos 0) ∷ [] ≡ line_of (pos 0) zs axis (q - index_along axis q * axis.up) (index_along axis q + 1)
 one_longer zs axis q d =
     let k : ℕ = index_along axis q in
@@ -117,6 +117,10 @@ before_step zs axis p q h u d e later =
 
         one : (k : ℕ) → 0 < k → k - 1 + 1 ≡ k
         one k h = omega arith
+
+-- so the fold of those before a place is the prefix a step back
+pub prefix_before : (f : ℤ → ℤ → Result ℤ Fault) (zs : List ℤ) (axis : Axis) (p q : ℕ) → 0 < axis.length → 0 < axis.up → axis.down ≡ 0 → q ≡ p + axis.up → 0 < index_along axis q → prefix_fold f zs axis p ≡ fold_by f (before zs axis q)
+prefix_before f zs axis p q h u d e later = ap (fold_by f) (sym (one_longer zs axis p d) ∙ before_step zs axis p q h u d e later)
 
 -- before the first of a line there is none
 pub before_first : (zs : List ℤ) (axis : Axis) (q : ℕ) → index_along axis q ≡ 0 → [] ≡ before zs axis q

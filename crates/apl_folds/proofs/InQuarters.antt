@@ -1,23 +1,18 @@
 -- Folds of rows by associative functions, in parts.
-use Rattle.std.proofs.Common.{◌≡◌, ℕ, ℤ, pos, ◌+◌, ◌<◌, ◌≤◌, List, [], ◌∷◌, ◌++◌, length, take, drop, get_or, Result, Ok, Err, refl, ap, sym, ◌∙◌, arith, take-append-drop}
+use Rattle.std.proofs.Common.{◌≡◌, ℕ, ℤ, pos, ◌+◌, ◌<◌, ◌≤◌, List, [], ◌∷◌, ◌++◌, map, length, take, drop, get_or, Result, Ok, Err, refl, ap, sym, ◌∙◌, arith, take-append-drop}
 use Rattle.std.proofs.lemmas.List.{take_more, take_all}
 use Rattle.apl_faults.specs.declared.fault.Fault.{Fault}
 use Rattle.apl_arrays.specs.Results.{and_then}
 use Rattle.apl_folds.specs.Chains.{IsAssociative}
 use Rattle.apl_folds.specs.Lines.{fold_by}
-use Rattle.apl_folds.specs.declared.quarters.Four.{Four}
-use Rattle.apl_folds.specs.inside.Quarters.{AreFour}
+use Rattle.apl_scalar.proofs.OfLanes.{as_many, number_of_item, numbers-append}
 
 fold_cons : (f : ℤ → ℤ → Result ℤ Fault) (x : ℤ) (xs : List ℤ) → 0 < length xs → fold_by f (x ∷ xs) ≡ and_then (fold_by f xs) (λ z. f x z)
 fold_cons f x [] h = absurd (omega arith)
 fold_cons f x (y ∷ ys) h = refl
 
-some_more : (xs ys : List ℤ) → 0 < length ys → 0 < length (xs ++ ys)
-some_more [] ys h = h
-some_more (x ∷ xs) ys h = omega arith
-
 -- numbers of which the fold is known, before others
-pub fold_append : (f : ℤ → ℤ → Result ℤ Fault) → IsAssociative f → (xs ys : List ℤ) (x : ℤ) → fold_by f xs ≡ Ok x → 0 < length ys → fold_by f (xs ++ ys) ≡ and_then (fold_by f ys) (λ y. f x y)
+fold_append : (f : ℤ → ℤ → Result ℤ Fault) → IsAssociative f → (xs ys : List ℤ) (x : ℤ) → fold_by f xs ≡ Ok x → 0 < length ys → fold_by f (xs ++ ys) ≡ and_then (fold_by f ys) (λ y. f x y)
 fold_append f a [] ys x e h = absurd (cc)
 fold_append f a (v ∷ []) ys x e h =
     let same : v ≡ x = cc in
@@ -33,60 +28,34 @@ fold_append f a (v ∷ u ∷ us) ys x e h = inside (λ w p. fold_append f a (u �
     inside others (Ok w) p q = ap (λ (s : Result ℤ Fault). and_then s (λ z. f v z)) (others w p) ∙ moved w (fold_by f ys) q
     inside others (Err g) p q = absurd (cc)
 
--- and before one number more
-pub fold_longer : (f : ℤ → ℤ → Result ℤ Fault) → IsAssociative f → (xs : List ℤ) (x y z : ℤ) → fold_by f xs ≡ Ok x → f x y ≡ Ok z → fold_by f (xs ++ y ∷ []) ≡ Ok z
-fold_longer f a xs x y z e p = fold_append f a xs (y ∷ []) x e (omega arith) ∙ p
-
--- the first number of a row
-pub row_begins : (f : ℤ → ℤ → Result ℤ Fault) (xs : List ℤ) → 0 < length xs → fold_by f (take 1 xs) ≡ Ok (get_or xs 0 (pos 0))
-row_begins f [] h = absurd (omega arith)
-row_begins f (x ∷ xs) h = refl
-
--- and one number more
-row_longer : (f : ℤ → ℤ → Result ℤ Fault) (xs : List ℤ) (j : ℕ) (z : ℤ) → j < length xs → fold_by f (take j xs ++ get_or xs j (pos 0) ∷ []) ≡ Ok z → fold_by f (take (j + 1) xs) ≡ Ok z
-row_longer f xs j z h e = ap (fold_by f) (take_more xs j (pos 0) h) ∙ e
-
--- the same of four rows
-pub rows_longer : (f : ℤ → ℤ → Result ℤ Fault) (xs ys zs ws : List ℤ) (j : ℕ) (four : Four) → j < length xs → length ys ≡ length xs → length zs ≡ length xs → length ws ≡ length xs →
-    AreFour f (take j xs ++ get_or xs j (pos 0) ∷ []) (take j ys ++ get_or ys j (pos 0) ∷ []) (take j zs ++ get_or zs j (pos 0) ∷ []) (take j ws ++ get_or ws j (pos 0) ∷ []) four →
-    AreFour f (take (j + 1) xs) (take (j + 1) ys) (take (j + 1) zs) (take (j + 1) ws) four
-rows_longer f xs ys zs ws j four h ey ez ew a =
-    λ z.
-    let p = a z in
-    (row_longer f xs j four.first h p.0, (row_longer f ys j four.second (omega arith) p.1.0, (row_longer f zs j four.third (omega arith) p.1.1.0, row_longer f ws j four.fourth (omega arith) p.1.1.1)))
-
-row_whole : (f : ℤ → ℤ → Result ℤ Fault) (xs : List ℤ) (j : ℕ) (z : ℤ) → length xs ≤ j → fold_by f (take j xs) ≡ Ok z → fold_by f xs ≡ Ok z
-row_whole f xs j z h e = ap (fold_by f) (sym (take_all j xs h)) ∙ e
-
--- and of all their numbers
-pub rows_whole : (f : ℤ → ℤ → Result ℤ Fault) (xs ys zs ws : List ℤ) (j : ℕ) (four : Four) → length xs ≤ j → length ys ≡ length xs → length zs ≡ length xs → length ws ≡ length xs →
-    AreFour f (take j xs) (take j ys) (take j zs) (take j ws) four → AreFour f xs ys zs ws four
-rows_whole f xs ys zs ws j four h ey ez ew a =
-    λ z.
-    let p = a z in
-    (row_whole f xs j four.first h p.0, (row_whole f ys j four.second (omega arith) p.1.0, (row_whole f zs j four.third (omega arith) p.1.1.0, row_whole f ws j four.fourth (omega arith) p.1.1.1)))
-
 some_numbers : (f : ℤ → ℤ → Result ℤ Fault) (xs : List ℤ) (x : ℤ) → fold_by f xs ≡ Ok x → 0 < length xs
 some_numbers f [] x e = absurd (cc)
 some_numbers f (y ∷ ys) x e = omega arith
 
--- the fold of four rows is that of their folds
-pub fold_together : (f : ℤ → ℤ → Result ℤ Fault) → IsAssociative f → (xs ys zs ws : List ℤ) (x y z w : ℤ) → fold_by f xs ≡ Ok x → fold_by f ys ≡ Ok y → fold_by f zs ≡ Ok z → fold_by f ws ≡ Ok w →
-    fold_by f (xs ++ (ys ++ (zs ++ ws))) ≡ fold_by f (x ∷ y ∷ z ∷ w ∷ [])
-fold_together f a xs ys zs ws x y z w ex ey ez ew =
-    let last : 0 < length ws = some_numbers f ws w ew in
-    fold_append f a xs (ys ++ (zs ++ ws)) x ex (some_more ys (zs ++ ws) (some_more zs ws last))
-    ∙ ap (λ (r : Result ℤ Fault). and_then r (λ v. f x v)) (fold_append f a ys (zs ++ ws) y ey (some_more zs ws last)
-    ∙ ap (λ (r : Result ℤ Fault). and_then r (λ v. f y v)) (fold_append f a zs ws z ez last
-    ∙ ap (λ (r : Result ℤ Fault). and_then r (λ v. f z v)) ew))
+-- two parts
+pub fold_parts : (f : ℤ → ℤ → Result ℤ Fault) → IsAssociative f → (xs ys : List ℤ) (x y z : ℤ) → fold_by f xs ≡ Ok x → fold_by f ys ≡ Ok y → f x y ≡ Ok z → fold_by f (xs ++ ys) ≡ Ok z
+fold_parts f a xs ys x y z p q r = fold_append f a xs ys x p (some_numbers f ys y q) ∙ ap (λ (s : Result ℤ Fault). and_then s (λ v. f x v)) q ∙ r
 
--- a row in four parts
-pub four_parts : (numbers first after second last third fourth : List ℤ) (n : ℕ) → first ≡ take n numbers → after ≡ drop n numbers → second ≡ take n after → last ≡ drop n after → third ≡ take n last → fourth ≡ drop n last →
-    first ++ (second ++ (third ++ fourth)) ≡ numbers
-four_parts numbers first after second last third fourth n ea eb ec ed ee ef =
-    ap (λ (l : List ℤ). first ++ (second ++ l)) (joined last third fourth ee ef)
-    ∙ ap (λ (l : List ℤ). first ++ l) (joined after second last ec ed)
-    ∙ joined numbers first after ea eb
-  where
-    joined : (xs ys zs : List ℤ) → ys ≡ take n xs → zs ≡ drop n xs → ys ++ zs ≡ xs
-    joined xs ys zs p q = rw (p, q) (take-append-drop n xs)
+-- one number more
+pub row_longer : {A : Type 0} (value : A → ℤ) (numbers : List A → List ℤ) → ((xs : List A) → numbers xs ≡ map value xs) → (f : ℤ → ℤ → Result ℤ Fault) → IsAssociative f →
+    (xs : List A) (j : ℕ) (x y z : A) → j < length xs → y ≡ get_or xs j y → fold_by f (take j (numbers xs)) ≡ Ok (value x) → f (value x) (value y) ≡ Ok (value z) →
+    fold_by f (take (j + 1) (numbers xs)) ≡ Ok (value z)
+row_longer value numbers each f a xs j x y z h is e p =
+    ap (fold_by f) (take_more (numbers xs) j (pos 0) (omega (arith, as_many value numbers each xs)) ∙ ap (λ (v : ℤ). take j (numbers xs) ++ v ∷ []) (number_of_item value numbers each xs j y h is))
+    ∙ fold_parts f a (take j (numbers xs)) (value y ∷ []) (value x) (value y) (value z) e refl p
+
+-- the first number
+pub row_begins : (f : ℤ → ℤ → Result ℤ Fault) (xs : List ℤ) → 0 < length xs → fold_by f (take 1 xs) ≡ Ok (get_or xs 0 (pos 0))
+row_begins f [] h = absurd (omega arith)
+row_begins f (x ∷ xs) h = refl
+
+-- all numbers
+pub row_whole : (f : ℤ → ℤ → Result ℤ Fault) (xs : List ℤ) (j : ℕ) (z : ℤ) → length xs ≤ j → fold_by f (take j xs) ≡ Ok z → fold_by f xs ≡ Ok z
+row_whole f xs j z h e = ap (fold_by f) (sym (take_all j xs h)) ∙ e
+
+-- numbers in two parts
+pub in_parts : {A : Type 0} (value : A → ℤ) (numbers : List A → List ℤ) → ((xs : List A) → numbers xs ≡ map value xs) → (f : ℤ → ℤ → Result ℤ Fault) → IsAssociative f →
+    (xs ys zs : List A) (n : ℕ) (x y z : ℤ) → ys ≡ take n xs → zs ≡ drop n xs → fold_by f (numbers ys) ≡ Ok x → fold_by f (numbers zs) ≡ Ok y → f x y ≡ Ok z → fold_by f (numbers xs) ≡ Ok z
+in_parts {A = A} value numbers each f a xs ys zs n x y z ey ez p q r =
+    let whole : xs ≡ ys ++ zs = sym (rw (ey, ez) (take-append-drop n xs)) in
+    ap (λ (l : List A). fold_by f (numbers l)) whole ∙ ap (fold_by f) (numbers-append value numbers each ys zs) ∙ fold_parts f a (numbers ys) (numbers zs) x y z p q r

@@ -11,9 +11,11 @@ pub mod Comparisons
 pub mod Totals
 pub mod Reach
 pub mod LastTwo
-pub mod Associative
 pub mod InQuarters
 pub mod Faults
 pub mod ByPlaces
 pub mod Whole
 pub mod Vectors
+pub mod OrOfLanes
+pub mod InRooms
+pub mod Runs

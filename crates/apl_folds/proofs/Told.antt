@@ -28,3 +28,14 @@ other_stays none P room j i v h p = subst P (sym (get_or-set_other room j i v no
   where
     apart : (i j : ℕ) → j < i → i ≢ j
     apart i j h e = omega arith
+
+-- what holds below one number, and at it
+pub one_more : (P : ℕ → Type 0) (j : ℕ) → P j → ((i : ℕ) → i < j → P i) → (i : ℕ) → i < j + 1 → P i
+one_more P j p each i l = split (nat_lt i j) refl
+  where
+    split : (b : Bool) → nat_lt i j ≡ b → P i
+    split true t = each i (ltb-true i j t)
+    split false t =
+        let high : j ≤ i = ltb-false i j t in
+        let same : j ≡ i = omega arith in
+        subst P same p

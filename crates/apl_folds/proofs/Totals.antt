@@ -1,16 +1,16 @@
 -- Sums whose magnitudes fit: the fold is the sum, in whatever order it is taken.
 use Rattle.std.proofs.Common.{◌≡◌, ℕ, ℤ, pos, ◌+ℤ◌, ◌+◌, ◌-◌, ◌*◌, ◌<◌, ◌≤◌, ◌^◌, List, [], ◌∷◌, ◌++◌, length, get_or, take, drop, Result, Ok, FitsSigned, ap, sym, ◌∙◌, subst, arith, take-append-drop, drop-drop}
 use Rattle.std.specs.Prelude.{unsigned_abs}
-use Rattle.std.specs.Int.{w64}
+use Rattle.std.specs.Int.{w64, Width}
 use Rattle.std.proofs.lemmas.Int.{ints}
-use Rattle.std.proofs.lemmas.List.{take_more}
+use Rattle.std.proofs.lemmas.List.{take_more, length-append}
 use Rattle.apl_faults.specs.declared.fault.Fault.{Fault}
 use Rattle.apl_arrays.specs.Results.{and_then}
 use Rattle.apl_scalar.specs.declared.function.Dyadic.TheVariants as two
 use Rattle.apl_scalar.specs.Functions.{dyadic_of}
 use Rattle.apl_scalar.proofs.Signs.{in_range-fits}
 use Rattle.apl_folds.specs.Lines.{fold_by}
-use Rattle.apl_folds.specs.inside.Sums.{total, magnitudes}
+use Rattle.apl_folds.specs.inside.Sums.{total, magnitudes, HasRoom}
 
 abs-add : (x y : ℤ) → unsigned_abs (x +ℤ y) ≤ unsigned_abs x + unsigned_abs y
 abs-add x y = omega (arith, ints)
@@ -109,3 +109,23 @@ block_before xs i j h =
   where
     there : (i j : ℕ) → i ≤ j → i + (j - i) ≡ j
     there i j h = omega arith
+
+some_numbers : (f : ℤ → ℤ → Result ℤ Fault) (xs : List ℤ) (z : ℤ) → fold_by f xs ≡ Ok z → 0 < length xs
+some_numbers f [] z e = absurd (cc)
+some_numbers f (x ∷ xs) z e = omega arith
+
+-- what the fold is where the magnitudes fit
+fold_is : (xs : List ℤ) (z : ℤ) → magnitudes xs < 2 ^ 63 → fold_by (dyadic_of two.Plus) xs ≡ Ok z → z ≡ total xs
+fold_is xs z m e = let t : fold_by (dyadic_of two.Plus) xs ≡ Ok (total xs) = fold_total xs (some_numbers (dyadic_of two.Plus) xs z e) m in cc
+
+-- one number before others
+pub sum_before : (xs : List ℤ) (x z v : ℤ) → magnitudes (x ∷ xs) < 2 ^ 63 → fold_by (dyadic_of two.Plus) xs ≡ Ok z → (FitsSigned w64 (x +ℤ z) → v ≡ x +ℤ z) → fold_by (dyadic_of two.Plus) (x ∷ xs) ≡ Ok v
+sum_before xs x z v m e added =
+    let t : x +ℤ z ≡ total (x ∷ xs) = ap (λ (s : ℤ). x +ℤ s) (fold_is xs z (omega arith) e) in
+    fold_total (x ∷ xs) (omega arith) m ∙ ap (λ (s : ℤ). Ok s) (sym (added (fits_along (x +ℤ z) (total (x ∷ xs)) t (omega (arith, total_small (x ∷ xs)))) ∙ t))
+
+-- one number behind others
+pub sum_behind : (w : Width) (xs : List ℤ) (x z v : ℤ) → HasRoom w (xs ++ x ∷ []) → fold_by (dyadic_of two.Plus) xs ≡ Ok z → (FitsSigned w (z +ℤ x) → v ≡ z +ℤ x) → fold_by (dyadic_of two.Plus) (xs ++ x ∷ []) ≡ Ok v
+sum_behind w xs x z v room e added =
+    let t : z +ℤ x ≡ total (xs ++ x ∷ []) = ap (λ (s : ℤ). s +ℤ x) (fold_is xs z (omega (arith, room.magnitudes, magnitudes_more xs x)) e) ∙ sym (total_more xs x) in
+    fold_total (xs ++ x ∷ []) (omega (arith, length-append xs (x ∷ []))) room.magnitudes ∙ ap (λ (s : ℤ). Ok s) (sym (added (subst (λ (s : ℤ). FitsSigned w s) (sym t) room.sum) ∙ t))

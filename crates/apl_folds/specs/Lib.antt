@@ -4,3 +4,4 @@ pub mod Lines
 pub mod Chains
 pub mod inside
 pub mod Order
+pub mod Rooms

@@ -35,16 +35,18 @@ line_fold f raw axis p count = fold_by f (line_of (pos 0) raw axis p count)
 abbrev pub folds_beside : (ℤ → ℤ → Result ℤ Fault) → List ℤ → Axis → ℕ → ℕ → ℕ → Result (List ℤ) Fault
 folds_beside f raw axis count from till = all_ok (λ p. line_fold f raw axis p count) (range_with_len from (till - from))
 
--- each number of a row is taken into the fold beside it
-abbrev pub AreTaken : (ℤ → ℤ → Result ℤ Fault) → List ℤ → List ℤ → List ℤ → Type 0
-AreTaken f row old new = (j : ℕ) → j < length old → f (slice_index_or row j (pos 0)) (slice_index_or old j (pos 0)) ≡ Ok (slice_index_or new j (pos 0))
+-- each number of a row is taken into the fold beside it, where there is room for it
+abbrev pub AreTaken : (ℤ → ℤ → Result ℤ Fault) → (List ℤ → Type 0) → List ℤ → List ℤ → List ℤ → Type 0
+AreTaken f room row old new =
+    (j : ℕ) → j < length old → (rest : List ℤ) → room (slice_index_or row j (pos 0) ∷ rest) → fold_by f rest ≡ Ok (slice_index_or old j (pos 0)) →
+    fold_by f (slice_index_or row j (pos 0) ∷ rest) ≡ Ok (slice_index_or new j (pos 0))
 
 -- the numbers of four rows are taken into the fold beside them
-abbrev pub AreFourTaken : (ℤ → ℤ → Result ℤ Fault) → List ℤ → List ℤ → List ℤ → List ℤ → List ℤ → List ℤ → Type 0
-AreFourTaken f first second third fourth old new =
-    (j : ℕ) → j < length old →
-    fold_by f (slice_index_or first j (pos 0) ∷ slice_index_or second j (pos 0) ∷ slice_index_or third j (pos 0) ∷ slice_index_or fourth j (pos 0) ∷ slice_index_or old j (pos 0) ∷ [])
-    ≡ Ok (slice_index_or new j (pos 0))
+abbrev pub AreFourTaken : (ℤ → ℤ → Result ℤ Fault) → (List ℤ → Type 0) → List ℤ → List ℤ → List ℤ → List ℤ → List ℤ → List ℤ → Type 0
+AreFourTaken f room first second third fourth old new =
+    (j : ℕ) → j < length old → (rest : List ℤ) →
+    room (slice_index_or first j (pos 0) ∷ slice_index_or second j (pos 0) ∷ slice_index_or third j (pos 0) ∷ slice_index_or fourth j (pos 0) ∷ rest) → fold_by f rest ≡ Ok (slice_index_or old j (pos 0)) →
+    fold_by f (slice_index_or first j (pos 0) ∷ slice_index_or second j (pos 0) ∷ slice_index_or third j (pos 0) ∷ slice_index_or fourth j (pos 0) ∷ rest) ≡ Ok (slice_index_or new j (pos 0))
 
 -- each of these numbers is the fold of what one of the lines that begin side by side from a place on has from an index on
 abbrev pub AreFoldsFrom : (ℤ → ℤ → Result ℤ Fault) → List ℤ → Axis → ℕ → ℕ → ℕ → List ℤ → Type 0

@@ -1,6 +1,4 @@
-pub mod Chains
 pub mod Ends
 pub mod Prefixes
-pub mod Quarters
 pub mod Reach
 pub mod Sums

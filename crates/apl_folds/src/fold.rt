@@ -5,9 +5,11 @@ ghost use Rattle.apl_scalar.specs.Functions.{dyadic_of};
 ghost use Rattle.apl_folds.specs.Folds.{folded, identity};
 ghost use Rattle.apl_folds.specs.Lines.{fold_by};
 
-use crate::quarters::fold_chains;
+use crate::lanes::number_at;
+use crate::quarters::choose;
 use crate::sums::sum_row;
 use crate::truths::fold_connected;
+use apl_arrays::Lane;
 use apl_faults::Fault;
 use apl_scalar::{And, ByFunction, Dyadic, Maximum, Minimum, Nand, Nor, Or, Scalar};
 
@@ -38,14 +40,18 @@ pub(crate) fn identity_of(function: Dyadic) -> Result<i64, Fault>
 }
 
 /// The fold of numbers from the right, each step tested, where that of those from a place on is known.
-pub(crate) fn fold_from<F: Scalar>(numbers: &[i64], from: usize, known: i64) -> Result<i64, Fault>
+pub(crate) fn fold_from<F: Scalar, L: Lane>(
+    numbers: &[L],
+    from: usize,
+    known: i64,
+) -> Result<i64, Fault>
     requires within { from < length numbers.now }
-    requires known { fold_by F.meaning (drop from numbers.now) ≡ Ok known }
-    ensures { result ≡ fold_by F.meaning numbers.now }
+    requires known { fold_by F.meaning (drop from (L.numbers numbers.now)) ≡ Ok known }
+    ensures { result ≡ fold_by F.meaning (L.numbers numbers.now) }
 {
     let mut all = known;
     for k in (0..from).rev() {
-        match F::apply(numbers[k], all) {
+        match F::apply(number_at(numbers, k), all) {
             Ok(value) => all = value,
             Err(fault) => return Err(fault),
         }
@@ -54,53 +60,53 @@ pub(crate) fn fold_from<F: Scalar>(numbers: &[i64], from: usize, known: i64) -> 
 }
 
 /// The fold of one or more numbers from the right, each step tested.
-pub(crate) fn fold_right<F: Scalar>(numbers: &[i64]) -> Result<i64, Fault>
+pub(crate) fn fold_right<F: Scalar, L: Lane>(numbers: &[L]) -> Result<i64, Fault>
     requires { 0 < length numbers.now }
-    ensures { result ≡ fold_by F.meaning numbers.now }
+    ensures { result ≡ fold_by F.meaning (L.numbers numbers.now) }
 {
     let last = numbers.len() - 1;
-    fold_from::<F>(numbers, last, numbers[last])
+    fold_from::<F, L>(numbers, last, number_at(numbers, last))
 }
 
 /// One or more numbers, to be folded by a scalar function.
 #[derive(Clone, Copy)]
-struct Row<'a> {
-    numbers: &'a [i64],
+struct Row<'a, L> {
+    numbers: &'a [L],
 }
 
-impl<'a> ByFunction for Row<'a> {
+impl<'a, L: Lane> ByFunction for Row<'a, L> {
     type Output = Result<i64, Fault>;
 
     ghost can = { λ s f. 0 < length s.numbers.now };
 
-    ghost gives = { λ s f result. result ≡ fold_by f s.numbers.now };
+    ghost gives = { λ s f result. result ≡ fold_by f (L.numbers s.numbers.now) };
 
     fn with<F: Scalar>(self) -> Result<i64, Fault> {
-        fold_right::<F>(self.numbers)
+        fold_right::<F, L>(self.numbers)
     }
 }
 
 /// The fold of one or more numbers.
-pub(crate) fn fold_some(function: Dyadic, numbers: &[i64]) -> Result<i64, Fault>
+pub(crate) fn fold_some<L: Lane>(function: Dyadic, numbers: &[L]) -> Result<i64, Fault>
     requires { 0 < length numbers.now }
-    ensures { result ≡ fold_by (dyadic_of function) numbers.now }
+    ensures { result ≡ fold_by (dyadic_of function) (L.numbers numbers.now) }
 {
     match function {
         Dyadic::Plus => sum_row(numbers),
-        Dyadic::Maximum => fold_chains::<Maximum>(numbers),
-        Dyadic::Minimum => fold_chains::<Minimum>(numbers),
-        Dyadic::And => fold_connected::<And>(numbers),
-        Dyadic::Or => fold_connected::<Or>(numbers),
-        Dyadic::Nand => fold_connected::<Nand>(numbers),
-        Dyadic::Nor => fold_connected::<Nor>(numbers),
+        Dyadic::Maximum => Ok(choose::<Maximum, L>(numbers)),
+        Dyadic::Minimum => Ok(choose::<Minimum, L>(numbers)),
+        Dyadic::And => fold_connected::<And, L>(numbers),
+        Dyadic::Or => fold_connected::<Or, L>(numbers),
+        Dyadic::Nand => fold_connected::<Nand, L>(numbers),
+        Dyadic::Nor => fold_connected::<Nor, L>(numbers),
         _ => function.apply(Row { numbers }),
     }
 }
 
 /// The fold of numbers from the right: of none the identity, of one the number, of more the function of the first and the fold of the
 /// others. The function's fault is the fold's, and [`Dyadic::Nand`] and [`Dyadic::Nor`] of none are a domain fault.
-pub fn fold_numbers(function: Dyadic, numbers: &[i64]) -> Result<i64, Fault>
-    ensures { result ≡ folded function (map Num numbers.now) }
+pub fn fold_numbers<L: Lane>(function: Dyadic, numbers: &[L]) -> Result<i64, Fault>
+    ensures { result ≡ folded function (map Num (L.numbers numbers.now)) }
 {
     if numbers.is_empty() {
         identity_of(function)

@@ -1,34 +1,35 @@
 // Folds of the first items of lines of numbers.
-ghost use Rattle.std.specs.Prelude.{◌≡◌, ◌^◌, ◌<◌, ◌≤◌, ◌+◌, ◌*◌, length, slice_index_or, slice_range, pos};
+ghost use Rattle.std.specs.Prelude.{◌≡◌, ◌^◌, ◌<◌, ◌≤◌, ◌+◌, ◌*◌, length, slice_index_or, pos};
 ghost use Rattle.apl_arrays.specs.Strides.{step_at};
 ghost use Rattle.apl_scalar.specs.Functions.{dyadic_of};
 ghost use Rattle.apl_folds.specs.Lines.{line_fold, IsLine};
 
 use crate::fold::fold_some;
-use apl_arrays::{Axis, along};
+use crate::lanes::{number_at, row};
+use apl_arrays::{Axis, Lane, along};
 use apl_faults::Fault;
 use apl_scalar::{Dyadic, Scalar};
 
 /// The number at an index of an axis.
 #[inline(always)]
-fn nth(numbers: &[i64], axis: &Axis, at: usize, index: usize) -> i64
+fn nth<L: Lane>(numbers: &[L], axis: &Axis, at: usize, index: usize) -> i64
     requires within { index < axis.now.length }
     requires near { at + (axis.now.up + axis.now.down) * axis.now.length < 2 ^ 63 }
     requires placed { at + step_at axis.now index < length numbers.now }
-    ensures { result ≡ slice_index_or numbers.now (at + step_at axis.now index) (pos 0) }
+    ensures { result ≡ slice_index_or (L.numbers numbers.now) (at + step_at axis.now index) (pos 0) }
 {
-    numbers[along(at, axis, index)]
+    number_at(numbers, along(at, axis, index))
 }
 
 /// The fold of the first numbers along an axis from a place on, each step tested.
-pub(crate) fn fold_strided<F: Scalar>(
-    numbers: &[i64],
+pub(crate) fn fold_strided<F: Scalar, L: Lane>(
+    numbers: &[L],
     axis: &Axis,
     at: usize,
     count: usize,
 ) -> Result<i64, Fault>
     requires { IsLine (length numbers.now) axis.now at count }
-    ensures { result ≡ line_fold F.meaning numbers.now axis.now at count }
+    ensures { result ≡ line_fold F.meaning (L.numbers numbers.now) axis.now at count }
 {
     let last = count - 1;
     let mut all = nth(numbers, axis, at, last);
@@ -41,32 +42,23 @@ pub(crate) fn fold_strided<F: Scalar>(
     Ok(all)
 }
 
-/// The numbers from a place on.
-#[inline(always)]
-pub(crate) fn row(numbers: &[i64], at: usize, count: usize) -> &[i64]
-    requires { at + count ≤ length numbers.now }
-    ensures { result.now ≡ slice_range numbers.now at (at + count) }
-{
-    &numbers[at..at + count]
-}
-
 /// The fold of the first numbers along an axis from a place on. Where they lie side by side it is that of a row.
-pub(crate) fn fold_line<F: Scalar>(
+pub(crate) fn fold_line<F: Scalar, L: Lane>(
     function: Dyadic,
-    numbers: &[i64],
+    numbers: &[L],
     axis: &Axis,
     at: usize,
     count: usize,
 ) -> Result<i64, Fault>
     requires function { F.meaning ≡ dyadic_of function }
     requires line { IsLine (length numbers.now) axis.now at count }
-    ensures { result ≡ line_fold F.meaning numbers.now axis.now at count }
+    ensures { result ≡ line_fold F.meaning (L.numbers numbers.now) axis.now at count }
 {
     if axis.up != 1 {
-        return fold_strided::<F>(numbers, axis, at, count);
+        return fold_strided::<F, L>(numbers, axis, at, count);
     }
     if axis.down != 0 {
-        return fold_strided::<F>(numbers, axis, at, count);
+        return fold_strided::<F, L>(numbers, axis, at, count);
     }
     fold_some(function, row(numbers, at, count))
 }

@@ -1,27 +1,29 @@
 // Reduction along an axis.
-ghost use Rattle.std.specs.Prelude.{◌≡◌, ◌≢◌, ◌<◌, ◌≤◌, [], ◌∷◌, length, IfSome, Ok};
+ghost use Rattle.std.specs.Prelude.{◌≡◌, ◌≢◌, ◌<◌, ◌≤◌, [], ◌∷◌, ◌+◌, length, map, slice_range, IfSome, Ok};
 ghost use Rattle.apl_arrays.specs.Answers.{Answers, FaultsFirst};
 ghost use Rattle.apl_arrays.specs.Along.{axis_along};
 ghost use Rattle.apl_arrays.specs.Cells.{cells_of};
+ghost use Rattle.apl_arrays.specs.declared.cell.Cell.TheVariants.{Num};
 ghost use Rattle.apl_arrays.specs.Index.{bound_of, size_of};
 ghost use Rattle.apl_arrays.specs.Left.{listed};
+ghost use Rattle.apl_arrays.specs.Numbers.{values};
 ghost use Rattle.apl_arrays.specs.Origins.{origin_number};
 ghost use Rattle.apl_arrays.specs.Ravels.{items_of};
 ghost use Rattle.apl_arrays.specs.Results.{ok_map};
 ghost use Rattle.apl_arrays.specs.Strides.{IsView};
 ghost use Rattle.apl_arrays.specs.Views.{length_of};
 ghost use Rattle.apl_scalar.specs.Extension.{numbers_in};
-ghost use Rattle.apl_folds.specs.Folds.{folds_along, folds_shaped, squeezed, reduced_along, reduction};
+ghost use Rattle.apl_folds.specs.Folds.{folded, folds_along, folds_shaped, squeezed, reduced_along, reduction};
 ghost use Rattle.apl_folds.specs.Lines.{shown_by};
 
 use crate::fold::fold_numbers;
-use crate::line::row;
+use crate::lanes::row;
 use crate::lines::{Lines, folds_of_characters, folds_of_none, folds_of_numbers};
 use crate::order::in_order;
 use crate::walk::Start;
 use apl_arrays::{
-    Along, Array, Cells, Elements, MAX_ELEMENTS, MAX_RANK, Origin, Ravel, Stop, Strided, View,
-    copy_axes, size,
+    Along, Array, Cells, Elements, MAX_ELEMENTS, MAX_RANK, NumberSlice, Origin, Ravel, Stop,
+    Strided, View, copy_axes, size,
 };
 use apl_faults::Fault;
 use apl_scalar::Dyadic;
@@ -92,6 +94,23 @@ fn squeeze(alloc: Global, axis: usize, view: &View<'_>) -> Result<Array, Stop>
     )
 }
 
+/// The fold of so many numbers from a place on.
+fn piece_fold(
+    function: Dyadic,
+    numbers: NumberSlice<'_>,
+    at: usize,
+    count: usize,
+) -> Result<i64, Fault>
+    requires { at + count ≤ length (values numbers) }
+    ensures { result ≡ folded function (map Num (slice_range (values numbers.entry) at (at + count))) }
+{
+    match numbers {
+        NumberSlice::I8(numbers) => fold_numbers(function, row(numbers, at, count)),
+        NumberSlice::I32(numbers) => fold_numbers(function, row(numbers, at, count)),
+        NumberSlice::I64(numbers) => fold_numbers(function, row(numbers, at, count)),
+    }
+}
+
 /// The fold of a vector of numbers that lie side by side, which is the whole of a reduction and takes no memory.
 fn vector_fold(function: Dyadic, strided: &Strided<'_>) -> Option<Result<i64, Fault>>
     requires { IsView (listed strided.now.items) strided.now.offset strided.now.axes.now }
@@ -104,8 +123,8 @@ fn vector_fold(function: Dyadic, strided: &Strided<'_>) -> Option<Result<i64, Fa
                 if axis.length == 0 || axis.up != 1 || axis.down != 0 {
                     return None;
                 }
-                let piece = row(numbers, strided.offset, axis.length);
-                Some(fold_numbers(function, piece))
+                let fold = piece_fold(function, numbers, strided.offset, axis.length);
+                Some(fold)
             }
             Elements::Chars(_) => None,
         },
@@ -133,7 +152,7 @@ fn fold_lines(alloc: Global, function: Dyadic, axis: usize, view: &View<'_>) -> 
     shape.remove(axis);
     let room = size(shape.as_slice());
     let numbers = folds(alloc, function, axis, &view.strided(), room)?;
-    formed(alloc, shape, Ravel::Nums(numbers))
+    formed(alloc, shape, Ravel::wide(numbers))
 }
 
 /// The same, at once for a vector in one piece.

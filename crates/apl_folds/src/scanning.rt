@@ -4,6 +4,7 @@ ghost use Rattle.apl_faults.specs.declared.fault.Fault.TheVariants.{Domain};
 ghost use Rattle.apl_arrays.specs.Answers.{Answers, FaultsFirst};
 ghost use Rattle.apl_arrays.specs.Checks.{demand};
 ghost use Rattle.apl_arrays.specs.Kinds.{are_numbers};
+ghost use Rattle.apl_arrays.specs.Numbers.{kept_values};
 ghost use Rattle.apl_arrays.specs.Origins.{origin_number};
 ghost use Rattle.apl_arrays.specs.Index.{size_of};
 ghost use Rattle.apl_folds.specs.Scans.{prefixes_along, prefixes_shaped, scannable, scan_checked, scanned_along, scanning};
@@ -11,7 +12,7 @@ ghost use Rattle.apl_folds.specs.Scans.{prefixes_along, prefixes_shaped, scannab
 use crate::order::in_order;
 use crate::prefixes::prefixes;
 use crate::reduction::formed;
-use apl_arrays::{Along, Array, Axis, Cells, Elements, Origin, Ravel, Stop, View, size};
+use apl_arrays::{Along, Array, Axis, Cells, Elements, NumberVec, Origin, Ravel, Stop, View, size};
 use apl_faults::Fault;
 use apl_scalar::Dyadic;
 use std::alloc::Global;
@@ -22,11 +23,11 @@ fn prefixes_in_order(
     function: Dyadic,
     axis: usize,
     view: &View<'_>,
-) -> Result<Vec<i64>, Stop>
+) -> Result<NumberVec, Stop>
     requires axis { axis < length view.now.shape }
     requires some { 0 < size_of view.now.shape }
     requires numbers { are_numbers view.now.items ≡ true }
-    ensures { Answers (λ v. v.items) (prefixes_along function axis view.now) result }
+    ensures { Answers (λ v. kept_values v) (prefixes_along function axis view.now) result }
 {
     let shape = view.shape();
     let (to_axis, after) = shape.as_slice().split_at(axis + 1);

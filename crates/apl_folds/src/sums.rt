@@ -1,10 +1,13 @@
-// Sums of rows of numbers, block by block.
+// Sums of rows of numbers.
 ghost use Rattle.std.specs.Prelude.{◌≡◌, ◌^◌, ◌<◌, ◌≤◌, ◌*◌, ◌+ℤ◌, ℤ, FitsSigned, unsigned_abs};
 ghost use Rattle.std.specs.Prelude.{List, ◌++◌, length, IfSome, Ok};
 ghost use Rattle.std.specs.Int.{w64};
+ghost use Rattle.apl_folds.specs.Rooms.{HaveRoom};
 ghost use Rattle.apl_folds.specs.inside.Sums.{sum_of, total, magnitudes};
 
 use crate::fold::{fold_from, fold_right};
+use crate::lanes::{has_room, most};
+use apl_arrays::{Lane, NumberSlice};
 use apl_faults::Fault;
 use apl_scalar::{Sum, wider};
 
@@ -16,10 +19,30 @@ const FEW: usize = 16;
 
 /// The sum where it fits, and some number elsewhere.
 #[inline(always)]
-fn add(x: i64, y: i64) -> i64
+pub(crate) fn add(x: i64, y: i64) -> i64
     ensures { FitsSigned w64 (x +ℤ y) → result ≡ x +ℤ y }
 {
     x.wrapping_add(y)
+}
+
+/// A sum with a number more, where the type has room for it.
+#[inline(always)]
+pub(crate) fn plus<M: Lane>(sum: M, number: i64) -> M
+    ensures { FitsSigned M.width (M.value sum +ℤ number) → M.value result ≡ M.value sum +ℤ number }
+{
+    M::low(add(sum.wide(), number))
+}
+
+/// The sum of numbers, in a type that has room for it.
+fn sum_in<L: Lane, M: Lane>(numbers: &[L]) -> M
+    requires { HaveRoom M.width (L.numbers numbers.now) (length numbers.now) }
+    ensures { M.value result ≡ total (L.numbers numbers.now) }
+{
+    let mut sum = M::low(0);
+    for number in numbers {
+        sum = plus(sum, number.wide());
+    }
+    sum
 }
 
 /// A number that is below 2^49 only where the argument's magnitude is at most 2^48.
@@ -61,12 +84,12 @@ fn sum_block(numbers: &[i64], known: i64) -> Option<i64>
 }
 
 /// The sum of one or more numbers from the right: block by block while they are small, and from then on with each step tested.
-pub(crate) fn sum_row(numbers: &[i64]) -> Result<i64, Fault>
+fn sum_blocks(numbers: &[i64]) -> Result<i64, Fault>
     requires { 0 < length numbers.now }
     ensures { result ≡ sum_of numbers.now }
 {
     if numbers.len() < FEW {
-        return fold_right::<Sum>(numbers);
+        return fold_right::<Sum, i64>(numbers);
     }
     let mut left = numbers.len() - 1;
     let mut all = numbers[left];
@@ -77,8 +100,26 @@ pub(crate) fn sum_row(numbers: &[i64]) -> Result<i64, Fault>
                 all = sum;
                 left = from;
             }
-            None => return fold_from::<Sum>(numbers, left, all),
+            None => return fold_from::<Sum, i64>(numbers, left, all),
         }
     }
     Ok(all)
+}
+
+/// The sum of one or more numbers. Those of fewer bits need no test, in a type that has room for their sum.
+pub(crate) fn sum_row<L: Lane>(numbers: &[L]) -> Result<i64, Fault>
+    requires { 0 < length numbers.now }
+    ensures { result ≡ sum_of (L.numbers numbers.now) }
+{
+    if let NumberSlice::I64(numbers) = L::slice(numbers) {
+        return sum_blocks(numbers);
+    }
+    let bound = most(numbers);
+    if has_room::<i32>(bound, numbers.len()) {
+        Ok(sum_in::<L, i32>(numbers).wide())
+    } else if has_room::<i64>(bound, numbers.len()) {
+        Ok(sum_in::<L, i64>(numbers))
+    } else {
+        fold_right::<Sum, L>(numbers)
+    }
 }

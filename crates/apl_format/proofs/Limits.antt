@@ -1,9 +1,9 @@
 -- Characters within the limit on elements, and over it.
 use Rattle.std.proofs.Common.{◌≡◌, ℕ, ◌+◌, ◌*◌, ◌-◌, ◌<◌, ◌≤◌, ℤ, List, [], ◌∷◌, ◌++◌, length, map, max, Ok, Err, refl, sym, ap, ◌∙◌, arith}
-use Rattle.std.specs.List.{flat_map, sum_by}
+use Rattle.std.specs.List.{flat_map, sum, sum_by}
 use Rattle.std.proofs.lemmas.Bool.{lt-ltb, le-ltb}
 use Rattle.std.proofs.lemmas.List.{length-map}
-use Rattle.std.proofs.lemmas.List.Sums.{sum_by-cons}
+use Rattle.std.proofs.lemmas.List.Sums.{sum-map}
 use Rattle.apl_faults.specs.declared.fault.Fault.TheVariants.{Limit}
 use Rattle.apl_arrays.specs.Index.{size_of, bound_of}
 use Rattle.apl_arrays.specs.Cells.{Arr, Numbers, Characters}
@@ -45,22 +45,26 @@ pub product_fits : (a b : ℕ) → a ≤ 1000000 → b ≤ 1000000 → a * b ≤
 product_fits a b h k = let e : a * b ≤ 1000000 * 1000000 = times a b 1000000 1000000 h k in omega arith
 
 -- the line of numbers
-sum_texts : (zs : List ℤ) → sum_by (λ y. length y) (map number_text zs) ≡ sum_by (λ z. length (number_text z)) zs
-sum_texts [] = refl
-sum_texts (z ∷ zs) = rw (sum_by-cons (λ y. length y) (number_text z) (map number_text zs), sum_by-cons (λ z. length (number_text z)) z zs, sum_texts zs) refl
+text_widths : (zs : List ℤ) → map (λ y. length y) (map number_text zs) ≡ map (λ z. length (number_text z)) zs
+text_widths [] = refl
+text_widths (z ∷ zs) = ap (λ ns. length (number_text z) ∷ ns) (text_widths zs)
 
-pub length_line : (zs : List ℤ) → length (vector_line (Numbers zs)) ≡ sum_by (λ z. length (number_text z)) zs + (length zs - 1)
+pub length_line : (zs : List ℤ) → length (vector_line (Numbers zs)) ≡ line_width (map (λ z. length (number_text z)) zs)
 unfolding vector_line
-length_line zs = length_joined 32 (map number_text zs) ∙ (rw (sum_texts zs, length-map zs number_text) refl)
+length_line zs =
+    let texts = map number_text zs in
+    let total : sum_by (λ y. length y) texts ≡ sum (map (λ z. length (number_text z)) zs) = sym (sum-map (λ y. length y) texts) ∙ ap sum (text_widths zs) in
+    let count : length texts ≡ length (map (λ z. length (number_text z)) zs) = length-map zs number_text ∙ sym (length-map zs (λ z. length (number_text z))) in
+    length_joined 32 texts ∙ (rw (total, count) refl)
 
-pub line_over : (zs : List ℤ) → 1000000 < sum_by (λ z. length (number_text z)) zs + (length zs - 1) → in_limits (line_text (Numbers zs)) ≡ Err Limit
+pub line_over : (zs : List ℤ) → 1000000 < line_width (map (λ z. length (number_text z)) zs) → in_limits (line_text (Numbers zs)) ≡ Err Limit
 unfolding line_text
 line_over zs h =
     let e = length_line zs in
     let over : 1000000 < max (length (vector_line (Numbers zs))) 1 * 1 = omega arith in
     over_limits (record { shape = length (vector_line (Numbers zs)) ∷ []; items = Characters (vector_line (Numbers zs)) }) over
 
-pub line_made : (zs : List ℤ) {cs : List ℕ} {n : ℕ} → n ≡ sum_by (λ z. length (number_text z)) zs + (length zs - 1) → cs ≡ vector_line (Numbers zs) →
+pub line_made : (zs : List ℤ) {cs : List ℕ} {n : ℕ} → n ≡ line_width (map (λ z. length (number_text z)) zs) → cs ≡ vector_line (Numbers zs) →
     in_limits (line_text (Numbers zs)) ≡ in_limits (record { shape = n ∷ []; items = Characters cs })
 unfolding line_text
 line_made zs e f =

@@ -1,5 +1,6 @@
 -- Sizes of a shape, and of its planes.
-use Rattle.std.proofs.Common.{◌≡◌, ℕ, ◌*◌, ◌≤◌, List, [], ◌∷◌, ◌++◌, max, ap, ◌∙◌, mul-one, arith, mul-le-mul_right, mul-le-mul_left}
+use Rattle.std.proofs.Common.{◌≡◌, ℕ, ◌+◌, ◌*◌, ◌<◌, ◌≤◌, List, [], ◌∷◌, ◌++◌, length, take, drop, max, ap, ◌∙◌, mul-one, arith, length-drop, mul-le-mul_right, mul-le-mul_left}
+use Rattle.std.proofs.lemmas.List.{length-take-le}
 use Rattle.apl_arrays.specs.Index.{size_of, bound_of}
 use Rattle.apl_arrays.proofs.Places.{bound_of-pos, mul_low, size_le_bound}
 
@@ -42,3 +43,11 @@ outer_fits s h c b =
 -- the elements of planes of h rows of c columns
 pub planes_size : (s : List ℕ) (h c : ℕ) → size_of (s ++ h ∷ c ∷ []) ≡ size_of s * (h * c)
 planes_size s h c = size_append s (h ∷ c ∷ []) ∙ ap (λ n. size_of s * (h * n)) (mul-one c)
+
+-- a row is within its rows
+pub row_within : (row count columns many : ℕ) → row < count → count * columns ≤ many → row * columns + columns ≤ many
+row_within row count columns many h k = let g : (row + 1) * columns ≤ count * columns = mul-le-mul_right columns (omega arith) in omega arith
+
+-- so many items from a place on
+pub length_part : {A : Type 0} (xs : List A) (place count : ℕ) → place + count ≤ length xs → length (take count (drop place xs)) ≡ count
+length_part xs place count h = length-take-le count (drop place xs) (omega (arith, length-drop place xs))

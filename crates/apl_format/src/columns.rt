@@ -3,40 +3,39 @@ ghost use Rattle.std.specs.Prelude.{◌≡◌, ◌*◌, ◌≤◌, length, map, 
 ghost use Rattle.std.specs.Simd.Lanes.{zip2};
 ghost use Rattle.apl_arrays.specs.Cells.{Numbers, cells_of};
 ghost use Rattle.apl_arrays.specs.Left.{listed};
+ghost use Rattle.apl_arrays.specs.Numbers.{values};
 ghost use Rattle.apl_format.specs.Display.{number_text, rows, widths};
 ghost use Rattle.apl_format.specs.inside.Parts.{AreWidths, HaveWidths};
 
 use crate::number::number_width;
-use apl_arrays::Elements;
+use crate::part::row_at;
+use apl_arrays::{Elements, NumberSlice};
 use std::alloc::{AllocError, Global};
 
 /// Makes each column as wide as its number.
-fn widen(widths: &mut [usize], row: &[i64])
-    requires { length widths.old ≡ length row.now }
-    ensures { widths.new ≡ zip2 max widths.old (map (λ z. length (number_text z)) row.now) }
+fn widen(widths: &mut [usize], row: NumberSlice<'_>)
+    requires { length widths.old ≡ length (values row) }
+    ensures { widths.new ≡ zip2 max widths.old (map (λ z. length (number_text z)) (values row.entry)) }
 {
-    for (column, number) in row.iter().enumerate() {
-        widths[column] = widths[column].max(number_width(*number));
+    for column in 0..row.len() {
+        widths[column] = widths[column].max(number_width(row.at(column)));
     }
 }
 
 /// The widths of the columns of so many rows of numbers.
 pub(crate) fn number_widths(
     alloc: Global,
-    numbers: &[i64],
+    numbers: NumberSlice<'_>,
     count: usize,
     columns: usize,
 ) -> Result<Vec<usize>, AllocError>
-    requires { count * columns ≤ length numbers.now }
-    ensures value { IfOk result (λ made. made.items ≡ widths columns (rows count columns (Numbers numbers.now))) }
+    requires { count * columns ≤ length (values numbers) }
+    ensures value { IfOk result (λ made. made.items ≡ widths columns (rows count columns (Numbers (values numbers.entry)))) }
     ensures wide { IfOk result (λ made. length made.items ≡ columns) }
 {
     let mut widths = vec![in alloc; 0usize; columns]?;
-    let mut rest = numbers;
-    for _ in 0..count {
-        let (row, after) = rest.split_at(columns);
-        widen(&mut widths, row);
-        rest = after;
+    for row in 0..count {
+        widen(&mut widths, row_at(numbers, row * columns, columns));
     }
     Ok(widths)
 }

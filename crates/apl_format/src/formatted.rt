@@ -3,13 +3,15 @@ ghost use Rattle.std.specs.Prelude.{◌≡◌, ◌≢◌, ◌*◌, ◌≤◌, �
 ghost use Rattle.apl_arrays.specs.Answers.{Answers};
 ghost use Rattle.apl_arrays.specs.Cells.{IsArray, Numbers, Characters};
 ghost use Rattle.apl_arrays.specs.Index.{size_of, bound_of};
+ghost use Rattle.apl_arrays.specs.Numbers.{values};
 ghost use Rattle.apl_format.specs.Formatted.{formatted, in_limits, text_of};
 ghost use Rattle.apl_format.specs.inside.Parts.{line_text, row_texts, rows_text};
 
 use crate::columns::number_widths;
+use crate::part::row_at;
 use crate::row::{push_aligned, push_numbers};
 use crate::width::line_width;
-use apl_arrays::{Array, Elements, MAX_ELEMENTS, MAX_RANK, Ravel, Stop, size};
+use apl_arrays::{Array, Elements, MAX_ELEMENTS, MAX_RANK, NumberSlice, Ravel, Stop, size};
 use apl_charset::Ch;
 use apl_faults::Fault;
 use arrayvec::ArrayVec;
@@ -30,8 +32,8 @@ fn in_shape(alloc: Global, outer: &[usize], last: usize, characters: Vec<Ch>) ->
 }
 
 /// Numbers in one line.
-fn format_line(alloc: Global, numbers: &[i64]) -> Result<Array, Stop>
-    ensures { Answers (λ a. a) (in_limits (line_text (Numbers numbers.now))) result }
+fn format_line(alloc: Global, numbers: NumberSlice<'_>) -> Result<Array, Stop>
+    ensures { Answers (λ a. a) (in_limits (line_text (Numbers (values numbers.entry)))) result }
 {
     let width = line_width(numbers)?;
     let mut characters = Vec::with_capacity(alloc, width)?;
@@ -43,17 +45,15 @@ fn format_line(alloc: Global, numbers: &[i64]) -> Result<Array, Stop>
 fn push_rows(
     characters: &mut Vec<Ch>,
     widths: &[usize],
-    numbers: &[i64],
+    numbers: NumberSlice<'_>,
     count: usize,
 ) -> Result<(), AllocError>
-    requires { count * length widths.now ≤ length numbers.now }
-    ensures { OnOk result (characters.new.items ≡ characters.old.items ++ row_texts widths.now count (Numbers numbers.now)) }
+    requires { count * length widths.now ≤ length (values numbers) }
+    ensures { OnOk result (characters.new.items ≡ characters.old.items ++ row_texts widths.now count (Numbers (values numbers.entry))) }
 {
-    let mut rest = numbers;
-    for _ in 0..count {
-        let (row, after) = rest.split_at(widths.len());
-        push_aligned(characters, widths, row)?;
-        rest = after;
+    let columns = widths.len();
+    for row in 0..count {
+        push_aligned(characters, widths, row_at(numbers, row * columns, columns))?;
     }
     Ok(())
 }
@@ -61,14 +61,14 @@ fn push_rows(
 /// Numbers of two and more axes, by the axes but the last and the length of the last.
 fn format_rows(
     alloc: Global,
-    numbers: &[i64],
+    numbers: NumberSlice<'_>,
     outer: &[usize],
     columns: usize,
 ) -> Result<Array, Stop>
-    requires full { length numbers.now ≡ size_of (outer.now ++ columns ∷ []) }
+    requires full { length (values numbers) ≡ size_of (outer.now ++ columns ∷ []) }
     requires small { bound_of (outer.now ++ columns ∷ []) ≤ MAX_ELEMENTS }
     requires few_axes { length outer.now < MAX_RANK }
-    ensures { Answers (λ a. a) (in_limits (rows_text outer.now columns (Numbers numbers.now))) result }
+    ensures { Answers (λ a. a) (in_limits (rows_text outer.now columns (Numbers (values numbers.entry)))) result }
 {
     let count = size(outer);
     let widths = number_widths(alloc, numbers, count, columns)?;
@@ -83,9 +83,9 @@ fn format_rows(
 }
 
 /// Numbers as the characters of their display.
-fn format_numbers(alloc: Global, shape: &[usize], numbers: &[i64]) -> Result<Array, Stop>
-    requires { IsArray shape.now (Numbers numbers.now) }
-    ensures { Answers (λ a. a) (in_limits (text_of shape.now (Numbers numbers.now))) result }
+fn format_numbers(alloc: Global, shape: &[usize], numbers: NumberSlice<'_>) -> Result<Array, Stop>
+    requires { IsArray shape.now (Numbers (values numbers)) }
+    ensures { Answers (λ a. a) (in_limits (text_of shape.now (Numbers (values numbers.entry)))) result }
 {
     let Some((columns, outer)) = shape.split_last() else {
         return format_line(alloc, numbers);

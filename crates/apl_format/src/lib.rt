@@ -6,6 +6,7 @@ mod examples;
 mod formatted;
 mod lines;
 mod number;
+mod part;
 mod row;
 mod width;
 

@@ -3,11 +3,13 @@ ghost use Rattle.std.specs.Prelude.{◌≡◌, ◌+◌, ◌≤◌, ◌++◌, len
 ghost use Rattle.std.specs.Simd.Lanes.{zip2};
 ghost use Rattle.apl_arrays.specs.Cells.{cells_of};
 ghost use Rattle.apl_arrays.specs.Left.{listed};
+ghost use Rattle.apl_arrays.specs.Numbers.{values};
 ghost use Rattle.apl_format.specs.Display.{number_text, padded, joined, vector_line, row_line, first_of_ravel, dropped};
 ghost use Rattle.apl_format.specs.inside.Parts.{HaveWidths};
 
 use crate::number::{push_between, push_number, push_padded};
-use apl_arrays::Elements;
+use crate::part::{part, row_at};
+use apl_arrays::{Elements, NumberSlice};
 use apl_charset::{Ch, Text};
 use std::alloc::{AllocError, Global};
 
@@ -15,12 +17,12 @@ use std::alloc::{AllocError, Global};
 const LONGEST: usize = 20;
 
 /// Numbers with one blank between.
-pub(crate) fn push_numbers(line: &mut Vec<Ch>, numbers: &[i64]) -> Result<(), AllocError>
-    ensures { OnOk result (line.new.items ≡ line.old.items ++ joined 32 (map number_text numbers.now)) }
+pub(crate) fn push_numbers(line: &mut Vec<Ch>, numbers: NumberSlice<'_>) -> Result<(), AllocError>
+    ensures { OnOk result (line.new.items ≡ line.old.items ++ joined 32 (map number_text (values numbers.entry))) }
 {
-    for (place, number) in numbers.iter().enumerate() {
+    for place in 0..numbers.len() {
         push_between(line, place)?;
-        push_number(line, *number)?;
+        push_number(line, numbers.at(place))?;
     }
     Ok(())
 }
@@ -29,14 +31,14 @@ pub(crate) fn push_numbers(line: &mut Vec<Ch>, numbers: &[i64]) -> Result<(), Al
 pub(crate) fn push_aligned(
     line: &mut Vec<Ch>,
     widths: &[usize],
-    numbers: &[i64],
+    numbers: NumberSlice<'_>,
 ) -> Result<(), AllocError>
-    requires { length widths.now ≡ length numbers.now }
-    ensures { OnOk result (line.new.items ≡ line.old.items ++ joined 32 (zip2 padded widths.now (map number_text numbers.now))) }
+    requires { length widths.now ≡ length (values numbers) }
+    ensures { OnOk result (line.new.items ≡ line.old.items ++ joined 32 (zip2 padded widths.now (map number_text (values numbers.entry)))) }
 {
-    for (place, number) in numbers.iter().enumerate() {
+    for place in 0..numbers.len() {
         push_between(line, place)?;
-        push_padded(line, widths[place], *number)?;
+        push_padded(line, widths[place], numbers.at(place))?;
     }
     Ok(())
 }
@@ -74,15 +76,12 @@ pub(crate) fn row_line(
             let room = widths
                 .iter()
                 .fold(columns, |room, width| room.saturating_add(*width));
-            let (_, after) = numbers.split_at(place);
-            let (row, _) = after.split_at(columns);
             let mut line = Vec::with_capacity(alloc, room)?;
-            push_aligned(&mut line, widths, row)?;
+            push_aligned(&mut line, widths, row_at(numbers, place, columns))?;
             Ok(Text::new(line))
         }
         Elements::Chars(characters) => {
-            let (_, after) = characters.split_at(place);
-            let (row, _) = after.split_at(columns);
+            let row = part(characters, place, columns);
             Ok(Text::new(Vec::from_slice(alloc, row)?))
         }
     }

@@ -1,34 +1,48 @@
 // How wide a line is.
-ghost use Rattle.std.specs.Prelude.{◌≡◌, ◌+◌, ◌-◌, ◌≤◌, ◌<◌, ℕ, length, IfOk, IfErr};
-ghost use Rattle.std.specs.List.{sum_by};
+ghost use Rattle.std.specs.Prelude.{◌≡◌, ◌+◌, ◌≤◌, ◌<◌, ℕ, List, length, map, slice_index, IfOk, IfErr};
+ghost use Rattle.apl_arrays.specs.Numbers.{values};
 ghost use Rattle.apl_format.specs.Display.{number_text};
+ghost use Rattle.apl_format.specs.Formatted.{line_width};
 
 use crate::number::number_width;
-use apl_arrays::MAX_ELEMENTS;
+use apl_arrays::{MAX_ELEMENTS, NumberSlice};
 use apl_faults::Fault;
 
-/// What stands in a line with one blank between any two: a number, or a column by its width.
+/// What stands in a line with one blank between any two: numbers, or columns by their widths.
 pub(crate) trait Wide: Copy {
-    ghost width: { Self → ℕ };
+    ghost widths: { Self → List ℕ };
 
-    /// How many characters it takes.
-    fn width(self) -> usize
-        ensures { result ≡ width self };
+    /// How many there are.
+    fn count(self) -> usize
+        ensures { result ≡ length (widths self) };
+
+    /// How many characters the one at a place takes.
+    fn width_at(self, place: usize) -> usize
+        requires { place < length (widths self) }
+        ensures { result ≡ slice_index (widths self) place };
 }
 
-impl Wide for i64 {
-    ghost width = { λ z. length (number_text z) };
+impl<'a> Wide for NumberSlice<'a> {
+    ghost widths = { λ numbers. map (λ z. length (number_text z)) (values numbers) };
 
-    fn width(self) -> usize {
-        number_width(self)
+    fn count(self) -> usize {
+        self.len()
+    }
+
+    fn width_at(self, place: usize) -> usize {
+        number_width(self.at(place))
     }
 }
 
-impl Wide for usize {
-    ghost width = { λ n. n };
+impl<'a> Wide for &'a [usize] {
+    ghost widths = { λ widths. widths.now };
 
-    fn width(self) -> usize {
-        self
+    fn count(self) -> usize {
+        self.len()
+    }
+
+    fn width_at(self, place: usize) -> usize {
+        self[place]
     }
 }
 
@@ -47,15 +61,15 @@ fn longer(so_far: usize, more: usize) -> Result<usize, Fault>
 }
 
 /// How long a line of these is with one blank between any two, or a limit fault where no axis is so long.
-pub(crate) fn line_width<W: Wide>(items: &[W]) -> Result<usize, Fault>
-    ensures sum { IfOk result (λ n. n ≡ sum_by W.width items.now + (length items.now - 1)) }
+pub(crate) fn line_width<W: Wide>(items: W) -> Result<usize, Fault>
+    ensures sum { IfOk result (λ n. n ≡ line_width (W.widths items)) }
     ensures small { IfOk result (λ n. n ≤ MAX_ELEMENTS) }
     ensures limit { IfErr result (λ fault. fault ≡ Fault.Limit) }
-    ensures over { IfErr result (λ _. MAX_ELEMENTS < sum_by W.width items.now + (length items.now - 1)) }
+    ensures over { IfErr result (λ _. MAX_ELEMENTS < line_width (W.widths items)) }
 {
     let mut so_far = 0usize;
-    for item in items {
-        so_far = longer(so_far, item.width())?;
+    for place in 0..items.count() {
+        so_far = longer(so_far, items.width_at(place))?;
     }
-    longer(so_far, items.len().saturating_sub(1))
+    longer(so_far, items.count().saturating_sub(1))
 }

@@ -9,7 +9,7 @@ ghost use Rattle.apl_loading.specs.declared.error.LoadFault.TheVariants as fault
 use crate::error::LoadFault;
 use crate::field::Field;
 use crate::texts::read_text;
-use apl_arrays::{Array, MAX_RANK, Ravel, is_in_bounds, size};
+use apl_arrays::{Array, MAX_RANK, NumberSlice, Ravel, is_in_bounds, size};
 use apl_workspace_file::{ArrayField, Elements};
 use std::alloc::Global;
 
@@ -20,7 +20,7 @@ fn read_elements(alloc: Global, elements: &Elements) -> Result<Ravel, LoadFault>
 {
     match elements {
         Elements::Numbers(numbers) => {
-            let numbers = Vec::from_slice(alloc, numbers.as_slice())?;
+            let numbers = NumberSlice::I64(numbers.as_slice()).squeezed(alloc)?;
             Ok(Ravel::Nums(numbers))
         }
         Elements::Text(text) => {

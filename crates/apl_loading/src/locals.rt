@@ -82,7 +82,7 @@ fn is_bit(items: Elements<'_>) -> bool
     ensures { IsTrue result ↔ ((listed items.entry ≡ Numbers (pos 0 ∷ [])) ⊎ (listed items.entry ≡ Numbers (pos 1 ∷ []))) }
 {
     match items {
-        Elements::Nums(numbers) => matches!(numbers, [0 | 1]),
+        Elements::Nums(numbers) => matches!(numbers.only(), Some(0 | 1)),
         Elements::Chars(_) => false,
     }
 }

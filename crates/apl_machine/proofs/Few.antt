@@ -14,6 +14,9 @@ use Rattle.apl_contexts.specs.declared.context.Context.{Context}
 use Rattle.apl_contexts.specs.declared.context.Context.TheVariants.{Statement, Call, Execute}
 use Rattle.apl_contexts.specs.Contexts.{lines_in, standing}
 use Rattle.apl_contexts.proofs.Blamed.{standing_dressed}
+use Rattle.apl_machine_state.specs.declared.watch.Watch.{Watch}
+use Rattle.apl_machine_state.specs.declared.watch.Watch.TheVariants.{Stop, Trace}
+use Rattle.apl_machine.specs.Changes.{watched}
 use Rattle.apl_machine.specs.Spaces.{IsHeld, Space, state_of}
 use Rattle.apl_machine.specs.inside.Traces.{AreFew}
 
@@ -56,11 +59,9 @@ few_listed name (Some Unset) (Some ns) o v = absurd v
 few_listed name (Some (Label l)) (Some ns) o v = absurd v
 few_listed name None (Some ns) o v = absurd v
 
-pub few_vector : (globals : Map) (vectors : Vectors) (name : Text) → AreGlobals globals → AreVectors globals vectors → AreFew (vector_of name vectors)
+few_vector : (globals : Map) (vectors : Vectors) (name : Text) → AreGlobals globals → AreVectors globals vectors → AreFew (vector_of name vectors)
 few_vector globals vectors name g v = few_listed name (said globals name) (lookup (bytes_eq name) vectors) (g.objects name) (v.lines name)
 
-pub few_stops : (s : Space) (name : Text) → IsKept (state_of s) → AreFew (vector_of name s.kept.stops)
-few_stops s name h = few_vector _ s.kept.stops name h.keeps.globals h.keeps.stopped
-
-pub few_traces : (s : Space) (name : Text) → IsKept (state_of s) → AreFew (vector_of name s.kept.traces)
-few_traces s name h = few_vector _ s.kept.traces name h.keeps.globals h.keeps.traced
+pub few_watched : (which : Watch) (s : Space) (name : Text) → IsKept (state_of s) → AreFew (vector_of name (watched which s.kept))
+few_watched Stop s name h = few_vector _ s.kept.stops name h.keeps.globals h.keeps.stopped
+few_watched Trace s name h = few_vector _ s.kept.traces name h.keeps.globals h.keeps.traced

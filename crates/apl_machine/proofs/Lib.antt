@@ -21,7 +21,7 @@ pub mod Callers
 pub mod Restored
 pub mod Held
 pub mod Few
-pub mod Frequently
+pub mod InPlace
 pub mod Written
 pub mod Owned
 pub mod Silent

@@ -1,5 +1,4 @@
 pub mod Worlds
-pub mod Deeds
 pub mod Executing
 pub mod inside
 pub mod Changes

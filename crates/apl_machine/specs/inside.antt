@@ -3,6 +3,5 @@ pub mod Leaving
 pub mod Locals
 pub mod Next
 pub mod Paces
-pub mod Reduced
 pub mod Stretches
 pub mod Traces

@@ -1,5 +1,5 @@
 //! How a step leaves the newest line.
-ghost use Rattle.std.specs.Prelude.{◌≡◌, ◌∷◌, [], true, IfOk, IfSome, IsSome, List, None, Some, ℕ};
+ghost use Rattle.std.specs.Prelude.{◌≡◌, ◌∷◌, [], true, IfOk, IsSome, List, None, Some, ℕ};
 ghost use Rattle.apl_format.specs.Display.{display};
 ghost use Rattle.apl_vectors.specs.Vectors.{Vectors};
 ghost use Rattle.apl_machine_state.specs.declared.operand.Operand.TheVariants.{Value};
@@ -8,9 +8,10 @@ ghost use Rattle.apl_machine_state.specs.Watching.{arrow, blank};
 ghost use Rattle.apl_operands.specs.Operands.{Offers, fetched_from};
 ghost use Rattle.apl_frames.specs.Ends.{HoldsValue, IsColumn, has_place, is_of_value};
 ghost use Rattle.apl_contexts.specs.Contexts.{AreStacked, Newest, line_in};
-ghost use Rattle.apl_machine.specs.Changes.{ComesToPhrase, Departs};
+ghost use Rattle.apl_machine.specs.Changes.{Departs};
 ghost use Rattle.apl_machine.specs.Executing.{executes};
 ghost use Rattle.apl_machine.specs.inside.Leaving.{Aims, EndsAt, FailsAt, Leaves, finished, leaving, left_by};
+ghost use Rattle.apl_machine.specs.inside.Next.{next_kind};
 ghost use Rattle.apl_machine.specs.inside.Traces.{trace_of};
 
 use crate::reports::context_fault;
@@ -66,8 +67,8 @@ pub(crate) fn aim(array: &Array) -> Option<usize>
     ensures { result ≡ aim array.now.items }
 {
     match array.items() {
-        Elements::Nums(numbers) => match numbers.first() {
-            Some(number) => Some(line_number(*number)),
+        Elements::Nums(numbers) => match numbers.get(0) {
+            Some(number) => Some(line_number(number)),
             None => None,
         },
         Elements::Chars(_) => None,
@@ -226,31 +227,30 @@ fn leaving(
     }
 }
 
-/// How the next step leaves the newest line, where no phrase begins there. It changes nothing yet.
+/// How the next step leaves the newest line, which comes to no phrase. It changes nothing yet.
 pub fn departure_of(
     alloc: Global,
     traces: &Vectors,
     contexts: &Contexts,
-) -> Result<Option<Departure>, AllocError>
+) -> Result<Departure, AllocError>
     requires stacked { AreStacked Newest contexts.now }
     requires runs { IsSome (line_in contexts.now) }
-    ensures departs { IfOk result (λ departs. IfSome departs (Departs traces.now contexts.now)) }
-    ensures phrase { IfOk result (λ departs. departs ≡ None → ComesToPhrase contexts.now) }
+    requires ends { next_kind contexts.now ≡ None }
+    ensures { IfOk result (Departs traces.now contexts.now) }
 {
     let Some(line) = contexts.line() else {
         unreachable!()
     };
     if line.stage() == Stage::Emptied {
-        return Ok(Some(finishing(alloc, traces, contexts)?));
+        return finishing(alloc, traces, contexts);
     }
     let instr = line.next();
     let Action::End(ending) = instr.action else {
-        return Ok(None);
+        unreachable!()
     };
     let operands = Operands {
         constants: line.constants(),
         stack: line.operands(),
     };
-    let departure = leaving(alloc, ending, instr, operands, traces, contexts)?;
-    Ok(Some(departure))
+    leaving(alloc, ending, instr, operands, traces, contexts)
 }

@@ -4,7 +4,6 @@
 
 mod arriving;
 mod branching;
-mod change;
 mod departure;
 mod ending;
 mod entering;
@@ -14,12 +13,14 @@ mod frequent;
 mod laws;
 mod locals;
 mod machine;
+mod next;
 mod objects;
 mod pieces;
 mod reports;
 mod returns;
 mod standing;
 mod stepping;
+mod system;
 mod traces;
 mod workspace;
 

@@ -141,5 +141,5 @@ pub(crate) fn lines_array(alloc: Global, lines: &[usize]) -> Result<Array, Alloc
     ensures { IfOk result (λ array. array ≡ lines_array lines.now) }
 {
     let numbers = numbers_of(alloc, lines)?;
-    Array::vector(alloc, Ravel::Nums(numbers))
+    Array::vector(alloc, Ravel::wide(numbers))
 }

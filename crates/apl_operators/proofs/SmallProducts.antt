@@ -1,5 +1,5 @@
 -- Products of each number with each of others that all fit.
-use Rattle.std.proofs.Common.{◌≡◌, ◌⊎◌, inl, inr, ⊎_elim, ℕ, ℤ, pos, ◌*ℤ◌, ◌+◌, ◌-◌, ◌*◌, ◌/◌, ◌%◌, ◌<◌, ◌≤◌, List, ◌++◌, length, take, drop, replicate, set, get_or, Ok, FitsSigned, ap, sym, ◌∙◌, subst, arith, w64}
+use Rattle.std.proofs.Common.{◌≡◌, ◌⊎◌, inl, inr, ⊎_elim, ℕ, ℤ, pos, ◌*ℤ◌, ◌+◌, ◌-◌, ◌*◌, ◌/◌, ◌%◌, ◌<◌, ◌≤◌, List, ◌++◌, length, take, drop, replicate, set, get_or, Ok, FitsSigned, refl, ap, sym, ◌∙◌, subst, arith, w64}
 use Rattle.std.proofs.lemmas.Bool.{cases_lt}
 use Rattle.std.proofs.lemmas.Grind.{common_steps}
 use Rattle.std.proofs.lemmas.Int.{unsigned_abs-mul}
@@ -79,10 +79,11 @@ pub multiplied : (x : ℤ) (ys old grown prefix back filled : List ℤ) (before 
 multiplied x ys old grown prefix back filled before len g b f d s l each =
     let room : back ≡ replicate (length ys) x = grind (arith, common_steps) in
     let size : length filled ≡ length ys = grind (arith, common_steps) in
+    let all : length back + before ≡ length grown = grind (arith, common_steps) in
     record {
       row = filled;
       size = size;
-      is = written_over old grown prefix filled x (length ys) before len g b f size l;
+      is = written_over old grown grown prefix back filled x (length ys) before len g b refl f all s l;
       each = λ k h. each k h ∙ ap (λ (z : ℤ). z *ℤ get_or ys k (pos 0)) (ap (λ (zs : List ℤ). get_or zs k (pos 0)) room ∙ get_or-replicate (length ys) k x (pos 0) h);
     }
 

@@ -193,7 +193,7 @@ fn identities(alloc: Global, function: Dyadic, count: usize) -> Result<Vec<i64>,
     requires { 0 < count }
     ensures { Answers (λ v. v.items) (all_ok (λ k. folded function []) (range_with_len 0 count)) result }
 {
-    let identity = fold_numbers(function, &[])?;
+    let identity = fold_numbers::<i64>(function, &[])?;
     Ok(vec![in alloc; identity; count]?)
 }
 
@@ -288,5 +288,5 @@ pub fn inner<A: Cells, B: Cells>(
     let shape = joined_shape(a_others, b_others);
     within_limits(shape.as_slice())?;
     let values = inner_values(alloc, outer_function, inner_function, &a, &b, length)?;
-    Array::from_shape(alloc, shape.as_slice(), Ravel::Nums(values))
+    Array::from_shape(alloc, shape.as_slice(), Ravel::wide(values))
 }

@@ -160,5 +160,5 @@ pub fn outer<A: Cells, B: Cells>(
     let shape = joined_shape(a.shape().as_slice(), b.shape().as_slice());
     within_limits(shape.as_slice())?;
     let values = outer_values(alloc, function, &a, &b)?;
-    Array::from_shape(alloc, shape.as_slice(), Ravel::Nums(values))
+    Array::from_shape(alloc, shape.as_slice(), Ravel::wide(values))
 }

@@ -2,36 +2,19 @@
 ghost use Rattle.std.specs.Prelude.{◌≡◌, IfOk, MatchBool, map, pos, replicate};
 ghost use Rattle.apl_arrays.specs.Left.{listed};
 ghost use Rattle.apl_arrays.specs.Cells.{Numbers, Characters};
-ghost use Rattle.apl_operators.specs.inside.Standing.{held, StandOrFail, TakesCodes, RefusesCharacters};
+ghost use Rattle.apl_arrays.specs.Numbers.{typed_items, values};
+ghost use Rattle.apl_operators.specs.inside.Standing.{StandOrFail, TakesCodes, RefusesCharacters};
 
-use apl_arrays::Elements;
+use apl_arrays::{Elements, NumberSlice, Typed, Wide};
 use apl_charset::Ch;
 use apl_scalar::Dyadic;
 use std::alloc::{AllocError, Global};
 
-/// Numbers of an array, or made.
-#[derive(Drop)]
-pub(crate) enum Held<'a> {
-    Borrowed(&'a [i64]),
-    Made(Vec<i64>),
-}
-
-impl<'a> Held<'a> {
-    pub(crate) fn as_slice(&self) -> &[i64]
-        ensures { result.now ≡ held self.now }
-    {
-        match self {
-            Held::Borrowed(numbers) => numbers,
-            Held::Made(numbers) => numbers.as_slice(),
-        }
-    }
-}
-
 /// Numbers for the elements of two arrays.
 #[derive(Drop)]
 pub(crate) struct StandIns<'a> {
-    pub(crate) left: Held<'a>,
-    pub(crate) right: Held<'a>,
+    pub(crate) left: Wide<'a>,
+    pub(crate) right: Wide<'a>,
 }
 
 /// Whether a function takes characters: then it gives what it gives for their codes.
@@ -58,27 +41,27 @@ fn codes(alloc: Global, characters: &[Ch]) -> Result<Vec<i64>, AllocError>
 
 /// The codes of two texts.
 fn coded(alloc: Global, a: &[Ch], b: &[Ch]) -> Result<StandIns<'static>, AllocError>
-    ensures left { IfOk result (λ numbers. held numbers.left ≡ map pos a.now) }
-    ensures right { IfOk result (λ numbers. held numbers.right ≡ map pos b.now) }
+    ensures left { IfOk result (λ numbers. typed_items numbers.left ≡ map pos a.now) }
+    ensures right { IfOk result (λ numbers. typed_items numbers.right ≡ map pos b.now) }
 {
     let left = codes(alloc, a)?;
     let right = codes(alloc, b)?;
     Ok(StandIns {
-        left: Held::Made(left),
-        right: Held::Made(right),
+        left: Typed::Made(left),
+        right: Typed::Made(right),
     })
 }
 
 /// So many numbers for each of two arrays, each of which differs from each of the other's.
 fn apart(alloc: Global, a: usize, b: usize) -> Result<StandIns<'static>, AllocError>
-    ensures left { IfOk result (λ numbers. held numbers.left ≡ replicate a (pos 0)) }
-    ensures right { IfOk result (λ numbers. held numbers.right ≡ replicate b (pos 1)) }
+    ensures left { IfOk result (λ numbers. typed_items numbers.left ≡ replicate a (pos 0)) }
+    ensures right { IfOk result (λ numbers. typed_items numbers.right ≡ replicate b (pos 1)) }
 {
     let left = vec![in alloc; 0i64; a]?;
     let right = vec![in alloc; 1i64; b]?;
     Ok(StandIns {
-        left: Held::Made(left),
-        right: Held::Made(right),
+        left: Typed::Made(left),
+        right: Typed::Made(right),
     })
 }
 
@@ -86,16 +69,17 @@ fn apart(alloc: Global, a: usize, b: usize) -> Result<StandIns<'static>, AllocEr
 fn beside_numbers<'a>(
     alloc: Global,
     function: Dyadic,
-    a: &'a [i64],
+    a: NumberSlice<'a>,
     b: Elements<'a>,
 ) -> Result<Option<StandIns<'a>>, AllocError>
-    ensures { IfOk result (λ found. StandOrFail function (Numbers a.now) (listed b.entry) found) }
+    ensures { IfOk result (λ found. StandOrFail function (Numbers (values a.entry)) (listed b.entry) found) }
 {
     match b {
-        Elements::Nums(b) => Ok(Some(StandIns {
-            left: Held::Borrowed(a),
-            right: Held::Borrowed(b),
-        })),
+        Elements::Nums(b) => {
+            let left = a.wide(alloc)?;
+            let right = b.wide(alloc)?;
+            Ok(Some(StandIns { left, right }))
+        }
         Elements::Chars(b) => {
             if takes_characters(function) {
                 Ok(Some(apart(alloc, a.len(), b.len())?))

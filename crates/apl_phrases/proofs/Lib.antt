@@ -1,8 +1,7 @@
 mod Entering
 mod NoNumbers
 mod NumbersRead
-mod Passing
-pub mod Effects
+mod Passed
 pub mod Marks
 pub mod Rows
 mod OfPrimitives

@@ -1,11 +1,18 @@
 -- Index lists of one slot.
-use Rattle.std.proofs.Common.{◌≡◌, List, [], ◌∷◌, Option, Some, None, map}
+use Rattle.std.proofs.Common.{◌≡◌, List, [], ◌∷◌, Option, Some, None, map, refl, ap}
 use Rattle.apl_arrays.specs.Cells.{Arr}
 use Rattle.apl_machine_state.specs.declared.operand.Operand.{Operand}
 use Rattle.apl_machine_state.specs.declared.operand.Operand.TheVariants.{Value, Slots}
 use Rattle.std.specs.Prelude.{IfSome}
 use Rattle.apl_machine_state.specs.Environment.{Scene}
-use Rattle.apl_machine_state.specs.Outcomes.{Makes, operand_value}
+use Rattle.apl_machine_state.specs.Outcomes.{Makes, operand_value, outcome}
+use Rattle.apl_code.specs.declared.instr.Action.{Action}
+use Rattle.apl_code.specs.declared.instr.Action.TheVariants as actions
+use Rattle.apl_code.specs.declared.row.Row.{Row}
+use Rattle.apl_phrases.specs.declared.phrase.PhraseKind.TheVariants.{Lists}
+use Rattle.apl_phrases.specs.Effects.{acted}
+use Rattle.apl_phrases.specs.Kinds.{phrase_kind, row_kind}
+use Rattle.apl_phrases.proofs.Rows.{index_row}
 use Rattle.apl_operands.specs.Operands.{one_value}
 
 -- one value alone makes a list of one slot
@@ -23,6 +30,12 @@ alone_in_list (None ∷ os) a h = cc
 alone_in_list (Some (Slots k) ∷ os) a h = cc
 alone_in_list (Some (Value b) ∷ []) a h = cc
 alone_in_list (Some (Value b) ∷ o ∷ os) a h = cc
+
+-- what makes an index list makes one of all its operands
+pub makes_list : (s : Scene) (x : Action) (os : List (Option Operand)) → phrase_kind x ≡ Some Lists → acted s x os ≡ Makes (map operand_value os)
+makes_list s actions.Box os h = refl
+makes_list s (actions.Phrase r) os h = let k : row_kind r ≡ Lists = cc in ap (λ (x : Row). outcome s x os) (index_row r k).1
+makes_list s (actions.End e) os h = cc
 
 -- ---- what holds where there is something
 

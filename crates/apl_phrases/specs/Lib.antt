@@ -1,3 +1,4 @@
+pub mod Kinds
 pub mod Effects
 pub mod Assigning
 pub mod Calling

@@ -1,22 +1,24 @@
 //! System names that are assigned to.
-ghost use Rattle.std.specs.Prelude.{◌≡◌, IfOk, option_map};
+ghost use Rattle.std.specs.Prelude.{◌≡◌, List, Option, Some, option_map};
 ghost use Rattle.apl_arrays.specs.Cells.{Arr};
 ghost use Rattle.apl_arrays.specs.Origins.{origin_number};
 ghost use Rattle.apl_code.specs.declared.row.Variable.TheVariants as Variable;
 ghost use Rattle.apl_machine_state.specs.Environment.{scalar};
+ghost use Rattle.apl_machine_state.specs.declared.operand.Operand.{Operand};
 ghost use Rattle.apl_machine_state.specs.Outcomes.{as_origin, assign, assign_indexed, assign_one, assign_slots};
-ghost use Rattle.apl_machine_state.specs.Outcomes.{origin_set};
+ghost use Rattle.apl_machine_state.specs.Outcomes.{origin_set, taken_of};
+ghost use Rattle.apl_operands.specs.Operands.{last_value};
 ghost use Rattle.apl_primitives.specs.Taken.{as_taken};
-ghost use Rattle.apl_phrases.specs.Effects.{DoesOf, DoesWith};
+ghost use Rattle.apl_phrases.specs.Effects.{Does};
 
-use crate::effect::{Deed, Effect};
+use crate::effect::Effect;
 use crate::scene::{Scene, origin_name};
 use apl_arrays::{Array, Elements, Origin, Stop};
 use apl_faults::Fault;
 use apl_primitives::Arguments;
 use apl_select::index_assign;
 use apl_symbols::SystemName;
-use std::alloc::{AllocError, Global};
+use std::alloc::Global;
 
 /// The scalar of a small number.
 pub fn number(number: u16) -> Array
@@ -37,9 +39,9 @@ fn as_origin(array: &Array) -> Option<Origin>
     ensures { option_map origin_number result ≡ as_origin array.now.items }
 {
     match array.items() {
-        Elements::Nums(numbers) => match numbers {
-            [0] => Some(Origin::Zero),
-            [1] => Some(Origin::One),
+        Elements::Nums(numbers) => match numbers.only() {
+            Some(0) => Some(Origin::Zero),
+            Some(1) => Some(Origin::One),
             _ => None,
         },
         Elements::Chars(_) => None,
@@ -47,37 +49,41 @@ fn as_origin(array: &Array) -> Option<Origin>
 }
 
 /// `⎕IO ← B`, where B is this origin if it is one.
-fn set_origin(scene: Scene<'_>, origin: Option<Origin>) -> Effect
-    ensures { (b : Arr) → DoesWith b scene.entry (λ s. origin_set s (option_map origin_number origin) b) result }
+fn set_origin(scene: Scene<'_>, origin: Option<Origin>) -> Result<Effect, Stop>
+    ensures { (b : Arr) → Does scene.entry (Some b) (λ s. origin_set s (option_map origin_number origin) b) result }
 {
     let Some(origin) = origin else {
-        return Effect::Fails(Fault::Domain);
+        return Err(Stop::Fault(Fault::Domain));
     };
     let name = origin_name();
     match scene.names.binding(&name) {
-        Some(_) => Effect::Passes(Deed::Assigns(name, origin_scalar(origin))),
-        None => Effect::Passes(Deed::SetsOrigin(origin)),
+        Some(_) => Ok(Effect::Assigns(name, origin_scalar(origin))),
+        None => Ok(Effect::SetsOrigin(origin)),
     }
 }
 
 /// `V ← B`
-fn assign_one(scene: Scene<'_>, system: SystemName, b: &Array) -> Effect
-    ensures { DoesWith b.now scene.entry (λ s. assign_one s (Variable.System system) b.now) result }
+fn assign_one(scene: Scene<'_>, system: SystemName, b: &Array) -> Result<Effect, Stop>
+    ensures { Does scene.entry (Some b.now) (λ s. assign_one s (Variable.System system) b.now) result }
 {
     match system {
         SystemName::Origin => set_origin(scene, as_origin(b)),
-        _ => Effect::Fails(Fault::Syntax),
+        _ => Err(Stop::Fault(Fault::Syntax)),
     }
 }
 
 /// `V ← B`, where a phrase takes this.
-#[tactic(auto, using(crate::proofs::Effects::passes_one))]
-pub fn assign(scene: Scene<'_>, system: SystemName, arguments: Arguments<'_>) -> Effect
-    ensures { DoesOf (as_taken arguments.entry) scene.entry (λ s. assign s (Variable.System system) (as_taken arguments.entry)) result }
+#[tactic(auto, using(apl_operands::proofs::Fetching::one_taken))]
+pub fn assign(
+    scene: Scene<'_>,
+    system: SystemName,
+    arguments: Arguments<'_>,
+) -> Result<Effect, Stop>
+    ensures { (os : List (Option Operand)) → as_taken arguments.entry ≡ taken_of os → Does scene.entry (last_value os) (λ s. assign s (Variable.System system) (as_taken arguments.entry)) result }
 {
     match arguments {
         Arguments::One(b) => assign_one(scene, system, b),
-        _ => Effect::Fails(Fault::Syntax),
+        _ => Err(Stop::Fault(Fault::Syntax)),
     }
 }
 
@@ -87,15 +93,14 @@ fn assign_slots_of_origin(
     scene: Scene<'_>,
     slots: &[Option<Array>],
     b: &Array,
-) -> Result<Effect, AllocError>
-    ensures { IfOk result (DoesWith b.now scene.entry (λ s. assign_slots s (Variable.System SystemName.Origin) slots.now b.now)) }
+) -> Result<Effect, Stop>
+    ensures { Does scene.entry (Some b.now) (λ s. assign_slots s (Variable.System SystemName.Origin) slots.now b.now) result }
 {
     let origin = scene.origin();
     let now = origin_scalar(origin);
     match index_assign(alloc, &now, slots, b, origin) {
-        Ok(array) => Ok(set_origin(scene, as_origin(&array))),
-        Err(Stop::Fault(fault)) => Ok(Effect::Fails(fault)),
-        Err(Stop::Memory) => Err(AllocError),
+        Ok(array) => set_origin(scene, as_origin(&array)),
+        Err(stop) => Err(stop),
     }
 }
 
@@ -106,27 +111,27 @@ fn assign_slots(
     system: SystemName,
     slots: &[Option<Array>],
     b: &Array,
-) -> Result<Effect, AllocError>
-    ensures { IfOk result (DoesWith b.now scene.entry (λ s. assign_slots s (Variable.System system) slots.now b.now)) }
+) -> Result<Effect, Stop>
+    ensures { Does scene.entry (Some b.now) (λ s. assign_slots s (Variable.System system) slots.now b.now) result }
 {
     match system {
         SystemName::Origin => assign_slots_of_origin(alloc, scene, slots, b),
-        _ => Ok(Effect::Fails(Fault::Syntax)),
+        _ => Err(Stop::Fault(Fault::Syntax)),
     }
 }
 
 /// `V K ← B`, where a phrase takes this.
-#[tactic(auto, using(crate::proofs::Effects::passes_slots))]
+#[tactic(auto, using(apl_operands::proofs::Fetching::slots_taken))]
 pub fn assign_indexed(
     alloc: Global,
     scene: Scene<'_>,
     system: SystemName,
     arguments: Arguments<'_>,
-) -> Result<Effect, AllocError>
-    ensures { IfOk result (DoesOf (as_taken arguments.entry) scene.entry (λ s. assign_indexed s (Variable.System system) (as_taken arguments.entry))) }
+) -> Result<Effect, Stop>
+    ensures { (os : List (Option Operand)) → as_taken arguments.entry ≡ taken_of os → Does scene.entry (last_value os) (λ s. assign_indexed s (Variable.System system) (as_taken arguments.entry)) result }
 {
     match arguments {
         Arguments::ListAndOne(slots, b) => assign_slots(alloc, scene, system, slots, b),
-        _ => Ok(Effect::Fails(Fault::Syntax)),
+        _ => Err(Stop::Fault(Fault::Syntax)),
     }
 }

@@ -1,39 +1,38 @@
 //! Assignments to names.
-ghost use Rattle.std.specs.Prelude.{◌≡◌, IfNone, IfOk, IfSome, Some};
-ghost use Rattle.apl_operands.specs.Operands.{Offers, fetched_from, last_value};
-ghost use Rattle.apl_phrases.specs.Assigning.{AssignsAs, AssignsAt, IsAssigning, IsAssigningSlots};
-ghost use Rattle.apl_phrases.specs.Effects.{acted};
+ghost use Rattle.std.specs.Prelude.{◌≡◌, IfOk, IfSome, Some};
+ghost use Rattle.apl_operands.specs.Operands.{Offers};
+ghost use Rattle.apl_phrases.specs.Assigning.{AssignsAs, AssignsAt as WritesAt};
+ghost use Rattle.apl_phrases.specs.Effects.{last_of, outcome_of};
+ghost use Rattle.apl_phrases.specs.Kinds.{IsForKind};
+ghost use Rattle.apl_phrases.specs.declared.phrase.PhraseKind.TheVariants.{Assigns, AssignsAt};
 
-use crate::scene::Scene;
+use crate::phrase::Phrase;
 use apl_arrays::Array;
-use apl_code::{Action, Row, Source, Variable};
+use apl_code::{Action, Row, Variable};
 use apl_faults::Fault;
 use apl_names::Binding;
-use apl_operands::{Operands, arguments};
+use apl_operands::arguments;
 use apl_primitives::Arguments;
 use apl_symbols::Name;
 
 /// The name that `V ← B` of a name assigns to and the value, or the fault of the phrase. A phrase of another kind has none.
 #[tactic(auto, using(apl_operands::proofs::Fetching::one_taken))]
+#[inline(always)]
 pub fn assigned<'line>(
-    scene: Scene<'_>,
-    action: &'line Action,
-    sources: &[Option<Source>],
-    operands: Operands<'line>,
+    phrase: Phrase<'_, 'line>,
 ) -> Option<Result<(&'line Name, &'line Array), Fault>>
-    requires { Offers operands sources.now }
-    ensures is { IfSome result (AssignsAs scene.entry (λ s. acted s action.now (fetched_from operands.entry sources.now))) }
-    ensures last { IfSome result (λ answer. IfOk answer (λ r. last_value (fetched_from operands.entry sources.now) ≡ Some r.1.now)) }
-    ensures assigns { IfSome result (λ answer. IsAssigning action.now) }
-    ensures none { IfNone result (¬ IsAssigning action.now) }
+    requires { Offers phrase.operands phrase.sources.now }
+    ensures is { IfSome result (AssignsAs phrase.entry.scene (outcome_of phrase.entry)) }
+    ensures last { IfSome result (λ answer. IfOk answer (λ r. last_of phrase.entry ≡ Some r.1.now)) }
+    ensures kind { IsForKind Assigns phrase.entry result }
 {
-    let Action::Phrase(Row::Assign(Variable::Name(name))) = action else {
+    let Action::Phrase(Row::Assign(Variable::Name(name))) = &phrase.instr.action else {
         return None;
     };
-    let Arguments::One(b) = arguments(sources, operands) else {
+    let Arguments::One(b) = arguments(phrase.sources, phrase.operands) else {
         return Some(Err(Fault::Syntax));
     };
-    match scene.names.binding(name) {
+    match phrase.scene.names.binding(name) {
         Some(Binding::Label(_)) => Some(Err(Fault::Syntax)),
         Some(Binding::Function(_)) => Some(Err(Fault::Syntax)),
         _ => Some(Ok((name, b))),
@@ -43,21 +42,19 @@ pub fn assigned<'line>(
 /// The name that `V K ← B` of a name assigns to, the slots that are written and the value, or the fault of a phrase that takes something else.
 /// A phrase of another kind has none.
 #[tactic(auto, using(apl_operands::proofs::Fetching::slots_taken))]
+#[inline(always)]
 pub fn assigned_indexed<'line>(
-    action: &'line Action,
-    sources: &[Option<Source>],
-    operands: Operands<'line>,
+    phrase: Phrase<'_, 'line>,
 ) -> Option<Result<(&'line Name, &'line [Option<Array>], &'line Array), Fault>>
-    requires { Offers operands sources.now }
-    ensures is { IfSome result (AssignsAt (λ s. acted s action.now (fetched_from operands.entry sources.now))) }
-    ensures last { IfSome result (λ answer. IfOk answer (λ r. last_value (fetched_from operands.entry sources.now) ≡ Some r.2.now)) }
-    ensures assigns { IfSome result (λ answer. IsAssigningSlots action.now) }
-    ensures none { IfNone result (¬ IsAssigningSlots action.now) }
+    requires { Offers phrase.operands phrase.sources.now }
+    ensures is { IfSome result (WritesAt (outcome_of phrase.entry)) }
+    ensures last { IfSome result (λ answer. IfOk answer (λ r. last_of phrase.entry ≡ Some r.2.now)) }
+    ensures kind { IsForKind AssignsAt phrase.entry result }
 {
-    let Action::Phrase(Row::AssignIndexed(Variable::Name(name))) = action else {
+    let Action::Phrase(Row::AssignIndexed(Variable::Name(name))) = &phrase.instr.action else {
         return None;
     };
-    match arguments(sources, operands) {
+    match arguments(phrase.sources, phrase.operands) {
         Arguments::ListAndOne(slots, b) => Some(Ok((name, slots, b))),
         _ => Some(Err(Fault::Syntax)),
     }

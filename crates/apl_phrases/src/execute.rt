@@ -1,16 +1,19 @@
 //! `⍎`, a text that is executed.
-ghost use Rattle.std.specs.Prelude.{◌≡◌, IfNone, IfSome, option_copied};
+ghost use Rattle.std.specs.Prelude.{◌≡◌, IfSome, option_copied};
 ghost use Rattle.apl_machine_state.specs.Outcomes.{execute, text_in};
-ghost use Rattle.apl_operands.specs.Operands.{Offers, fetched_from};
-ghost use Rattle.apl_phrases.specs.Effects.{acted};
-ghost use Rattle.apl_phrases.specs.Executing.{ExecutesAs, IsExecution};
+ghost use Rattle.apl_operands.specs.Operands.{Offers};
+ghost use Rattle.apl_phrases.specs.Effects.{outcome_of};
+ghost use Rattle.apl_phrases.specs.Executing.{ExecutesAs};
+ghost use Rattle.apl_phrases.specs.Kinds.{IsForKind};
+ghost use Rattle.apl_phrases.specs.declared.phrase.PhraseKind.TheVariants.{Executes};
 
+use crate::phrase::Phrase;
 use crate::watch::is_list;
 use apl_arrays::{Array, Elements};
 use apl_charset::Ch;
-use apl_code::{Action, Function, Row, Source};
+use apl_code::{Action, Function, Row};
 use apl_faults::Fault;
-use apl_operands::{Operands, arguments};
+use apl_operands::arguments;
 use apl_primitives::Arguments;
 use apl_symbols::Primitive;
 
@@ -37,22 +40,17 @@ fn list_text(b: &Array) -> Result<&[Ch], Fault>
     }
 }
 
-/// The text that `⍎ B` executes, where it can be read as a line and another execute may stand, or the fault of the phrase. A phrase of another
-/// kind has none.
-pub fn executed<'line>(
-    action: &Action,
-    sources: &[Option<Source>],
-    operands: Operands<'line>,
-) -> Option<Result<&'line [Ch], Fault>>
-    requires { Offers operands sources.now }
-    ensures is { IfSome result (ExecutesAs (λ s. acted s action.now (fetched_from operands.entry sources.now))) }
-    ensures executes { IfSome result (λ answer. IsExecution action.now) }
-    ensures none { IfNone result (¬ IsExecution action.now) }
+/// The text that `⍎ B` executes, or the fault of the phrase. A phrase of another kind has none.
+pub fn executed<'line>(phrase: Phrase<'_, 'line>) -> Option<Result<&'line [Ch], Fault>>
+    requires { Offers phrase.operands phrase.sources.now }
+    ensures is { IfSome result (ExecutesAs (outcome_of phrase.entry)) }
+    ensures kind { IsForKind Executes phrase.entry result }
 {
-    let Action::Phrase(Row::Monadic(Function::Primitive(Primitive::Execute))) = action else {
+    let Action::Phrase(Row::Monadic(Function::Primitive(Primitive::Execute))) = &phrase.instr.action
+    else {
         return None;
     };
-    match arguments(sources, operands) {
+    match arguments(phrase.sources, phrase.operands) {
         Arguments::One(b) => Some(list_text(b)),
         _ => Some(Err(Fault::Syntax)),
     }

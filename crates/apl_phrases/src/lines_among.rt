@@ -1,8 +1,10 @@
 //! The lines of a function that numbers name.
 ghost use Rattle.std.specs.Prelude.{◌≡◌, ◌≤◌, IfOk, length};
+ghost use Rattle.apl_arrays.specs.Numbers.{values};
 ghost use Rattle.apl_machine_state.specs.Watching.{lines_among};
 ghost use Rattle.apl_phrases.specs.inside.Marks.{marked, marked_lines, marks_of};
 
+use apl_arrays::NumberSlice;
 use apl_defn::Definition;
 use std::alloc::{AllocError, Global};
 
@@ -48,12 +50,13 @@ fn marked_lines(alloc: Global, marks: &[bool]) -> Result<Vec<usize>, AllocError>
 /// The lines of a function that are among these numbers, ascending.
 pub fn lines_among(
     alloc: Global,
-    numbers: &[i64],
+    numbers: NumberSlice<'_>,
     definition: &Definition,
 ) -> Result<Vec<usize>, AllocError>
-    ensures value { IfOk result (λ lines. lines.items ≡ lines_among numbers.now definition.now) }
+    ensures value { IfOk result (λ lines. lines.items ≡ lines_among (values numbers.entry) definition.now) }
     ensures few { IfOk result (λ lines. length lines.items ≤ 999) }
 {
-    let marks = marks(alloc, numbers, definition)?;
+    let numbers = numbers.wide(alloc)?;
+    let marks = marks(alloc, numbers.as_slice(), definition)?;
     marked_lines(alloc, marks.as_slice())
 }

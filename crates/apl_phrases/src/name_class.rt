@@ -1,18 +1,18 @@
 //! `⎕NC`, the class of a name.
-ghost use Rattle.std.specs.Prelude.{◌≡◌, ℤ, IfOk, List, option_copied};
+ghost use Rattle.std.specs.Prelude.{◌≡◌, ℤ, List, Option, option_copied};
+ghost use Rattle.apl_arrays.specs.Cells.{Arr};
 ghost use Rattle.apl_machine_state.specs.Outcomes.{class_number, name_class, number_of_binding};
 ghost use Rattle.apl_phrases.specs.Effects.{Does, seen};
 
 use crate::assign::number;
 use crate::effect::Effect;
 use crate::scene::Scene;
-use apl_arrays::{Array, Elements};
+use apl_arrays::{Array, Elements, Stop};
 use apl_defn::{name_of, trimmed};
 use apl_faults::Fault;
-use apl_machine_state::Operand;
 use apl_names::Binding;
 use apl_symbols::Name;
-use std::alloc::{AllocError, Global};
+use std::alloc::Global;
 
 /// The class of what a name stands for.
 fn number_of_binding(binding: Option<&Binding>) -> u16
@@ -38,18 +38,17 @@ fn class_number(scene: Scene<'_>, name: Option<Name>) -> u16
 }
 
 /// `⎕NC B`
-pub fn name_class(alloc: Global, scene: Scene<'_>, b: &Array) -> Result<Effect, AllocError>
-    ensures { IfOk result (Does scene.entry (λ s. name_class s b.now)) }
+pub fn name_class(alloc: Global, scene: Scene<'_>, b: &Array) -> Result<Effect, Stop>
+    ensures { (last : Option Arr) → Does scene.entry last (λ s. name_class s b.now) result }
 {
     if b.rank() > 1 {
-        return Ok(Effect::Fails(Fault::Rank));
+        return Err(Stop::Fault(Fault::Rank));
     }
     match b.items() {
-        Elements::Nums(_) => Ok(Effect::Fails(Fault::Domain)),
+        Elements::Nums(_) => Err(Stop::Fault(Fault::Domain)),
         Elements::Chars(text) => {
             let name = name_of(alloc, trimmed(text))?;
-            let class = number(class_number(scene, name));
-            Ok(Effect::Gives(Operand::Value(class)))
+            Ok(Effect::Gives(number(class_number(scene, name))))
         }
     }
 }

@@ -40,8 +40,8 @@ fn origin_in(array: &Array) -> Origin
     ensures { origin_number result ≡ origin_in array.now.items }
 {
     match array.items() {
-        Elements::Nums(numbers) => match numbers {
-            [0, ..] => Origin::Zero,
+        Elements::Nums(numbers) => match numbers.get(0) {
+            Some(0) => Origin::Zero,
             _ => Origin::One,
         },
         Elements::Chars(_) => Origin::One,

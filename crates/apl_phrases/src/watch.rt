@@ -1,22 +1,24 @@
 //! `⎕STOP` and `⎕TRACE`, the stop and trace vectors of functions.
-ghost use Rattle.std.specs.Prelude.{◌≡◌, IfOk, option_copied, Some};
+ghost use Rattle.std.specs.Prelude.{◌≡◌, ℤ, List, Option, option_copied, option_map, Some};
+ghost use Rattle.apl_arrays.specs.Numbers.{values};
+ghost use Rattle.apl_arrays.specs.Cells.{Arr};
 ghost use Rattle.apl_machine_state.specs.Outcomes.{rewatch, watch, watched, watched_by};
 ghost use Rattle.apl_machine_state.specs.Watching.{function_named, is_list, numbers_in};
 ghost use Rattle.apl_names.specs.Maps.{function_in, last_map, said};
-ghost use Rattle.apl_phrases.specs.Effects.{ComesTo, Does};
+ghost use Rattle.apl_phrases.specs.Effects.{Does, IsEffect};
 ghost use Rattle.apl_phrases.specs.inside.Marks.{chosen};
 
 use crate::effect::Effect;
 use crate::lines_among::lines_among;
 use crate::scene::Scene;
-use apl_arrays::{Array, Elements};
+use apl_arrays::{Array, Elements, NumberSlice, Stop};
 use apl_charset::Ch;
 use apl_defn::Definition;
 use apl_faults::Fault;
 use apl_machine_state::Watch;
 use apl_names::{Binding, Names};
 use apl_symbols::Name;
-use std::alloc::{AllocError, Global};
+use std::alloc::Global;
 
 /// Whether an array has at most one axis.
 pub fn is_list(array: &Array) -> bool
@@ -26,12 +28,18 @@ pub fn is_list(array: &Array) -> bool
 }
 
 /// The numbers of an array of numbers, or of one without elements.
-fn numbers_in(array: &Array) -> Option<&[i64]>
-    ensures { option_copied result ≡ numbers_in array.now.items }
+fn numbers_in(array: &Array) -> Option<NumberSlice<'_>>
+    ensures { option_map values result ≡ numbers_in array.now.items }
 {
     match array.items() {
         Elements::Nums(numbers) => Some(numbers),
-        Elements::Chars(text) => { if text.is_empty() { Some(&[]) } else { None } }
+        Elements::Chars(text) => {
+            if text.is_empty() {
+                Some(NumberSlice::I64(&[]))
+            } else {
+                None
+            }
+        }
     }
 }
 
@@ -51,9 +59,9 @@ fn ask(
     which: Watch,
     name: Name,
     definition: &Definition,
-    numbers: Option<&[i64]>,
-) -> Result<Effect, AllocError>
-    ensures { IfOk result (ComesTo (watched_by which name (Some definition.now) (chosen (option_copied numbers.entry)))) }
+    numbers: Option<NumberSlice<'_>>,
+) -> Result<Effect, Stop>
+    ensures { (last : Option Arr) (lines : List ℤ) → IsEffect result last lines (watched_by which name (Some definition.now) (chosen (option_map values numbers.entry))) }
 {
     match numbers {
         Some(numbers) => {
@@ -70,16 +78,16 @@ fn ask_named(
     scene: Scene<'_>,
     which: Watch,
     text: &[Ch],
-    numbers: Option<&[i64]>,
-) -> Result<Effect, AllocError>
-    ensures { IfOk result (Does scene.entry (λ s. watched_by which text.now (function_named s text.now) (chosen (option_copied numbers.entry)))) }
+    numbers: Option<NumberSlice<'_>>,
+) -> Result<Effect, Stop>
+    ensures { (last : Option Arr) → Does scene.entry last (λ s. watched_by which text.now (function_named s text.now) (chosen (option_map values numbers.entry))) result }
 {
     let Some(name) = Name::new(text) else {
-        return Ok(Effect::Fails(Fault::Domain));
+        return Err(Stop::Fault(Fault::Domain));
     };
     match global_function(scene.names, &name) {
         Some(definition) => ask(alloc, which, name, definition, numbers),
-        None => Ok(Effect::Fails(Fault::Domain)),
+        None => Err(Stop::Fault(Fault::Domain)),
     }
 }
 
@@ -88,23 +96,23 @@ fn watched(
     alloc: Global,
     scene: Scene<'_>,
     which: Watch,
-    numbers: Option<&[i64]>,
+    numbers: Option<NumberSlice<'_>>,
     b: &Array,
-) -> Result<Effect, AllocError>
-    ensures { IfOk result (Does scene.entry (λ s. watched s which b.now.items (chosen (option_copied numbers.entry)))) }
+) -> Result<Effect, Stop>
+    ensures { (last : Option Arr) → Does scene.entry last (λ s. watched s which b.now.items (chosen (option_map values numbers.entry))) result }
 {
     match b.items() {
-        Elements::Nums(_) => Ok(Effect::Fails(Fault::Domain)),
+        Elements::Nums(_) => Err(Stop::Fault(Fault::Domain)),
         Elements::Chars(text) => ask_named(alloc, scene, which, text, numbers),
     }
 }
 
 /// `⎕STOP B` and `⎕TRACE B`
-pub fn watch(alloc: Global, scene: Scene<'_>, which: Watch, b: &Array) -> Result<Effect, AllocError>
-    ensures { IfOk result (Does scene.entry (λ s. watch s which b.now)) }
+pub fn watch(alloc: Global, scene: Scene<'_>, which: Watch, b: &Array) -> Result<Effect, Stop>
+    ensures { (last : Option Arr) → Does scene.entry last (λ s. watch s which b.now) result }
 {
     if !is_list(b) {
-        return Ok(Effect::Fails(Fault::Rank));
+        return Err(Stop::Fault(Fault::Rank));
     }
     watched(alloc, scene, which, None, b)
 }
@@ -116,14 +124,14 @@ pub fn rewatch(
     which: Watch,
     a: &Array,
     b: &Array,
-) -> Result<Effect, AllocError>
-    ensures { IfOk result (Does scene.entry (λ s. rewatch s which a.now b.now)) }
+) -> Result<Effect, Stop>
+    ensures { (last : Option Arr) → Does scene.entry last (λ s. rewatch s which a.now b.now) result }
 {
     if !is_list(a) || !is_list(b) {
-        return Ok(Effect::Fails(Fault::Rank));
+        return Err(Stop::Fault(Fault::Rank));
     }
     match numbers_in(a) {
         Some(numbers) => watched(alloc, scene, which, Some(numbers), b),
-        None => Ok(Effect::Fails(Fault::Domain)),
+        None => Err(Stop::Fault(Fault::Domain)),
     }
 }

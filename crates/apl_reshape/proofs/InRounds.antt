@@ -1,5 +1,5 @@
 -- Items taken round.
-use Rattle.std.proofs.Common.{pos, ◌≡◌, ℕ, ◌+◌, ◌*◌, ◌/◌, ◌%◌, ◌<◌, ◌≤◌, List, [], ◌∷◌, ◌++◌, map, length, replicate, take, get_or, refl, ap, sym, ◌∙◌, arith, append_assoc}
+use Rattle.std.proofs.Common.{pos, ◌≡◌, ℕ, ◌+◌, ◌*◌, ◌/◌, ◌%◌, ◌<◌, ◌≤◌, List, [], ◌∷◌, ◌++◌, map, length, replicate, take, get_or, refl, ap, sym, ◌∙◌, arith, append_assoc, Ok}
 use Rattle.std.specs.List.{range_with_len}
 use Rattle.std.proofs.lemmas.List.{get_or-take, length-map, length-take-le}
 use Rattle.std.proofs.lemmas.List.FromFn.{fill_by_all, length-map-range_with_len}
@@ -8,8 +8,10 @@ use Rattle.std.proofs.Math.Nat.{mod-add-div'}
 use Rattle.std.proofs.Math.Seq.{take-length}
 use Rattle.apl_arrays.specs.declared.cell.Cell.TheVariants.{Num, Char}
 use Rattle.apl_arrays.specs.Index.{size_of}
-use Rattle.apl_arrays.specs.Cells.{Items, Numbers, Characters, cells_of}
-use Rattle.apl_reshape.specs.Reshape.{item_round, taken_round}
+use Rattle.apl_arrays.specs.Cells.{Arr, Items, Numbers, Characters, cells_of}
+use Rattle.apl_arrays.specs.Results.{ok_map}
+use Rattle.apl_arrays.specs.Structural.{made_of}
+use Rattle.apl_reshape.specs.Reshape.{item_round, named_shape, reshaped, taken_round}
 use Rattle.apl_reshape.proofs.Ranges.{map_parts, map_one}
 
 -- some of the items after whole rounds
@@ -79,6 +81,21 @@ single_round [] old new x d n l h g e f = absurd (omega arith)
 single_round {A = A} (y ∷ []) old new x d n l h g e f =
     f ∙ ap (λ (l : List A). l ++ replicate n x) e ∙ ap (λ (z : A). replicate n z) g ∙ round_one y d n
 single_round (y ∷ z ∷ xs) old new x d n l h g e f = absurd (omega arith)
+
+-- items taken round are elements taken round
+pub made_round : (n : ℕ) (items : Items) → made_of (λ A d fill xs. map (item_round xs fill) (range_with_len 0 n)) items ≡ taken_round n items
+made_round n (Numbers zs) = refl
+made_round n (Characters cs) = refl
+
+-- what is reshaped, part by part
+pub reshaped_as : (a b r : Arr) (s t u : List ℕ) (made items : Items) (n : ℕ) → named_shape a ≡ Ok s → t ≡ s → u ≡ s → items ≡ b.items → made ≡ taken_round n items → n ≡ size_of t →
+    r ≡ record { shape = u; items = made } → reshaped a b ≡ Ok r
+reshaped_as a b r s t u made items n e f g h m k l =
+    ap (ok_map (λ s. record { shape = s; items = taken_round (size_of s) b.items })) e
+    ∙ ap (λ (x : Arr). Ok x)
+    (sym
+    (l ∙ ap (λ (v : List ℕ). record { shape = v; items = made }) g
+    ∙ ap (λ (i : Items). record { shape = s; items = i }) (m ∙ ap (λ (j : ℕ). taken_round j items) (k ∙ ap size_of f) ∙ ap (taken_round (size_of s)) h)))
 
 -- as many elements as are taken round
 pub length-round : (n : ℕ) (items : Items) → length (cells_of (taken_round n items)) ≡ n

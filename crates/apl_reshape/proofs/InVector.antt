@@ -1,5 +1,5 @@
 -- Scalars and vectors, joined along their one axis.
-use Rattle.std.proofs.Common.{pos, subst, ◌≡◌, ◌==◌, ℕ, ◌+◌, ◌*◌, ◌<◌, ◌≤◌, max, Bool, true, false, List, [], ◌∷◌, ◌++◌, length, get_or, Result, Ok, Err, refl, ap, sym, ◌∙◌, arith, append-nil, mul-one}
+use Rattle.std.proofs.Common.{pos, subst, ◌≡◌, ◌==◌, ℕ, ◌+◌, ◌*◌, ◌<◌, ◌≤◌, max, Bool, true, false, List, [], ◌∷◌, ◌++◌, length, get_or, Result, Ok, Err, refl, ap, sym, ◌∙◌, arith, append-nil, mul-one, length-append}
 use Rattle.std.specs.Prelude.{IfOk}
 use Rattle.std.proofs.lemmas.List.{length-map}
 use Rattle.std.proofs.lemmas.List.FromFn.{fill_by_all}
@@ -13,7 +13,7 @@ use Rattle.apl_arrays.specs.Index.{size_of, indices}
 use Rattle.apl_arrays.specs.Results.{and_then, ok_map}
 use Rattle.apl_reshape.specs.declared.blocks.Block.{Block}
 use Rattle.apl_reshape.specs.Catenate.{Both, beside, joined_array, joined_items, joined_of, joined_on, of_one_type, place_in}
-use Rattle.apl_reshape.specs.inside.Rows.{is_scalar_shape, item_at, row_block, rows_of, rows_of_lists}
+use Rattle.apl_reshape.specs.inside.Rows.{is_scalar_shape, item_at, needed, row_block, rows_of, rows_of_lists}
 use Rattle.apl_reshape.specs.inside.Vectors.{appended, joined_vectors}
 use Rattle.apl_reshape.proofs.InBlocks.{rows_items}
 
@@ -61,6 +61,45 @@ single_row_items x y g h = of_both (λ i j both. length (cells_of i) ≡ x.len �
     each (Characters []) (Numbers ys) = λ e f. ap Numbers (single_row x y [] ys (pos 0) e (sym (length-map ys Num) ∙ f) g h)
     each (Characters (x1 ∷ xs)) (Numbers []) = λ e f. ap Characters (single_row x y (x1 ∷ xs) [] 0 (sym (length-map (x1 ∷ xs) Char) ∙ e) f g h)
     each (Characters (x1 ∷ xs)) (Numbers (y1 ∷ ys)) = tt
+
+-- operands whose elements stand in a single row
+pub one_row : (x y : Block) (i j made : Items) (both : Both) (m n : ℕ) → of_one_type i j ≡ Ok both → x ≡ record { is_scalar = false; len = m } → y ≡ record { is_scalar = false; len = n } →
+    m ≡ length (cells_of i) → n ≡ length (cells_of j) → made ≡ rows_of x y 1 both → made ≡ appended both
+one_row x y i j made both m n e f g k l h =
+    h ∙ single_row_items x y (none x m f) (none y n g) i j both e (sym k ∙ sym (ap (λ (b : Block). b.len) f)) (sym l ∙ sym (ap (λ (b : Block). b.len) g))
+  where
+    none : (x : Block) (m : ℕ) → x ≡ record { is_scalar = false; len = m } → x.is_scalar ≡ true → x.len ≡ 1
+    none x m f t = let no : x.is_scalar ≡ false = ap (λ (b : Block). b.is_scalar) f in absurd (cc)
+
+pub row_needed : (x : Block) (m n : ℕ) → x ≡ record { is_scalar = false; len = m } → m ≡ n → needed x 1 ≤ n
+row_needed x m n e f = rw e (omega arith)
+
+-- as many elements as both have
+pub appended_count : (i j : Items) (both : Both) → of_one_type i j ≡ Ok both → length (cells_of (appended both)) ≡ length (cells_of i) + length (cells_of j)
+appended_count = of_both (λ i j both. length (cells_of (appended both)) ≡ length (cells_of i) + length (cells_of j)) each
+  where
+    each : (i j : Items) → IfOk (of_one_type i j) (λ both. length (cells_of (appended both)) ≡ length (cells_of i) + length (cells_of j))
+    each (Numbers xs) (Numbers ys) = omega (arith, length-map (xs ++ ys) Num, length-map xs Num, length-map ys Num, length-append xs ys)
+    each (Characters xs) (Characters ys) = omega (arith, length-map (xs ++ ys) Char, length-map xs Char, length-map ys Char, length-append xs ys)
+    each (Numbers []) (Characters ys) = omega arith
+    each (Numbers (x ∷ xs)) (Characters []) = omega (arith, length-map (xs ++ []) Num, length-map xs Num, length-append xs [])
+    each (Numbers (x ∷ xs)) (Characters (y ∷ ys)) = tt
+    each (Characters []) (Numbers ys) = omega arith
+    each (Characters (x ∷ xs)) (Numbers []) = omega (arith, length-map (xs ++ []) Char, length-map xs Char, length-append xs [])
+    each (Characters (x ∷ xs)) (Numbers (y ∷ ys)) = tt
+
+-- both in a vector, part by part
+pub joined_as_vector : (a b r : Arr) (i j made : Items) (both : Both) (m n : ℕ) → of_one_type i j ≡ Ok both → i ≡ a.items → j ≡ b.items → m ≡ length (cells_of i) → n ≡ length (cells_of j) →
+    limited ((m + n) ∷ []) ≡ Ok ((m + n) ∷ []) → made ≡ appended both → r ≡ record { shape = (m + n) ∷ []; items = made } → joined_vectors a b ≡ Ok r
+joined_as_vector a b r i j made both m n e f g k l h t u =
+    ap (λ (x : Result Both Fault). and_then x (λ both. ok_map (λ shape. record { shape = shape; items = appended both }) (limited ((count_of a + count_of b) ∷ []))))
+    (ap (λ (z : Items). of_one_type z b.items) (sym f) ∙ ap (of_one_type i) (sym g) ∙ e)
+    ∙ ap (ok_map (λ shape. record { shape = shape; items = appended both })) (ap (λ (p : ℕ). limited (p ∷ [])) counted ∙ h)
+    ∙ ap (λ (z : Items). Ok (record { shape = (m + n) ∷ []; items = z })) (sym t)
+    ∙ ap (λ (z : Arr). Ok z) (sym u)
+  where
+    counted : count_of a + count_of b ≡ m + n
+    counted = omega (arith, ap (λ (z : Items). length (cells_of z)) f, ap (λ (z : Items). length (cells_of z)) g)
 
 -- what stands of an operand in the single row
 whole : List ℕ → Block

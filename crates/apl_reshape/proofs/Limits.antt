@@ -1,10 +1,15 @@
 -- Lengths within the limits of an array.
-use Rattle.std.proofs.Common.{suc, zero, ◌≡◌, ℕ, ◌*◌, ◌<◌, ◌≤◌, max, List, [], ◌∷◌, length, take, get_or, replicate, refl, ap, sym, ◌∙◌, arith}
+use Rattle.std.proofs.Common.{suc, zero, ◌≡◌, ℕ, ◌*◌, ◌<◌, ◌≤◌, max, Bool, true, false, ◌&&◌, nat_le, List, [], ◌∷◌, length, take, get_or, replicate, Ok, refl, ap, sym, ◌∙◌, arith}
+use Rattle.std.proofs.lemmas.Bool.{eqb-true, leb-true}
+use Rattle.std.proofs.lemmas.List.{length-replicate}
+use Rattle.apl_faults.specs.declared.fault.Fault.TheVariants.{Limit}
 use Rattle.std.proofs.Math.Nat.{mul-le-mul_left, mul-le-mul_right}
 use Rattle.apl_arrays.specs.Index.{size_of, bound_of}
 use Rattle.apl_arrays.specs.Cells.{Arr, Items, cells_of}
+use Rattle.apl_arrays.specs.Checks.{demand, limited}
+use Rattle.apl_arrays.specs.Results.{ok_map}
 use Rattle.apl_arrays.specs.Simple.{vector}
-use Rattle.apl_reshape.specs.Take.{with_axes}
+use Rattle.apl_reshape.specs.Take.{fits_axes, with_axes}
 use Rattle.apl_arrays.proofs.Places.{bound_of-pos, mul_low}
 
 -- no length is more than the bound
@@ -25,6 +30,15 @@ bound-take s k m h = omega (arith, less s k)
     less [] (suc k) = omega arith
     less (n ∷ ns) (suc k) = mul-le-mul_left (max n 1) (less ns k)
 
+-- what is within the limits is itself
+pub limited_shape : (s t : List ℕ) → limited s ≡ Ok t → (t ≡ s) × (bound_of s ≤ 1000000)
+limited_shape s t e = at (nat_le (length s) 8) (nat_le (bound_of s) 1000000) (λ h. leb-true (bound_of s) 1000000 h) e
+  where
+    at : (a b : Bool) → (b ≡ true → bound_of s ≤ 1000000) → ok_map (λ u. s) (demand (a && b) Limit) ≡ Ok t → (t ≡ s) × (bound_of s ≤ 1000000)
+    at true true h e = (cc, h refl)
+    at true false h e = absurd (cc)
+    at false b h e = absurd (cc)
+
 -- axes of length 1
 pub size-ones : (n : ℕ) → size_of (replicate n 1) ≡ 1
 size-ones zero = refl
@@ -42,6 +56,10 @@ size-axes n (m ∷ s) = refl
 pub bound-axes : (n : ℕ) (s : List ℕ) → bound_of (with_axes n s) ≡ bound_of s
 bound-axes n [] = bound-ones n
 bound-axes n (m ∷ s) = refl
+
+pub length-axes : (n : ℕ) (s : List ℕ) → fits_axes n s ≡ true → length (with_axes n s) ≡ n
+length-axes n [] e = length-replicate n 1
+length-axes n (m ∷ s) e = sym (eqb-true n (length (m ∷ s)) e)
 
 -- an operand that takes part with these lengths has an element for each index list, and is within the limits
 pub room_axes : (b : Arr) (n : ℕ) (s t u : List ℕ) (items : Items) → s ≡ t → t ≡ with_axes n u → u ≡ b.shape → items ≡ b.items → length (cells_of b.items) ≡ size_of b.shape → size_of s ≡ length (cells_of items)

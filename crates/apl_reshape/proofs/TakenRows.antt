@@ -1,5 +1,5 @@
 -- What is taken of items, along the last axis and row by row.
-use Rattle.std.proofs.Common.{pos, ◌≡◌, ℕ, ℤ, ◌+◌, ◌-◌, ◌*◌, ◌<◌, ◌≤◌, ◌&&◌, Bool, true, false, nat_lt, cond, min, List, [], ◌∷◌, ◌++◌, map, length, replicate, take, drop, get_or, unsigned_abs, refl, ap, sym, ◌∙◌, arith, append_assoc}
+use Rattle.std.proofs.Common.{pos, ◌≡◌, ℕ, ℤ, ◌+◌, ◌-◌, ◌*◌, ◌<◌, ◌≤◌, ◌&&◌, Bool, true, false, nat_lt, cond, min, List, [], ◌∷◌, ◌++◌, map, length, replicate, take, drop, get_or, unsigned_abs, refl, ap, sym, ◌∙◌, arith, append_assoc, Result, Ok}
 use Rattle.std.specs.Int.{is_negative}
 use Rattle.std.specs.List.{range_with_len}
 use Rattle.std.proofs.lemmas.Bool.{lt-ltb, le-ltb, le-leb, lt-leb, ltb-true, ltb-false}
@@ -8,10 +8,15 @@ use Rattle.std.proofs.lemmas.List.FromFn.{fill_by_all}
 use Rattle.std.proofs.Math.Nat.{mul-le-mul_right}
 use Rattle.apl_arrays.specs.declared.cell.Cell.TheVariants.{Num, Char}
 use Rattle.apl_arrays.specs.Index.{size_of, indices, is_within, position_in}
-use Rattle.apl_arrays.specs.Cells.{Items, Numbers, Characters, cells_of}
+use Rattle.apl_arrays.specs.Cells.{Arr, Items, Numbers, Characters, cells_of}
+use Rattle.apl_arrays.specs.Checks.{limited}
+use Rattle.apl_arrays.specs.Results.{and_then, ok_map}
+use Rattle.apl_arrays.specs.Structural.{made_of}
+use Rattle.apl_faults.specs.declared.fault.Fault.{Fault}
 use Rattle.apl_arrays.proofs.Gathers.{row_step, rows_from, one_axis}
 use Rattle.apl_arrays.proofs.Order.{length-indices}
-use Rattle.apl_reshape.specs.Take.{on_axes, taken_index, place_taken, place_from_end, element_or, taken_from, found_or_filled}
+use Rattle.apl_reshape.specs.Take.{named_counts, on_axes, taken, taken_by, taken_for, taken_index, place_taken, place_from_end, element_or, taken_from, found_or_filled, widened, with_axes}
+use Rattle.apl_reshape.proofs.Limits.{limited_shape}
 use Rattle.apl_reshape.proofs.Ranges.{map_always, map_parts}
 
 -- f of so many numbers, where it is the same for each
@@ -188,6 +193,23 @@ room_of_row (n ∷ s) s' xs row j step h r l e f g =
     less n j t m u x y e f l r g = rw (f) (let h : (j + 1) * m ≤ n * m = mul-le-mul_right m (omega arith) in let k : j * t ≡ j * m = ap (λ t. j * t) e in omega arith)
 
 -- as many elements as are taken
+-- what is taken of elements
+pub made_taken : (s : List ℕ) (zs : List ℤ) (ls : List ℕ) (items : Items) → made_of (λ A d fill xs. map (taken_from s zs xs fill) (indices ls)) items ≡ taken_for s zs items (indices ls)
+made_taken s zs ls (Numbers xs) = refl
+made_taken s zs ls (Characters cs) = refl
+
+-- what is taken, part by part
+pub taken_as : (a b r : Arr) (zs : List ℤ) (s l : List ℕ) (items made : Items) → named_counts a b.shape ≡ Ok zs → limited (map unsigned_abs zs) ≡ Ok l → s ≡ with_axes (length zs) b.shape → items ≡ b.items →
+    made ≡ made_of (λ A d fill xs. map (taken_from s zs xs fill) (indices l)) items → r ≡ record { shape = l; items = made } → taken a b ≡ Ok r
+taken_as a b r zs s l items made e f g h m k =
+    ap (λ (x : Result (List ℤ) Fault). and_then x (λ zs. ok_map (λ ok. taken_by zs (widened (length zs) b)) (limited (map unsigned_abs zs)))) e
+    ∙ ap (ok_map (λ ok. taken_by zs (widened (length zs) b))) f
+    ∙ ap (λ (x : Arr). Ok x)
+    (ap (λ (t : List ℕ). record { shape = t; items = taken_for (with_axes (length zs) b.shape) zs b.items (indices t) }) (sym (limited_shape (map unsigned_abs zs) l f).0)
+    ∙ sym
+    (k ∙ ap (λ (t : Items). record { shape = l; items = t })
+    (m ∙ made_taken s zs l items ∙ ap (λ (t : List ℕ). taken_for t zs items (indices l)) g ∙ ap (λ (t : Items). taken_for (with_axes (length zs) b.shape) zs t (indices l)) h)))
+
 pub length-found : (s : List ℕ) (items : Items) (g : List ℕ → List ℕ) (ls : List ℕ) → length (cells_of (found_or_filled s items g (indices ls))) ≡ size_of ls
 length-found s (Numbers zs) g ls = length-map (map (λ i. element_or s zs (pos 0) (g i)) (indices ls)) Num ∙ length-map (indices ls) (λ i. element_or s zs (pos 0) (g i)) ∙ length-indices ls
 length-found s (Characters cs) g ls = length-map (map (λ i. element_or s cs 32 (g i)) (indices ls)) Char ∙ length-map (indices ls) (λ i. element_or s cs 32 (g i)) ∙ length-indices ls

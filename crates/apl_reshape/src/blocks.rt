@@ -30,24 +30,32 @@ fn push_block<T: Copy>(
     Ok(())
 }
 
-/// So many rows, with room for so many items.
-pub(crate) fn rows_joined<T: Copy>(
-    alloc: Global,
-    room: usize,
-    rows: usize,
-    xs: &[T],
-    x: Block,
-    ys: &[T],
-    y: Block,
-) -> Result<Vec<T>, AllocError>
-    requires xs { needed x rows ≤ length xs.now }
-    requires ys { needed y rows ≤ length ys.now }
-    ensures { IfOk result (λ v. (d : T) → v.items ≡ rows_of_lists x y rows xs.now ys.now d) }
-{
-    let mut out = Vec::with_capacity(alloc, room)?;
-    for row in 0..rows {
-        push_block(&mut out, xs, x, row)?;
-        push_block(&mut out, ys, y, row)?;
+/// So many rows of a block of each of two operands, and the room for their items.
+#[derive(Clone, Copy)]
+pub(crate) struct Rows {
+    pub(crate) room: usize,
+    pub(crate) count: usize,
+    pub(crate) x: Block,
+    pub(crate) y: Block,
+}
+
+impl Rows {
+    /// The items of the rows.
+    pub(crate) fn join<T: Copy>(
+        self,
+        alloc: Global,
+        xs: &[T],
+        ys: &[T],
+    ) -> Result<Vec<T>, AllocError>
+        requires xs { needed self.x self.count ≤ length xs.now }
+        requires ys { needed self.y self.count ≤ length ys.now }
+        ensures { IfOk result (λ v. (d : T) → v.items ≡ rows_of_lists self.x self.y self.count xs.now ys.now d) }
+    {
+        let mut out = Vec::with_capacity(alloc, self.room)?;
+        for row in 0..self.count {
+            push_block(&mut out, xs, self.x, row)?;
+            push_block(&mut out, ys, self.y, row)?;
+        }
+        Ok(out)
     }
-    Ok(out)
 }

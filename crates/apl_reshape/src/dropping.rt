@@ -4,11 +4,10 @@ ghost use Rattle.apl_arrays.specs.Answers.{Answers, FaultsFirst};
 ghost use Rattle.apl_reshape.specs.Take.{dropped, dropped_by, fits_axes, widened};
 
 use crate::lengths::{Asked, asked_of_each, ones};
-use crate::named::counts_named;
+use crate::named::{counts_named, few};
 use crate::parts::part_of;
-use crate::rounds::ravel_round;
+use crate::rounds::Round;
 use apl_arrays::{Array, MAX_RANK, Stop, size};
-use apl_faults::Fault;
 use std::alloc::{AllocError, Global};
 
 /// What is left of an array with as many axes as there are counts.
@@ -30,7 +29,10 @@ fn left_of_scalar(alloc: Global, counts: &[i64], b: &Array) -> Result<Array, All
 {
     let axes = ones(counts.len());
     let lengths = asked_of_each(Asked::Left, axes.as_slice(), counts);
-    let left = ravel_round(alloc, b.items(), size(lengths.as_slice()))?;
+    let round = Round {
+        count: size(lengths.as_slice()),
+    };
+    let left = b.items().made_by(alloc, round)?;
     Ok(Array::in_shape(alloc, lengths.as_slice(), left)?)
 }
 
@@ -55,9 +57,6 @@ pub fn drop_items(alloc: Global, a: &Array, b: &Array) -> Result<Array, Stop>
     ensures value { Answers (λ r. r) (dropped a.now b.now) result }
     ensures at_once { FaultsFirst (dropped a.now b.now) result }
 {
-    let counts = counts_named(a, b.shape())?;
-    if counts.len() > MAX_RANK {
-        return Err(Stop::Fault(Fault::Limit));
-    }
-    Ok(left_of_widened(alloc, counts, b)?)
+    let counts = few(counts_named(a, b.shape())?)?;
+    Ok(left_of_widened(alloc, counts.as_slice(), b)?)
 }

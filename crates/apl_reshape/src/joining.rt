@@ -9,7 +9,7 @@ ghost use Rattle.apl_reshape.specs.Catenate.{beside, catenated, joined_of, joine
 ghost use Rattle.apl_reshape.specs.inside.Rows.{is_scalar_shape};
 
 use crate::beside::{lengths_beside, others_agree, replaced};
-use crate::blocks::Block;
+use crate::blocks::{Block, Rows};
 use crate::pairs::{paired, ravel_joined};
 use crate::vectors::join_vectors;
 use apl_arrays::{Along, Array, MAX_ELEMENTS, MAX_RANK, Origin, Stop, size, within_limits};
@@ -74,10 +74,13 @@ fn join_with(
     let pair = paired(a.items(), b.items())?;
     let shape = joined_lengths(axis, s, t);
     within_limits(shape.as_slice())?;
-    let room = size(shape.as_slice());
-    let x = block_of(a.shape(), axis, s);
-    let y = block_of(b.shape(), axis, t);
-    let ravel = ravel_joined(alloc, room, rows_before(axis, s), pair, x, y)?;
+    let rows = Rows {
+        room: size(shape.as_slice()),
+        count: rows_before(axis, s),
+        x: block_of(a.shape(), axis, s),
+        y: block_of(b.shape(), axis, t),
+    };
+    let ravel = ravel_joined(alloc, rows, pair)?;
     Ok(Array::in_shape(alloc, shape.as_slice(), ravel)?)
 }
 

@@ -1,14 +1,15 @@
 // The elements of two operands, of one type.
-ghost use Rattle.std.specs.Prelude.{◌≡◌, IfOk};
+ghost use Rattle.std.specs.Prelude.{◌≡◌, ◌≤◌, length, pos, IfOk};
 ghost use Rattle.apl_arrays.specs.Cells.{Characters, Numbers};
 ghost use Rattle.apl_arrays.specs.Left.{listed};
+ghost use Rattle.apl_arrays.specs.Numbers.{kept_values, values};
 ghost use Rattle.apl_arrays.specs.Ravels.{items_of};
 ghost use Rattle.apl_arrays.specs.Results.{ok_map};
 ghost use Rattle.apl_reshape.specs.Catenate.{of_one_type};
-ghost use Rattle.apl_reshape.specs.inside.Rows.{both_of, rows_of, HasRows};
+ghost use Rattle.apl_reshape.specs.inside.Rows.{both_of, needed, rows_of, rows_of_lists, HasRows};
 
-use crate::blocks::{Block, rows_joined};
-use apl_arrays::{Elements, Ravel};
+use crate::blocks::Rows;
+use apl_arrays::{Both, Elements, NumberSlice, NumberVec, Ravel};
 use apl_charset::Ch;
 use apl_faults::Fault;
 use std::alloc::{AllocError, Global};
@@ -16,13 +17,13 @@ use std::alloc::{AllocError, Global};
 /// The elements of two operands, of one type.
 #[derive(Clone, Copy)]
 pub(crate) enum Pair<'a> {
-    Numbers(&'a [i64], &'a [i64]),
+    Numbers(NumberSlice<'a>, NumberSlice<'a>),
     Characters(&'a [Ch], &'a [Ch]),
 }
 
 /// Numbers beside the elements of another operand.
-fn beside_numbers<'a>(xs: &'a [i64], b: Elements<'a>) -> Result<Pair<'a>, Fault>
-    ensures { of_one_type (Numbers xs.now) (listed b.entry) ≡ ok_map both_of result }
+fn beside_numbers<'a>(xs: NumberSlice<'a>, b: Elements<'a>) -> Result<Pair<'a>, Fault>
+    ensures { of_one_type (Numbers (values xs.entry)) (listed b.entry) ≡ ok_map both_of result }
 {
     match b {
         Elements::Nums(ys) => Ok(Pair::Numbers(xs, ys)),
@@ -30,7 +31,7 @@ fn beside_numbers<'a>(xs: &'a [i64], b: Elements<'a>) -> Result<Pair<'a>, Fault>
             if xs.is_empty() {
                 Ok(Pair::Characters(&[], ys))
             } else if ys.is_empty() {
-                Ok(Pair::Numbers(xs, &[]))
+                Ok(Pair::Numbers(xs, NumberSlice::I8(&[])))
             } else {
                 Err(Fault::Domain)
             }
@@ -46,7 +47,7 @@ fn beside_characters<'a>(xs: &'a [Ch], b: Elements<'a>) -> Result<Pair<'a>, Faul
         Elements::Chars(ys) => Ok(Pair::Characters(xs, ys)),
         Elements::Nums(ys) => {
             if xs.is_empty() {
-                Ok(Pair::Numbers(&[], ys))
+                Ok(Pair::Numbers(NumberSlice::I8(&[]), ys))
             } else if ys.is_empty() {
                 Ok(Pair::Characters(xs, &[]))
             } else {
@@ -66,26 +67,40 @@ pub(crate) fn paired<'a>(a: Elements<'a>, b: Elements<'a>) -> Result<Pair<'a>, F
     }
 }
 
-/// So many rows, with room for so many elements.
-pub(crate) fn ravel_joined(
+/// Rows of numbers, in the wider type of the two.
+fn numbers_joined(
     alloc: Global,
-    room: usize,
-    rows: usize,
-    pair: Pair<'_>,
-    x: Block,
-    y: Block,
-) -> Result<Ravel, AllocError>
-    requires { HasRows x y rows (both_of pair) }
-    ensures { IfOk result (λ r. items_of r ≡ rows_of x y rows (both_of pair.entry)) }
+    rows: Rows,
+    xs: NumberSlice<'_>,
+    ys: NumberSlice<'_>,
+) -> Result<NumberVec, AllocError>
+    requires xs { needed rows.x rows.count ≤ length (values xs) }
+    requires ys { needed rows.y rows.count ≤ length (values ys) }
+    ensures { IfOk result (λ v. kept_values v ≡ rows_of_lists rows.x rows.y rows.count (values xs.entry) (values ys.entry) (pos 0)) }
+{
+    match Both::new(alloc, xs, ys)? {
+        Both::I8(xs, ys) => {
+            let joined = rows.join(alloc, xs.as_slice(), ys.as_slice())?;
+            Ok(NumberVec::I8(joined))
+        }
+        Both::I32(xs, ys) => {
+            let joined = rows.join(alloc, xs.as_slice(), ys.as_slice())?;
+            Ok(NumberVec::I32(joined))
+        }
+        Both::I64(xs, ys) => {
+            let joined = rows.join(alloc, xs.as_slice(), ys.as_slice())?;
+            Ok(NumberVec::I64(joined))
+        }
+    }
+}
+
+/// Rows of elements.
+pub(crate) fn ravel_joined(alloc: Global, rows: Rows, pair: Pair<'_>) -> Result<Ravel, AllocError>
+    requires { HasRows rows.x rows.y rows.count (both_of pair) }
+    ensures { IfOk result (λ r. items_of r ≡ rows_of rows.x rows.y rows.count (both_of pair.entry)) }
 {
     match pair {
-        Pair::Numbers(xs, ys) => {
-            let joined = rows_joined(alloc, room, rows, xs, x, ys, y)?;
-            Ok(Ravel::Nums(joined))
-        }
-        Pair::Characters(xs, ys) => {
-            let joined = rows_joined(alloc, room, rows, xs, x, ys, y)?;
-            Ok(Ravel::Chars(joined))
-        }
+        Pair::Numbers(xs, ys) => Ok(Ravel::Nums(numbers_joined(alloc, rows, xs, ys)?)),
+        Pair::Characters(xs, ys) => Ok(Ravel::Chars(rows.join(alloc, xs, ys)?)),
     }
 }

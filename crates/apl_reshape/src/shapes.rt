@@ -5,20 +5,20 @@ ghost use Rattle.apl_arrays.specs.Index.{bound_of};
 ghost use Rattle.apl_reshape.specs.Reshape.{raveled, reshaped, shape_of};
 
 use crate::named::shape_named_by;
-use crate::rounds::ravel_round;
-use apl_arrays::{Array, MAX_ELEMENTS, Ravel, Stop, size};
+use crate::rounds::Round;
+use apl_arrays::{Array, MAX_ELEMENTS, NumberVec, Ravel, Stop, size};
 use std::alloc::{AllocError, Global};
 
 /// The length of an axis as a number.
-fn length_number(length: usize) -> i64
+fn length_number(length: usize) -> i32
     requires { length ≤ MAX_ELEMENTS }
     ensures { result ≡ pos length }
 {
-    length as i64
+    length as i32
 }
 
 /// The lengths of axes as numbers.
-fn length_numbers(alloc: Global, lengths: &[usize]) -> Result<Vec<i64>, AllocError>
+fn length_numbers(alloc: Global, lengths: &[usize]) -> Result<Vec<i32>, AllocError>
     requires { bound_of lengths.now ≤ MAX_ELEMENTS }
     ensures { IfOk result (λ v. v.items ≡ map pos lengths.now) }
 {
@@ -33,7 +33,7 @@ fn length_numbers(alloc: Global, lengths: &[usize]) -> Result<Vec<i64>, AllocErr
 pub fn shape(alloc: Global, b: &Array) -> Result<Array, Stop>
     ensures { Answers (λ r. r) (Ok (shape_of b.now)) result }
 {
-    let lengths = length_numbers(alloc, b.shape())?;
+    let lengths = NumberVec::I32(length_numbers(alloc, b.shape())?);
     Ok(Array::vector(alloc, Ravel::Nums(lengths))?)
 }
 
@@ -57,7 +57,9 @@ pub fn reshape(alloc: Global, a: &Array, b: &Array) -> Result<Array, Stop>
     ensures at_once { FaultsFirst (reshaped a.now b.now) result }
 {
     let lengths = shape_named_by(a)?;
-    let count = size(lengths.as_slice());
-    let round = ravel_round(alloc, b.items(), count)?;
-    Ok(Array::in_shape(alloc, lengths.as_slice(), round)?)
+    let round = Round {
+        count: size(lengths.as_slice()),
+    };
+    let ravel = b.items().made_by(alloc, round)?;
+    Ok(Array::in_shape(alloc, lengths.as_slice(), ravel)?)
 }

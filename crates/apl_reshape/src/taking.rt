@@ -3,19 +3,15 @@ ghost use Rattle.std.specs.Prelude.{◌≡◌, ◌<◌, ◌≤◌, ◌+◌, ◌+
 ghost use Rattle.std.specs.Prelude.{length, map, pos, slice_index_or, unsigned_abs};
 ghost use Rattle.std.specs.Int.{is_negative};
 ghost use Rattle.apl_arrays.specs.Answers.{Answers, FaultsFirst};
-ghost use Rattle.apl_arrays.specs.Cells.{cells_of};
 ghost use Rattle.apl_arrays.specs.Index.{bound_of, indices, size_of};
-ghost use Rattle.apl_arrays.specs.Left.{listed};
-ghost use Rattle.apl_arrays.specs.Ravels.{items_of};
 ghost use Rattle.apl_reshape.specs.inside.Asked.{has_enough};
-ghost use Rattle.apl_reshape.specs.Take.{line_taken, place_taken, taken, taken_by, taken_for, taken_from, widened};
+ghost use Rattle.apl_reshape.specs.Take.{line_taken, place_taken, taken, taken_by, taken_from, widened};
 
 use crate::lengths::{Asked, asked_of_each, axes_of, has_enough};
-use crate::named::{counts_named, magnitudes};
+use crate::named::{counts_named, few, magnitudes};
 use crate::parts::part_of;
 use crate::pieces::repeat;
-use apl_arrays::{Array, Elements, MAX_ELEMENTS, Ravel, Stop, size};
-use apl_charset::Ch;
+use apl_arrays::{Array, MAX_ELEMENTS, Stop, Structural, size};
 use std::alloc::{AllocError, Global};
 
 /// Whether the first count is from the end.
@@ -136,52 +132,28 @@ fn push_taken<T: Copy>(
     Ok(())
 }
 
-/// What is taken of items in a shape.
-fn items_taken<T: Copy>(
-    alloc: Global,
-    items: &[T],
-    fill: T,
-    shape: &[usize],
-    counts: &[i64],
-    lengths: &[usize],
-) -> Result<Vec<T>, AllocError>
-    requires axes { length shape.now ≡ length counts.now }
-    requires lengths { lengths.now ≡ map unsigned_abs counts.now }
-    requires room { size_of shape.now ≤ length items.now }
-    requires shape_small { bound_of shape.now ≤ MAX_ELEMENTS }
-    requires small { bound_of lengths.now ≤ MAX_ELEMENTS }
-    ensures { IfOk result (λ v. v.items ≡ map (taken_from shape.now counts.now items.now fill) (indices lengths.now)) }
-{
-    let mut out = Vec::with_capacity(alloc, size(lengths))?;
-    push_taken(&mut out, items, fill, shape, counts, lengths)?;
-    Ok(out)
+/// What is taken of items in a shape, where the lengths are the magnitudes of the counts.
+#[derive(Clone, Copy)]
+struct Taking<'s> {
+    shape: &'s [usize],
+    counts: &'s [i64],
+    lengths: &'s [usize],
 }
 
-/// What is taken of elements in a shape.
-fn ravel_taken(
-    alloc: Global,
-    items: Elements<'_>,
-    shape: &[usize],
-    counts: &[i64],
-    lengths: &[usize],
-) -> Result<Ravel, AllocError>
-    requires axes { length shape.now ≡ length counts.now }
-    requires lengths { lengths.now ≡ map unsigned_abs counts.now }
-    requires room { size_of shape.now ≤ length (cells_of (listed items)) }
-    requires shape_small { bound_of shape.now ≤ MAX_ELEMENTS }
-    requires small { bound_of lengths.now ≤ MAX_ELEMENTS }
-    ensures { IfOk result (λ r. items_of r ≡ taken_for shape.now counts.now (listed items.entry) (indices lengths.now)) }
-{
-    match items {
-        Elements::Nums(numbers) => {
-            let taken = items_taken(alloc, numbers, 0, shape, counts, lengths)?;
-            Ok(Ravel::Nums(taken))
-        }
-        Elements::Chars(characters) => {
-            let blank = Ch::ascii(b' ');
-            let taken = items_taken(alloc, characters, blank, shape, counts, lengths)?;
-            Ok(Ravel::Chars(taken))
-        }
+impl<'s> Structural for Taking<'s> {
+    ghost use Rattle.std.specs.Prelude.{map};
+    ghost use Rattle.apl_arrays.specs.Index.{indices};
+    ghost use Rattle.apl_reshape.specs.inside.Taking.{IsTaken};
+    ghost use Rattle.apl_reshape.specs.Take.{taken_from};
+
+    ghost takes = { IsTaken };
+
+    ghost makes = { λ A t d fill xs. map (taken_from t.shape.now t.counts.now xs fill) (indices t.lengths.now) };
+
+    fn make<T: Copy>(self, alloc: Global, items: &[T], fill: T) -> Result<Vec<T>, AllocError> {
+        let mut out = Vec::with_capacity(alloc, size(self.lengths))?;
+        push_taken(&mut out, items, fill, self.shape, self.counts, self.lengths)?;
+        Ok(out)
     }
 }
 
@@ -211,13 +183,19 @@ pub fn take_items(alloc: Global, a: &Array, b: &Array) -> Result<Array, Stop>
     ensures at_once { FaultsFirst (taken a.now b.now) result }
 {
     let own = b.shape();
-    let counts = counts_named(a, own)?;
+    let numbers = few(counts_named(a, own)?)?;
+    let counts = numbers.as_slice();
     let lengths = magnitudes(counts)?;
     let wanted = lengths.as_slice();
     if has_enough(own, wanted) {
         return Ok(part_taken(alloc, b, counts, wanted)?);
     }
     let shape = axes_of(counts.len(), own);
-    let ravel = ravel_taken(alloc, b.items(), shape.as_slice(), counts, wanted)?;
+    let taking = Taking {
+        shape: shape.as_slice(),
+        counts,
+        lengths: wanted,
+    };
+    let ravel = b.items().made_by(alloc, taking)?;
     Ok(Array::in_shape(alloc, wanted, ravel)?)
 }

@@ -1,36 +1,20 @@
 // Scalars and vectors joined in a vector.
-ghost use Rattle.std.specs.Prelude.{◌≡◌, ◌++◌, IfOk};
+ghost use Rattle.std.specs.Prelude.{◌≡◌, false};
 ghost use Rattle.apl_arrays.specs.Answers.{Answers, FaultsFirst};
-ghost use Rattle.apl_arrays.specs.Ravels.{items_of};
-ghost use Rattle.apl_reshape.specs.inside.Rows.{both_of};
-ghost use Rattle.apl_reshape.specs.inside.Vectors.{appended, joined_vectors};
+ghost use Rattle.apl_reshape.specs.inside.Vectors.{joined_vectors};
 
-use crate::pairs::{Pair, paired};
-use apl_arrays::{Array, Ravel, Stop, within_limits};
-use std::alloc::{AllocError, Global};
+use crate::blocks::{Block, Rows};
+use crate::pairs::{paired, ravel_joined};
+use apl_arrays::{Array, Stop, within_limits};
+use std::alloc::Global;
 
-/// The items of two slices, one after another, with room for so many.
-fn items_appended<T: Copy>(
-    alloc: Global,
-    room: usize,
-    xs: &[T],
-    ys: &[T],
-) -> Result<Vec<T>, AllocError>
-    ensures { IfOk result (λ v. v.items ≡ xs.now ++ ys.now) }
+/// The block of all elements, so many.
+fn all_in_a_row(len: usize) -> Block
+    ensures { result ≡ record { is_scalar = false; len = len } }
 {
-    let mut items = Vec::with_capacity(alloc, room)?;
-    items.extend_from_slice(xs)?;
-    items.extend_from_slice(ys)?;
-    Ok(items)
-}
-
-/// The elements of two operands, one after another, with room for so many.
-fn ravel_appended(alloc: Global, room: usize, pair: Pair<'_>) -> Result<Ravel, AllocError>
-    ensures { IfOk result (λ r. items_of r ≡ appended (both_of pair.entry)) }
-{
-    match pair {
-        Pair::Numbers(xs, ys) => Ok(Ravel::Nums(items_appended(alloc, room, xs, ys)?)),
-        Pair::Characters(xs, ys) => Ok(Ravel::Chars(items_appended(alloc, room, xs, ys)?)),
+    Block {
+        is_scalar: false,
+        len,
     }
 }
 
@@ -46,6 +30,12 @@ pub(crate) fn join_vectors(alloc: Global, a: &Array, b: &Array) -> Result<Array,
     let pair = paired(first, second)?;
     let shape = [first.len() + second.len()];
     within_limits(&shape)?;
-    let ravel = ravel_appended(alloc, shape[0], pair)?;
+    let row = Rows {
+        room: shape[0],
+        count: 1,
+        x: all_in_a_row(first.len()),
+        y: all_in_a_row(second.len()),
+    };
+    let ravel = ravel_joined(alloc, row, pair)?;
     Ok(Array::in_shape(alloc, &shape, ravel)?)
 }

@@ -1,7 +1,7 @@
 //! The words of a row.
 
 use crate::page::Page;
-use apl_arrays::{Array, Ravel, is_in_bounds, size};
+use apl_arrays::{Array, NumberVec, Ravel, is_in_bounds, size};
 use apl_charset::{Ch, Text};
 use apl_symbols::{Class, Name};
 use std::alloc::Global;
@@ -173,11 +173,25 @@ impl Page {
         }
     }
 
+    /// Numbers in the narrowest type that holds them.
+    fn squeezed(&mut self, numbers: Vec<i64>) -> Ravel {
+        match NumberVec::squeezed(self.alloc, numbers) {
+            Ok(kept) => Ravel::Nums(kept),
+            Err(error) => {
+                self.note(Err(error));
+                Ravel::wide(Vec::new(self.alloc))
+            }
+        }
+    }
+
     /// The elements behind a shape: characters behind a quote, or numbers.
     fn ravel(&mut self, text: &str) -> Ravel {
         match text.strip_prefix('\'') {
             Some(text) => Ravel::Chars(self.characters(text)),
-            None => Ravel::Nums(self.numbers_of(text)),
+            None => {
+                let numbers = self.numbers_of(text);
+                self.squeezed(numbers)
+            }
         }
     }
 

@@ -1,7 +1,7 @@
 //! Arrays, operands, classes and lines of output, as they are written.
 
 use crate::page::{Page, Shown};
-use apl_arrays::{Array, Cell, Elements};
+use apl_arrays::{Array, Cell, Elements, NumberSlice};
 use apl_machine::{LineKind, Operand, OutLine, Slots};
 use apl_symbols::Class;
 
@@ -47,7 +47,9 @@ fn write_array(page: &mut Page, array: &Array) {
     page.numbers(array.shape());
     page.mark(':');
     match array.items() {
-        Elements::Nums(numbers) => page.numbers(numbers),
+        Elements::Nums(NumberSlice::I8(numbers)) => page.numbers(numbers),
+        Elements::Nums(NumberSlice::I32(numbers)) => page.numbers(numbers),
+        Elements::Nums(NumberSlice::I64(numbers)) => page.numbers(numbers),
         Elements::Chars(text) => {
             page.mark('\'');
             page.spell(text);

@@ -16,7 +16,7 @@ fn elements_field(alloc: Global, items: Elements<'_>) -> Result<Field, AllocErro
 {
     match items {
         Elements::Nums(numbers) => {
-            let numbers = Vec::from_slice(alloc, numbers)?;
+            let numbers = numbers.to_wide(alloc)?;
             Ok(Field::Numbers(ListField::new(numbers)))
         }
         Elements::Chars(characters) => {

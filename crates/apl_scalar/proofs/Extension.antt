@@ -19,10 +19,8 @@ use Rattle.apl_arrays.proofs.Order.{by_places, all_within, all_ok-fault}
 use Rattle.apl_arrays.proofs.Places.{both, position_in-lt}
 use Rattle.apl_scalar.specs.declared.function.Monadic.{Monadic}
 use Rattle.apl_scalar.specs.declared.function.Dyadic.{Dyadic}
-use Rattle.apl_scalar.specs.declared.operand.Operand.{Operand}
-use Rattle.apl_scalar.specs.declared.operand.Operand.TheVariants.{One, Many}
 use Rattle.apl_scalar.specs.Functions.{monadic_of, dyadic_of}
-use Rattle.apl_scalar.specs.Operands.{number_at, character_at, Shows, AreCharacters}
+use Rattle.apl_scalar.specs.Operands.{Shown, Same, Each, number_at, character_at, Shows, AreCharacters}
 use Rattle.apl_arrays.specs.Checks.{is_single, same}
 use Rattle.apl_scalar.specs.Extension.{extended, operand_at, monadic_at, compared, dyadic_at, numbers_in, dyadic}
 
@@ -40,32 +38,32 @@ many_cells : (items : Items) (zs : List ℤ) (n : ℕ) → length (cells_of item
 many_cells items zs n full e = sym (length-map zs Num) ∙ (sym (ap (λ (t : Items). length (cells_of t)) e) ∙ full)
 
 -- an operand's number for the place of each index list of the result
-pub shown : (a : Arr) (s i : List ℕ) (x : Operand) → length (cells_of a.items) ≡ size_of a.shape → (is_single a.shape ≡ false → a.shape ≡ s) → Shows x a.items → is_within s i ≡ true →
+shown_there : (a : Arr) (s i : List ℕ) (x : Shown) → length (cells_of a.items) ≡ size_of a.shape → (is_single a.shape ≡ false → a.shape ≡ s) → Shows x a.items → is_within s i ≡ true →
     operand_at a i ≡ Some (Num (number_at x (position_in s i)))
-shown a s i (One z) full fits e w =
+shown_there a s i (Same z) full fits e w =
     ap (λ (b : Bool). cond b (slice_get (cells_of a.items) 0) (cell_at a i)) (eq-eqb (size_of a.shape) 1 (sym full ∙ ap (λ (t : Items). length (cells_of t)) e))
     ∙ ap (λ (t : Items). slice_get (cells_of t) 0) e
-shown a s i (Many zs) full fits e w =
-    let size : length zs.now ≡ size_of a.shape = many_cells a.items zs.now (size_of a.shape) full e.0 in
+shown_there a s i (Each zs) full fits e w =
+    let size : length zs ≡ size_of a.shape = many_cells a.items zs (size_of a.shape) full e.0 in
     let many : is_single a.shape ≡ false = not_one (size_of a.shape) (λ h. e.1 (size ∙ h)) in
-    let same : length zs.now ≡ size_of s = size ∙ ap size_of (fits many) in
+    let same : length zs ≡ size_of s = size ∙ ap size_of (fits many) in
     ap (λ (b : Bool). cond b (slice_get (cells_of a.items) 0) (cell_at a i)) many
     ∙ ap (λ (t : List ℕ). cond (is_within t i) (slice_get (cells_of a.items) (position_in t i)) None) (fits many)
     ∙ ap (λ (b : Bool). cond b (slice_get (cells_of a.items) (position_in s i)) None) w
     ∙ ap (λ (t : Items). slice_get (cells_of t) (position_in s i)) e.0
-    ∙ num_at zs.now (position_in s i) (omega (arith, position_in-lt s i w))
+    ∙ num_at zs (position_in s i) (omega (arith, position_in-lt s i w))
 
-pub shows_along : (x : Operand) (t : Items) (zs : List ℤ) → t ≡ Numbers zs → Shows x (Numbers zs) → Shows x t
+pub shows_along : (x : Shown) (t : Items) (zs : List ℤ) → t ≡ Numbers zs → Shows x (Numbers zs) → Shows x t
 shows_along x t zs e h = let P : Items → Type 0 = λ t. Shows x t in subst P (sym e) h
 
 -- two operands of numbers
-pub by_operands : (f : Dyadic) (a b : Arr) (s : List ℕ) (x y : Operand) → length (cells_of a.items) ≡ size_of a.shape → length (cells_of b.items) ≡ size_of b.shape →
+pub by_operands : (f : Dyadic) (a b : Arr) (s : List ℕ) (x y : Shown) → length (cells_of a.items) ≡ size_of a.shape → length (cells_of b.items) ≡ size_of b.shape →
     (is_single a.shape ≡ false → a.shape ≡ s) → (is_single b.shape ≡ false → b.shape ≡ s) → Shows x a.items → Shows y b.items →
     all_ok (λ i. dyadic_at f (operand_at a i) (operand_at b i)) (indices s) ≡ all_ok (λ k. dyadic_of f (number_at x k) (number_at y k)) (range_with_len 0 (size_of s))
 by_operands f a b s x y full_a full_b fits_a fits_b shows_a shows_b =
     all_ok-same (λ i. is_within s i ≡ true) (λ i. dyadic_at f (operand_at a i) (operand_at b i)) (λ i. dyadic_of f (number_at x (position_in s i)) (number_at y (position_in s i)))
-    (λ i w. ap (λ (o : Option Cell). dyadic_at f o (operand_at b i)) (shown a s i x full_a fits_a shows_a w)
-    ∙ ap (dyadic_at f (Some (Num (number_at x (position_in s i))))) (shown b s i y full_b fits_b shows_b w))
+    (λ i w. ap (λ (o : Option Cell). dyadic_at f o (operand_at b i)) (shown_there a s i x full_a fits_a shows_a w)
+    ∙ ap (dyadic_at f (Some (Num (number_at x (position_in s i))))) (shown_there b s i y full_b fits_b shows_b w))
     (indices s) (all_within s)
     ∙ by_places s (λ k. dyadic_of f (number_at x k) (number_at y k))
 

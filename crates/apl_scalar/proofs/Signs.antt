@@ -1,17 +1,17 @@
 -- The sign bits of a sum.
-use Rattle.std.proofs.Common.{◌⊎◌, inl, inr, Bool, ◌<ℤ◌, ◌≡◌, ℕ, ℤ, pos, negsuc, ◌+ℤ◌, ◌-ℤ◌, ◌+◌, ◌-◌, ◌*◌, ◌%◌, ◌^◌, ◌<◌, ◌≤◌, ◌≤ℤ◌, min, max, arith, refl, ap, sym, ◌∙◌, true, false, to_z, of_z, FitsSigned}
-use Rattle.std.specs.Prelude.{bit_and, bit_xor, bit_or}
+use Rattle.std.proofs.Common.{Bool, ◌<ℤ◌, ◌≡◌, ℕ, ℤ, pos, negsuc, ◌+ℤ◌, ◌-ℤ◌, ◌+◌, ◌-◌, ◌*◌, ◌%◌, ◌^◌, ◌<◌, ◌≤◌, ◌≤ℤ◌, min, arith, refl, ap, sym, ◌∙◌, true, false, to_z, of_z, FitsSigned}
+use Rattle.std.specs.Prelude.{bit_and, bit_xor}
 use Rattle.std.specs.Int.{bit_at, w64, int_wrap}
 use Rattle.std.specs.Int.Signed.{lt_z}
 use Rattle.std.proofs.lemmas.Int.{ints, to_z-of_z, int_wrap_fits}
 use Rattle.std.specs.Bool.{FalseIff}
 use mir.Val.{bool_byte}
-use Rattle.std.proofs.lemmas.Nat.{xor_lt, or_lt, and_le_l}
+use Rattle.std.proofs.lemmas.Nat.{xor_lt, and_le_l}
 use Rattle.std.proofs.lemmas.Bool.{lt-ltb, le-ltb}
 use Rattle.std.specs.Prelude.{cond, Ok, Err}
 use Rattle.apl_faults.specs.declared.fault.Fault.TheVariants.{Limit}
 use Rattle.apl_scalar.specs.Functions.{in_range}
-use Rattle.std.proofs.lemmas.Nat.Bits.{bit_at_and, bit_at_xor, bit_at_or, bit_at-lt}
+use Rattle.std.proofs.lemmas.Nat.Bits.{bit_at_and, bit_at_xor, bit_at-lt}
 
 -- the top bit of the test
 top_bit : (a b s t : ℕ) → bit_at (bit_and (bit_xor a s) (bit_xor b t)) 63 ≡ min ((bit_at a 63 + bit_at s 63) % 2) ((bit_at b 63 + bit_at t 63) % 2)
@@ -122,29 +122,6 @@ rest_fits x y hx hy e = rest_by_flags x y hx hy (top_of_other (rest_flags (of_z 
 
 pub rest_beyond : (x y : ℤ) → FitsSigned w64 x → FitsSigned w64 y → lt_z (to_z w64 (rest_flags (of_z w64 x) (of_z w64 y))) (pos 0) ≡ true → FitsSigned w64 (x -ℤ y) → ⊥
 rest_beyond x y hx hy e = no_rest_by_flags x y hx hy (top_of_negative (rest_flags (of_z w64 x) (of_z w64 y)) (flags_lt (of_z w64 x) (of_z w64 x) (of_z w64 y) (rest_of (of_z w64 x) (of_z w64 y)) (bits_lt x hx) (bits_lt y hy)) e)
-
--- the top bit of an `or`
-or_arith : (a b f a' b' f' : ℕ) → IsTop a a' → IsTop b b' → IsTop f f' → f' ≡ max a' b' → f < 2 ^ 63 → (a < 2 ^ 63) × (b < 2 ^ 63)
-or_arith a b f a' b' f' ha hb hf e h = (omega arith, omega arith)
-
-nat_or : (a b : ℕ) → a < 2 ^ 64 → b < 2 ^ 64 → bit_or a b < 2 ^ 63 → (a < 2 ^ 63) × (b < 2 ^ 63)
-nat_or a b ha hb h = or_arith a b (bit_or a b) _ _ _ (is_top a ha) (is_top b hb) (is_top (bit_or a b) (or_lt 64 a b ha hb)) (bit_at_or a b 63) h
-
-pub neither : (x y : ℤ) → FitsSigned w64 x → FitsSigned w64 y → pos 0 ≤ℤ to_z w64 (bit_or (of_z w64 x) (of_z w64 y)) → (pos 0 ≤ℤ x) × (pos 0 ≤ℤ y)
-neither x y hx hy h =
-    let o : bit_or (of_z w64 x) (of_z w64 y) < 2 ^ 64 = or_lt 64 (of_z w64 x) (of_z w64 y) (bits_lt x hx) (bits_lt y hy) in
-    let l : bit_or (of_z w64 x) (of_z w64 y) < 2 ^ 63 = grind (arith, ints) in
-    let n : (of_z w64 x < 2 ^ 63) × (of_z w64 y < 2 ^ 63) = nat_or (of_z w64 x) (of_z w64 y) (bits_lt x hx) (bits_lt y hy) l in
-    (grind (arith, ints), grind (arith, ints))
-
-pub one_negative : (x y : ℤ) → FitsSigned w64 x → FitsSigned w64 y → to_z w64 (bit_or (of_z w64 x) (of_z w64 y)) <ℤ pos 0 → (x <ℤ pos 0) ⊎ (y <ℤ pos 0)
-one_negative (negsuc m) y hx hy h = inl (omega (arith, ints))
-one_negative (pos m) (negsuc n) hx hy h = inr (omega (arith, ints))
-one_negative (pos m) (pos n) hx hy h =
-    let a : of_z w64 (pos m) < 2 ^ 63 = omega (arith, ints) in
-    let b : of_z w64 (pos n) < 2 ^ 63 = omega (arith, ints) in
-    let o : bit_or (of_z w64 (pos m)) (of_z w64 (pos n)) < 2 ^ 63 = or_lt 63 (of_z w64 (pos m)) (of_z w64 (pos n)) a b in
-    absurd (grind (arith, ints))
 
 not_negative : (n : ℕ) → n < 2 ^ 64 → pos 0 ≤ℤ to_z w64 n → n < 2 ^ 63
 not_negative n h g = grind (arith, ints)

@@ -1,6 +1,6 @@
 -- Truth values by their bits.
-use Rattle.std.proofs.Common.{◌≡◌, ℕ, zero, suc, ℤ, pos, negsuc, ◌-ℤ◌, ◌≤ℤ◌, ◌/◌, ◌^◌, ◌<◌, Bool, true, false, Ok, Err, FitsSigned, to_z, of_z, refl, ap, sym, ◌∙◌, arith}
-use Rattle.std.specs.Prelude.{bit_or}
+use Rattle.std.proofs.Common.{◌≡◌, ◌⊎◌, inl, inr, ℕ, zero, suc, ℤ, pos, negsuc, ◌+◌, ◌-ℤ◌, ◌≤ℤ◌, ◌/◌, ◌^◌, ◌<◌, Bool, true, false, Ok, Err, FitsSigned, to_z, of_z, refl, ap, sym, ◌∙◌, arith}
+use Rattle.std.specs.Prelude.{bit_or, IsErr}
 use Rattle.std.specs.Int.{w64}
 use Rattle.std.proofs.lemmas.Nat.{le_or_l, le_or_r}
 use Rattle.std.proofs.lemmas.Int.{ints}
@@ -57,3 +57,28 @@ logical_value f x y r s t h =
     plain false true = refl
     plain true false = refl
     plain true true = refl
+
+-- a number is a truth value or not
+is_truth : (x : ℤ) → IsTruth x ⊎ (IsTruth x → ⊥)
+is_truth (pos zero) = inl (false, refl)
+is_truth (pos (suc zero)) = inl (true, refl)
+is_truth (pos (suc (suc n))) = inr (λ t. other t.0 t.1)
+  where
+    other : (p : Bool) → pos (suc (suc n)) ≡ number_of p → ⊥
+    other false e = absurd (cc)
+    other true e = absurd (cc)
+is_truth (negsuc n) = inr (λ t. other t.0 t.1)
+  where
+    other : (p : Bool) → negsuc n ≡ number_of p → ⊥
+    other false e = absurd (cc)
+    other true e = absurd (cc)
+
+-- where the numbers at the places so far and those at the next one are not all truth values, there is no value at one of the places
+pub no_truths_at : (f : Bool → Bool → Bool) (x y : ℕ → ℤ) (i : ℕ) (all here next : ℤ) → (IsTruth next → ⊥) →
+    (IsTruth all → IsTruth here → IsTruth next) → (IsTruth (x i) → IsTruth (y i) → IsTruth here) →
+    ((IsTruth all → ⊥) → (k : ℕ) × (k < i) × IsErr (logical f (x k) (y k))) → (k : ℕ) × (k < i + 1) × IsErr (logical f (x k) (y k))
+no_truths_at f x y i all here next h both gathered before = cases (is_truth all)
+  where
+    cases : IsTruth all ⊎ (IsTruth all → ⊥) → (k : ℕ) × (k < i + 1) × IsErr (logical f (x k) (y k))
+    cases (inl t) = (i, omega arith, rw (no_truths f (x i) (y i) (λ p q. h (both t (gathered p q)))) refl)
+    cases (inr n) = let w = before n in (w.0, omega (arith, w.1), w.2)

@@ -1,4 +1,5 @@
 pub mod Functions
 pub mod Operands
+pub mod Lanes
 pub mod Extension
 pub mod inside

@@ -1,45 +1,55 @@
 -- The elements of an operand by the places of the result.
-use Rattle.std.specs.Prelude.{◌≡◌, ◌≢◌, ◌≤◌, ◌<◌, ℕ, ℤ, pos, Bool, cond, nat_eq, List, [], ◌∷◌, length, slice_index_or, SomeIndex, Result, Ok, IsErr}
+use Rattle.std.specs.Prelude.{◌≡◌, ◌≢◌, ◌≤◌, ◌<◌, ℕ, ℤ, pos, Bool, cond, nat_eq, List, [], ◌∷◌, length, slice_index_or, Result, Ok, IsErr}
 use Rattle.std.specs.List.{range_with_len}
 use Rattle.apl_faults.specs.declared.fault.Fault.{Fault}
 use Rattle.apl_arrays.specs.Cells.{Items, Numbers, Characters}
+use Rattle.apl_arrays.specs.Numbers.{values}
 use Rattle.apl_arrays.specs.Results.{all_ok}
 use Rattle.apl_scalar.specs.declared.characters.Verdicts.{Verdicts}
 use Rattle.apl_scalar.specs.declared.operand.Operand.{Operand}
 use Rattle.apl_scalar.specs.declared.operand.Operand.TheVariants.{One, Many}
 use Rattle.apl_scalar.specs.Functions.{number_of}
 
+-- one number for each place of the result, or one that serves at all of them
+pub data Shown : Type 0 where
+  Same : ℤ → Shown
+  Each : List ℤ → Shown
+
+-- the numbers of an operand, whatever type stores them
+abbrev pub shown : Operand → Shown
+shown (One x) = Same x
+shown (Many xs) = Each (values xs)
+
 -- the number for a place
-abbrev pub number_at : Operand → ℕ → ℤ
-number_at (One x) k = x
-number_at (Many xs) k = slice_index_or xs.now k (pos 0)
+abbrev pub number_at : Shown → ℕ → ℤ
+number_at (Same x) k = x
+number_at (Each xs) k = slice_index_or xs k (pos 0)
 
--- the value for each of so many places from one on, or the first fault
-abbrev pub values_from : (ℤ → ℤ → Result ℤ Fault) → Operand → Operand → ℕ → ℕ → Result (List ℤ) Fault
-values_from f a b from count = all_ok (λ k. f (number_at a k) (number_at b k)) (range_with_len from count)
+-- the value of those for each place below n, or the first fault
+abbrev pub values_of : (ℤ → ℤ → Result ℤ Fault) → (ℕ → ℤ) → (ℕ → ℤ) → ℕ → Result (List ℤ) Fault
+values_of f x y n = all_ok (λ k. f (x k) (y k)) (range_with_len 0 n)
 
--- each number is the value for those at its place
-abbrev pub AreValues : (ℤ → ℤ → Result ℤ Fault) → List ℤ → List ℤ → List ℤ → Type 0
-AreValues f xs ys zs =
-    (k : ℕ) → k < length zs → f (slice_index_or xs k (pos 0)) (slice_index_or ys k (pos 0)) ≡ Ok (slice_index_or zs k (pos 0))
+-- each number is the value of those for its place
+abbrev pub AreValues : (ℤ → ℤ → Result ℤ Fault) → (ℕ → ℤ) → (ℕ → ℤ) → List ℤ → Type 0
+AreValues f x y zs = (k : ℕ) → k < length zs → f (x k) (y k) ≡ Ok (slice_index_or zs k (pos 0))
 
--- there is a place at which the numbers have no value
-abbrev pub SomeHasNone : (ℤ → ℤ → Result ℤ Fault) → List ℤ → List ℤ → Type 0
-SomeHasNone f xs ys = SomeIndex xs (λ k. IsErr (f (slice_index_or xs k (pos 0)) (slice_index_or ys k (pos 0))))
+-- there is a place below n of which this holds
+abbrev pub SomeHas : ℕ → (ℕ → Type 0) → Type 0
+SomeHas n P = (k : ℕ) × (k < n) × P k
 
--- each number is this one
-abbrev pub IsEach : ℤ → List ℤ → Type 0
-IsEach x zs = (k : ℕ) → k < length zs → slice_index_or zs k (pos 0) ≡ x
+-- there is a place below n at which the numbers have no value
+abbrev pub SomeHasNone : (ℤ → ℤ → Result ℤ Fault) → (ℕ → ℤ) → (ℕ → ℤ) → ℕ → Type 0
+SomeHasNone f x y n = SomeHas n (λ k. IsErr (f (x k) (y k)))
 
 -- there is a number for each place below n
-abbrev pub Covers : Operand → ℕ → Type 0
-Covers (One x) n = Unit {0}
-Covers (Many xs) n = n ≤ length xs.now
+abbrev pub Covers : Shown → ℕ → Type 0
+Covers (Same x) n = Unit {0}
+Covers (Each xs) n = n ≤ length xs
 
--- the operand stands for an array's elements, of which a single one serves at each place
-abbrev pub Shows : Operand → Items → Type 0
-Shows (One x) items = items ≡ Numbers (x ∷ [])
-Shows (Many xs) items = (items ≡ Numbers xs.now) × (length xs.now ≢ 1)
+-- they stand for an array's elements, of which a single one serves at each place
+abbrev pub Shows : Shown → Items → Type 0
+Shows (Same x) items = items ≡ Numbers (x ∷ [])
+Shows (Each xs) items = (items ≡ Numbers xs) × (length xs ≢ 1)
 
 -- the character for a place, of which a single one serves at each
 abbrev pub character_at : List ℕ → ℕ → ℕ

@@ -5,42 +5,22 @@ ghost use Rattle.apl_arrays.specs.Answers.{Answers, FaultsFirst, HadMemory};
 ghost use Rattle.apl_arrays.specs.declared.cell.Cell.TheVariants.{Num};
 ghost use Rattle.apl_arrays.specs.Cells.{cell_at, Numbers};
 ghost use Rattle.apl_arrays.specs.Index.{indices};
+ghost use Rattle.apl_arrays.specs.Numbers.{kept_values, values};
 ghost use Rattle.apl_arrays.specs.Results.{all_ok, ok_map};
 ghost use Rattle.apl_arrays.specs.Simple.{number_of_scalar, single};
 ghost use Rattle.apl_scalar.specs.Functions.{monadic_of, dyadic_of};
 ghost use Rattle.apl_arrays.specs.Checks.{is_single};
 ghost use Rattle.apl_scalar.specs.Extension.{extended, monadic_at, values_in, numbers_in, monadic, dyadic, HasNoNumber};
-ghost use Rattle.apl_scalar.specs.Operands.{Covers, Shows, values_from};
+ghost use Rattle.apl_scalar.specs.Operands.{number_at, shown, values_of, Covers, Shows};
 
-use crate::blocks::apply_all;
 use crate::characters::{dyadic_characters, mixed};
 use crate::dispatch::ByFunction;
 use crate::function::{Dyadic, Monadic, Scalar};
 use crate::operand::Operand;
-use apl_arrays::{Array, Elements, Ravel, Stop};
+use crate::values::Places;
+use apl_arrays::{Array, Elements, NumberSlice, NumberVec, Ravel, Stop};
 use apl_faults::Fault;
 use std::alloc::Global;
-
-/// The places below a count, each with a number of either operand, at which a function is applied.
-#[derive(Clone, Copy)]
-struct Places<'a> {
-    alloc: Global,
-    a: Operand<'a>,
-    b: Operand<'a>,
-    count: usize,
-}
-
-impl<'a> ByFunction for Places<'a> {
-    type Output = Result<Vec<i64>, Stop>;
-
-    ghost can = { λ s f. Covers s.a s.count × Covers s.b s.count };
-
-    ghost gives = { λ s f result. Answers (λ v. v.items) (values_from f s.a s.b 0 s.count) result };
-
-    fn with<F: Scalar>(self) -> Result<Vec<i64>, Stop> {
-        apply_all::<F>(self.alloc, self.a, self.b, self.count)
-    }
-}
 
 /// Two numbers, to which a function is applied.
 #[derive(Clone, Copy)]
@@ -92,28 +72,16 @@ fn monadic_number(function: Monadic, y: i64) -> Result<i64, Fault>
     function.apply(Pair { x: 0, y })
 }
 
-/// The values of a function of one argument.
-fn monadic_numbers(alloc: Global, function: Monadic, b: &[i64]) -> Result<Vec<i64>, Stop>
-    ensures { Answers (λ v. v.items) (all_ok (λ k. monadic_of function (slice_index_or b.now k (pos 0))) (range_with_len 0 (length b.now))) result }
-{
-    function.apply(Places {
-        alloc,
-        a: Operand::One(0),
-        b: Operand::Many(b),
-        count: b.len(),
-    })
-}
-
 /// The values of a function of one array in ravel order.
-fn monadic_values(alloc: Global, function: Monadic, b: &Array) -> Result<Vec<i64>, Stop>
-    ensures { Answers (λ v. v.items) (all_ok (λ i. monadic_at function (cell_at b.now i)) (indices b.now.shape)) result }
+fn monadic_values(alloc: Global, function: Monadic, b: &Array) -> Result<NumberVec, Stop>
+    ensures { Answers kept_values (all_ok (λ i. monadic_at function (cell_at b.now i)) (indices b.now.shape)) result }
 {
     let items = b.items();
     match items {
-        Elements::Nums(numbers) => monadic_numbers(alloc, function, numbers),
+        Elements::Nums(numbers) => function.of_numbers(alloc, numbers),
         Elements::Chars(_) => {
             if items.is_empty() {
-                Ok(Vec::new(alloc))
+                Ok(NumberVec::I8(Vec::new(alloc)))
             } else {
                 Err(Stop::Fault(Fault::Domain))
             }
@@ -128,21 +96,22 @@ fn dyadic_numbers(
     a: Operand,
     b: Operand,
     count: usize,
-) -> Result<Vec<i64>, Stop>
-    requires a { Covers a count }
-    requires b { Covers b count }
-    ensures { Answers (λ v. v.items) (values_from (dyadic_of function) a.entry b.entry 0 count) result }
+) -> Result<NumberVec, Stop>
+    requires a { Covers (shown a) count }
+    requires b { Covers (shown b) count }
+    ensures { Answers kept_values (values_of (dyadic_of function) (number_at (shown a.entry)) (number_at (shown b.entry)) count) result }
 {
-    function.apply(Places { alloc, a, b, count })
+    function.at_places(&Places { alloc, a, b, count })
 }
 
 /// The numbers of an operand, of which a single one serves at each place.
-fn operand_of(numbers: &[i64]) -> Operand<'_>
-    ensures { Shows result (Numbers numbers.now) }
+#[inline]
+fn operand_of(numbers: NumberSlice<'_>) -> Operand<'_>
+    ensures { Shows (shown result) (Numbers (values numbers.entry)) }
 {
-    match numbers {
-        [number] => Operand::One(*number),
-        numbers => Operand::Many(numbers),
+    match numbers.only() {
+        Some(number) => Operand::One(number),
+        None => Operand::Many(numbers),
     }
 }
 
@@ -172,15 +141,15 @@ fn dyadic_values(
     like: &Array,
     a: &Array,
     b: &Array,
-) -> Result<Vec<i64>, Stop>
+) -> Result<NumberVec, Stop>
     requires a_fits { is_single a.now.shape ≡ false → a.now.shape ≡ like.now.shape }
     requires b_fits { is_single b.now.shape ≡ false → b.now.shape ≡ like.now.shape }
     requires both { is_single a.now.shape ≡ true → is_single b.now.shape ≡ true → is_single like.now.shape ≡ true }
-    ensures { Answers (λ v. v.items) (values_in function a.now b.now like.now.shape) result }
+    ensures { Answers kept_values (values_in function a.now b.now like.now.shape) result }
 {
     let count = like.items().len();
     if count == 0 {
-        return Ok(Vec::new(alloc));
+        return Ok(NumberVec::I8(Vec::new(alloc)));
     }
     match a.items() {
         Elements::Nums(x) => match b.items() {

@@ -1,11 +1,16 @@
 // Sums, products and the like.
+ghost use Rattle.std.specs.Prelude.{◌≡◌, Ok};
 ghost use Rattle.apl_scalar.specs.declared.function.Monadic.TheVariants as one;
 ghost use Rattle.apl_scalar.specs.declared.function.Dyadic.TheVariants as two;
 ghost use Rattle.apl_scalar.specs.Functions.{monadic_of, dyadic_of};
 
+use crate::computed::Computed;
 use crate::function::Scalar;
+use crate::in_lanes::InLanes;
+use crate::line::Line;
+use crate::narrow::Narrow;
 use crate::overflow::{flagged_difference, flagged_product, flagged_sum};
-use crate::products::{begins_low, fill_low};
+use apl_arrays::Lane;
 use apl_faults::Fault;
 
 /// The number itself, also rounded up or down.
@@ -27,17 +32,24 @@ impl Scalar for Negation {
 
     #[inline(always)]
     fn apply(_x: i64, y: i64) -> Result<i64, Fault> {
-        let (value, flag) = flagged_difference(0, y);
-        if flag < 0 {
-            Err(Fault::Limit)
-        } else {
-            Ok(value)
-        }
+        Difference::apply(0, y)
     }
 
     #[inline(always)]
     fn tried(_x: i64, y: i64) -> (i64, i64) {
         flagged_difference(0, y)
+    }
+}
+
+impl InLanes for Negation {
+    #[inline(always)]
+    fn flagged<L: Computed>(_x: L, y: L) -> (L, L) {
+        L::flagged_difference(L::of(0), y)
+    }
+
+    #[inline(always)]
+    fn widened<L: Narrow>(_x: L, y: L) -> L::Wider {
+        L::wide_difference(L::of(0), y)
     }
 }
 
@@ -52,6 +64,33 @@ impl Scalar for Sign {
     }
 }
 
+/// The sign of a number.
+#[inline(always)]
+fn sign_of<L: Lane>(y: L) -> i8
+    ensures { monadic_of one.Times (L.value y) ≡ Ok result }
+{
+    let y = y.wide();
+    if 0 < y {
+        1
+    } else if y < 0 {
+        -1
+    } else {
+        0
+    }
+}
+
+impl InLanes for Sign {
+    #[inline(always)]
+    fn flagged<L: Computed>(_x: L, y: L) -> (L, L) {
+        (L::of(sign_of(y)), L::of(0))
+    }
+
+    #[inline(always)]
+    fn widened<L: Narrow>(_x: L, y: L) -> L::Wider {
+        L::of(sign_of(y)).widen()
+    }
+}
+
 pub(crate) struct Magnitude;
 
 impl Scalar for Magnitude {
@@ -63,6 +102,23 @@ impl Scalar for Magnitude {
             Some(value) => Ok(value),
             None => Err(Fault::Limit),
         }
+    }
+}
+
+impl InLanes for Magnitude {
+    #[inline(always)]
+    fn flagged<L: Computed>(_x: L, y: L) -> (L, L) {
+        // What is read fits its lane.
+        let _number = y.wide();
+        let (negated, flag) = L::flagged_difference(L::of(0), y);
+        (y.greater(negated), flag)
+    }
+
+    #[inline(always)]
+    fn widened<L: Narrow>(_x: L, y: L) -> L::Wider {
+        // What is read fits its lane.
+        let _number = y.wide();
+        y.widen().greater(L::wide_difference(L::of(0), y))
     }
 }
 
@@ -88,6 +144,18 @@ impl Scalar for Sum {
     }
 }
 
+impl InLanes for Sum {
+    #[inline(always)]
+    fn flagged<L: Computed>(x: L, y: L) -> (L, L) {
+        L::flagged_sum(x, y)
+    }
+
+    #[inline(always)]
+    fn widened<L: Narrow>(x: L, y: L) -> L::Wider {
+        L::wide_sum(x, y)
+    }
+}
+
 /// The difference.
 pub struct Difference;
 
@@ -107,6 +175,18 @@ impl Scalar for Difference {
     #[inline(always)]
     fn tried(x: i64, y: i64) -> (i64, i64) {
         flagged_difference(x, y)
+    }
+}
+
+impl InLanes for Difference {
+    #[inline(always)]
+    fn flagged<L: Computed>(x: L, y: L) -> (L, L) {
+        L::flagged_difference(x, y)
+    }
+
+    #[inline(always)]
+    fn widened<L: Narrow>(x: L, y: L) -> L::Wider {
+        L::wide_difference(x, y)
     }
 }
 
@@ -130,14 +210,31 @@ impl Scalar for Product {
     fn tried(x: i64, y: i64) -> (i64, i64) {
         flagged_product(x, y)
     }
+}
 
-    // A flag costs more than a product of small numbers.
+impl InLanes for Product {
     #[inline(always)]
-    fn fill(a: &[i64], b: &[i64], out: &mut [i64]) -> bool {
-        if begins_low(a, b) && fill_low(a, b, out) {
+    fn flagged<L: Computed>(x: L, y: L) -> (L, L) {
+        L::flagged_product(x, y)
+    }
+
+    #[inline(always)]
+    fn widened<L: Narrow>(x: L, y: L) -> L::Wider {
+        L::wide_product(x, y)
+    }
+
+    #[inline(always)]
+    fn spreads() -> bool {
+        true
+    }
+
+    // A flag of 64 bits costs more than a product of small numbers.
+    #[inline(always)]
+    fn fill<L: Computed, X: Line<L>, Y: Line<L>>(x: X, y: Y, out: &mut [L]) -> bool {
+        if L::fill_small(x, y, out) {
             return true;
         }
-        Self::fill_tried(a, b, out)
+        Self::fill_flagged(x, y, out)
     }
 }
 
@@ -153,6 +250,18 @@ impl Scalar for Maximum {
     }
 }
 
+impl InLanes for Maximum {
+    #[inline(always)]
+    fn flagged<L: Computed>(x: L, y: L) -> (L, L) {
+        (x.greater(y), L::of(0))
+    }
+
+    #[inline(always)]
+    fn widened<L: Narrow>(x: L, y: L) -> L::Wider {
+        x.greater(y).widen()
+    }
+}
+
 /// The lesser number.
 pub struct Minimum;
 
@@ -162,5 +271,17 @@ impl Scalar for Minimum {
     #[inline(always)]
     fn apply(x: i64, y: i64) -> Result<i64, Fault> {
         Ok(x.min(y))
+    }
+}
+
+impl InLanes for Minimum {
+    #[inline(always)]
+    fn flagged<L: Computed>(x: L, y: L) -> (L, L) {
+        (x.lesser(y), L::of(0))
+    }
+
+    #[inline(always)]
+    fn widened<L: Narrow>(x: L, y: L) -> L::Wider {
+        x.lesser(y).widen()
     }
 }

@@ -1,178 +1,242 @@
-// A scalar function at each place, block by block.
-ghost use Rattle.std.specs.Prelude.{◌≡◌, ◌≤◌, ◌+◌, ◌-◌, length, IsTrue, IsFalse};
-ghost use Rattle.apl_arrays.specs.Answers.{Answers, Appends};
-ghost use Rattle.apl_scalar.specs.declared.operand.Operand.TheVariants.{One, Many};
-ghost use Rattle.apl_scalar.specs.Operands.{Covers, values_from, AreValues, SomeHasNone};
-ghost use Rattle.apl_scalar.specs.inside.Pieces.{Serves};
+// A scalar function at each place, block by block, as far as its values fit a lane.
+ghost use Rattle.std.specs.Prelude.{◌≡◌, ◌≤◌, ◌<◌, ◌+◌, ℕ, ℤ, Result, length, min, IsTrue, IsFalse, IfOk, OnOk};
+ghost use Rattle.apl_faults.specs.declared.fault.Fault.{Fault};
+ghost use Rattle.apl_scalar.specs.Operands.{number_at, shown, AreValues, Covers};
+ghost use Rattle.apl_scalar.specs.Lanes.{shown_in, AddsValues, IsBegun, SomeHasNoneIn};
+ghost use Rattle.apl_scalar.specs.inside.Rooms.{HasRoom, Holds, IsReady};
 
-use crate::function::Scalar;
-use crate::operand::{BLOCK, Blocks, Operand};
+use crate::computed::Computed;
+use crate::line::{Each, Laid, Line, Same};
+use crate::operand::{Operand, Source};
+use crate::pieces::{lay, piece};
 use crate::room::grow;
-use apl_arrays::Stop;
-use std::alloc::Global;
+use apl_arrays::Lane;
+use std::alloc::AllocError;
 
-/// Below this many places a test at each costs less than a block.
-const FEW: usize = 16;
+/// How many values are made at a time.
+pub(crate) const BLOCK: usize = 256;
 
-/// The same where a number that serves at each place has to be laid out for the block.
-const FEW_BY_ONE: usize = 128;
+/// Below this many places less room is made ready.
+pub(crate) const FEW: usize = 16;
 
-/// Appends the values for the places from one to another, each tested before the next.
-fn push_tested<F: Scalar>(
-    out: &mut Vec<i64>,
-    a: Operand,
-    b: Operand,
-    from: usize,
-    till: usize,
-) -> Result<(), Stop>
-    requires a { Covers a till }
-    requires b { Covers b till }
-    ensures { Appends out.old.items out.new.items (values_from F.meaning a.entry b.entry from (till - from)) result }
+/// A scalar function of numbers of one lane with its values in another.
+pub(crate) trait Kernel<L: Lane, M: Lane> {
+    /// The function of numbers without bounds.
+    ghost meaning: { ℤ → ℤ → Result ℤ Fault };
+
+    /// Whether one number that serves at each place is better laid out, so that the compiler sees in the loop how wide it is.
+    fn spreads() -> bool;
+
+    /// Writes the values for the places of a block, and says whether there is one in the lane at each. Where there is not, what it wrote means
+    /// nothing.
+    fn fill<X: Line<L>, Y: Line<L>>(x: X, y: Y, out: &mut [M]) -> bool
+        requires x { (k : ℕ) → k < length out.old → X.has x k }
+        requires y { (k : ℕ) → k < length out.old → Y.has y k }
+        ensures values { IsTrue result → AreValues meaning (X.number x) (Y.number y) (M.numbers out.new) }
+        ensures none { IsFalse result → SomeHasNoneIn M.width meaning (X.number x) (Y.number y) (length out.new) };
+}
+
+/// Appends the values for the places of a block, which are written where they stay, and says whether the lane holds them. Only where it doesn't are
+/// they taken back.
+#[inline(always)]
+fn push_block<L: Lane, M: Lane, K: Kernel<L, M>, X: Line<L>, Y: Line<L>>(
+    out: &mut Vec<M>,
+    x: X,
+    y: Y,
+    count: usize,
+) -> Result<bool, AllocError>
+    requires x { (k : ℕ) → k < count → X.has x k }
+    requires y { (k : ℕ) → k < count → Y.has y k }
+    ensures adds { OnOk result (AddsValues K.meaning (X.number x) (Y.number y) count (M.numbers out.old.items) (M.numbers out.new.items)) }
+    ensures all { IfOk result (λ all. IsTrue all → length out.new.items ≡ length out.old.items + count) }
 {
-    for k in from..till {
-        match F::apply(a.at(k), b.at(k)) {
-            Ok(value) => out.push(value)?,
-            Err(fault) => return Err(Stop::Fault(fault)),
+    let before = grow(out, count)?;
+    if K::fill(x, y, out.as_mut_slice().split_at_mut(before).1) {
+        return Ok(true);
+    }
+    out.truncate(before);
+    Ok(false)
+}
+
+/// Appends the values for the places from the next one on, block by block, as long as the lane holds them.
+pub(crate) fn push_lines<L: Lane, M: Lane, K: Kernel<L, M>, X: Line<L>, Y: Line<L>>(
+    out: &mut Vec<M>,
+    x: X,
+    y: Y,
+    count: usize,
+) -> Result<(), AllocError>
+    requires x { (k : ℕ) → k < count → X.has x k }
+    requires y { (k : ℕ) → k < count → Y.has y k }
+    requires begun { IsBegun K.meaning (X.number x) (Y.number y) count (M.numbers out.old.items) }
+    ensures { OnOk result (IsBegun K.meaning (X.number x) (Y.number y) count (M.numbers out.new.items)) }
+{
+    while out.len() < count {
+        let from = out.len();
+        let some = (count - from).min(BLOCK);
+        if !push_block::<L, M, K, X, Y>(out, x.after(from), y.after(from), some)? {
+            return Ok(());
         }
     }
     Ok(())
 }
 
-/// Writes the values for the places of a block, and says whether there is one at each.
-#[inline(always)]
-fn fill_block<F: Scalar>(x: Operand, y: Operand, a: &[i64], b: &[i64], out: &mut [i64]) -> bool
-    requires x { Serves x a.now }
-    requires y { Serves y b.now }
-    requires a { length a.now ≡ length out.old }
-    requires b { length b.now ≡ length out.old }
-    ensures values { IsTrue result → AreValues F.meaning a.now b.now out.new }
-    ensures none { IsFalse result → SomeHasNone F.meaning a.now b.now }
+/// Appends the values for the places from the next one to another, and says whether the lane holds them. For two numbers that serve at each place
+/// it makes none.
+fn push_pieces<L: Lane, M: Lane, K: Kernel<L, M>>(
+    out: &mut Vec<M>,
+    a: &Source<'_, L>,
+    room_a: &[L],
+    b: &Source<'_, L>,
+    room_b: &[L],
+    till: usize,
+) -> Result<bool, AllocError>
+    requires a { Covers (shown_in L.value L.numbers a.now) till }
+    requires b { Covers (shown_in L.value L.numbers b.now) till }
+    requires order { length out.old.items ≤ till }
+    requires room_a { Holds L.value a.now (length out.old.items) till (L.numbers room_a.now) }
+    requires room_b { Holds L.value b.now (length out.old.items) till (L.numbers room_b.now) }
+    requires begun { IsBegun K.meaning (number_at (shown_in L.value L.numbers a.now)) (number_at (shown_in L.value L.numbers b.now)) till (M.numbers out.old.items) }
+    ensures begun { OnOk result (IsBegun K.meaning (number_at (shown_in L.value L.numbers a.now)) (number_at (shown_in L.value L.numbers b.now)) till (M.numbers out.new.items)) }
+    ensures all { IfOk result (λ all. IsTrue all → length out.new.items ≡ till) }
 {
+    let from = out.len();
+    let some = till - from;
+    let x = piece(a, from, till, room_a);
+    let y = piece(b, from, till, room_b);
     match x {
-        Operand::One(x) => F::fill_by_first(x, a, b, out),
-        Operand::Many(_) => match y {
-            Operand::One(y) => F::fill_by_second(a, y, b, out),
-            Operand::Many(_) => F::fill(a, b, out),
+        Laid::One(x) => match y {
+            Laid::One(_) => Ok(false),
+            Laid::Many(y) => {
+                push_block::<L, M, K, Same<L>, Each<'_, L>>(out, Same(x), Each(y), some)
+            }
+        },
+        Laid::Many(x) => match y {
+            Laid::One(y) => {
+                push_block::<L, M, K, Each<'_, L>, Same<L>>(out, Each(x), Same(y), some)
+            }
+            Laid::Many(y) => {
+                push_block::<L, M, K, Each<'_, L>, Each<'_, L>>(out, Each(x), Each(y), some)
+            }
         },
     }
 }
 
-/// Appends the values for the places of a block, which are written where they stay. Only where one has none are they taken back, and is there a
-/// test at each.
-fn push_block<F: Scalar>(
-    out: &mut Vec<i64>,
-    a: &Blocks,
-    b: &Blocks,
-    from: usize,
-    till: usize,
-) -> Result<(), Stop>
-    requires a { Covers a.now.operand till }
-    requires b { Covers b.now.operand till }
-    requires order { from ≤ till }
-    requires few { till ≤ from + BLOCK }
-    ensures { Appends out.old.items out.new.items (values_from F.meaning a.now.operand b.now.operand from (till - from)) result }
-{
-    let x = a.piece(from, till);
-    let y = b.piece(from, till);
-    let before = grow(out, till - from)?;
-    let values = out.as_mut_slice().split_at_mut(before).1;
-    if fill_block::<F>(a.operand, b.operand, x, y, values) {
-        return Ok(());
-    }
-    out.truncate(before);
-    push_tested::<F>(out, a.operand, b.operand, from, till)
-}
-
-/// Appends the values for the places below a count, block by block.
-fn push_blocks<F: Scalar>(
-    out: &mut Vec<i64>,
-    a: &Blocks,
-    b: &Blocks,
+/// The same as [`push_lines`] by way of room for the numbers of a block that don't lie in the lane.
+fn push_laid<L: Lane, M: Lane, K: Kernel<L, M>>(
+    out: &mut Vec<M>,
+    a: &Source<'_, L>,
+    room_a: &mut [L],
+    b: &Source<'_, L>,
+    room_b: &mut [L],
     count: usize,
-) -> Result<(), Stop>
-    requires a { Covers a.now.operand count }
-    requires b { Covers b.now.operand count }
-    ensures { Appends out.old.items out.new.items (values_from F.meaning a.now.operand b.now.operand 0 count) result }
+) -> Result<(), AllocError>
+    requires a { Covers (shown_in L.value L.numbers a.now) count }
+    requires b { Covers (shown_in L.value L.numbers b.now) count }
+    requires room_a { IsReady L.value a.now (min count BLOCK) (L.numbers room_a.old) }
+    requires room_b { IsReady L.value b.now (min count BLOCK) (L.numbers room_b.old) }
+    requires begun { IsBegun K.meaning (number_at (shown_in L.value L.numbers a.now)) (number_at (shown_in L.value L.numbers b.now)) count (M.numbers out.old.items) }
+    ensures { OnOk result (IsBegun K.meaning (number_at (shown_in L.value L.numbers a.now)) (number_at (shown_in L.value L.numbers b.now)) count (M.numbers out.new.items)) }
 {
-    let mut from = 0usize;
-    while from < count {
+    while out.len() < count {
+        let from = out.len();
         let till = from + (count - from).min(BLOCK);
-        push_block::<F>(out, a, b, from, till)?;
-        from = till;
+        if !lay(a, from, till, room_a) {
+            return Ok(());
+        }
+        if !lay(b, from, till, room_b) {
+            return Ok(());
+        }
+        if !push_pieces::<L, M, K>(out, a, room_a, b, room_b, till)? {
+            return Ok(());
+        }
     }
     Ok(())
 }
 
-/// The same where each first number is this one.
-fn push_by_first<F: Scalar>(out: &mut Vec<i64>, x: i64, b: &[i64], count: usize) -> Result<(), Stop>
-    requires { count ≤ length b.now }
-    ensures { Appends out.old.items out.new.items (values_from F.meaning (One x) (Many b.entry) 0 count) result }
-{
-    let spread = [x; BLOCK];
-    push_blocks::<F>(out, &Blocks::one(x, &spread), &Blocks::many(b), count)
-}
-
-/// The same where each second number is this one.
-fn push_by_second<F: Scalar>(
-    out: &mut Vec<i64>,
-    a: &[i64],
-    y: i64,
+/// The same with room for the first operand, and room of `N` numbers for the second one, if it needs any.
+fn push_by_second<L: Computed, M: Lane, K: Kernel<L, M>, const N: usize>(
+    out: &mut Vec<M>,
+    a: &Source<'_, L>,
+    room: &mut [L],
+    b: &Source<'_, L>,
     count: usize,
-) -> Result<(), Stop>
-    requires { count ≤ length a.now }
-    ensures { Appends out.old.items out.new.items (values_from F.meaning (Many a.entry) (One y) 0 count) result }
+) -> Result<(), AllocError>
+    requires a { Covers (shown_in L.value L.numbers a.now) count }
+    requires b { Covers (shown_in L.value L.numbers b.now) count }
+    requires room { IsReady L.value a.now (min count BLOCK) (L.numbers room.old) }
+    requires enough { min count BLOCK ≤ N }
+    requires memory { HasRoom L.row N }
+    requires begun { IsBegun K.meaning (number_at (shown_in L.value L.numbers a.now)) (number_at (shown_in L.value L.numbers b.now)) count (M.numbers out.old.items) }
+    ensures { OnOk result (IsBegun K.meaning (number_at (shown_in L.value L.numbers a.now)) (number_at (shown_in L.value L.numbers b.now)) count (M.numbers out.new.items)) }
 {
-    let spread = [y; BLOCK];
-    push_blocks::<F>(out, &Blocks::many(a), &Blocks::one(y, &spread), count)
+    match b {
+        Source::One(y) if K::spreads() => push_laid::<L, M, K>(
+            out,
+            a,
+            room,
+            b,
+            &mut [*y; N],
+            count,
+        ),
+        Source::One(_) | Source::Lies(_) => {
+            push_laid::<L, M, K>(out, a, room, b, &mut [], count)
+        }
+        Source::Narrow(_) => push_laid::<L, M, K>(out, a, room, b, &mut [L::of(0); N], count),
+    }
 }
 
-/// Appends the values for the places below a count. A number that serves at each place is laid out for a block, and many are read where they
-/// stand.
-fn push_all<F: Scalar>(out: &mut Vec<i64>, a: Operand, b: Operand, count: usize) -> Result<(), Stop>
-    requires a { Covers a count }
-    requires b { Covers b count }
-    ensures { Appends out.old.items out.new.items (values_from F.meaning a.entry b.entry 0 count) result }
+/// The same with room of `N` numbers for each operand that needs any.
+fn push_in_room<L: Computed, M: Lane, K: Kernel<L, M>, const N: usize>(
+    out: &mut Vec<M>,
+    a: &Source<'_, L>,
+    b: &Source<'_, L>,
+    count: usize,
+) -> Result<(), AllocError>
+    requires a { Covers (shown_in L.value L.numbers a.now) count }
+    requires b { Covers (shown_in L.value L.numbers b.now) count }
+    requires enough { min count BLOCK ≤ N }
+    requires memory { HasRoom L.row N }
+    requires begun { IsBegun K.meaning (number_at (shown_in L.value L.numbers a.now)) (number_at (shown_in L.value L.numbers b.now)) count (M.numbers out.old.items) }
+    ensures { OnOk result (IsBegun K.meaning (number_at (shown_in L.value L.numbers a.now)) (number_at (shown_in L.value L.numbers b.now)) count (M.numbers out.new.items)) }
 {
     match a {
-        Operand::One(x) => match b {
-            Operand::One(_) => push_tested::<F>(out, a, b, 0, count),
-            Operand::Many(y) => push_by_first::<F>(out, x, y, count),
-        },
-        Operand::Many(x) => match b {
-            Operand::One(y) => push_by_second::<F>(out, x, y, count),
-            Operand::Many(y) => push_blocks::<F>(out, &Blocks::many(x), &Blocks::many(y), count),
-        },
+        Source::One(x) if K::spreads() => push_by_second::<L, M, K, N>(
+            out,
+            a,
+            &mut [*x; N],
+            b,
+            count,
+        ),
+        Source::One(_) | Source::Lies(_) => {
+            push_by_second::<L, M, K, N>(out, a, &mut [], b, count)
+        }
+        Source::Narrow(_) => push_by_second::<L, M, K, N>(out, a, &mut [L::of(0); N], b, count),
     }
 }
 
-/// Below how many places a test at each costs less than a block.
-#[inline(always)]
-fn few(a: Operand, b: Operand) -> usize {
-    match a {
-        Operand::One(_) => FEW_BY_ONE,
-        Operand::Many(_) => match b {
-            Operand::One(_) => FEW_BY_ONE,
-            Operand::Many(_) => FEW,
-        },
-    }
-}
-
-/// The values for the places below a count, or the first fault.
-pub(crate) fn apply_all<F: Scalar>(
-    alloc: Global,
-    a: Operand,
-    b: Operand,
+/// Appends the values for the places from the next one on, as long as the lane holds them, by way of room for what doesn't lie in it.
+#[inline(never)]
+pub(crate) fn push_by_room<L: Computed, M: Lane, K: Kernel<L, M>>(
+    out: &mut Vec<M>,
+    a: Operand<'_>,
+    b: Operand<'_>,
     count: usize,
-) -> Result<Vec<i64>, Stop>
-    requires a { Covers a count }
-    requires b { Covers b count }
-    ensures { Answers (λ v. v.items) (values_from F.meaning a.entry b.entry 0 count) result }
+) -> Result<(), AllocError>
+    requires a { Covers (shown a) count }
+    requires b { Covers (shown b) count }
+    requires memory { HasRoom L.row BLOCK }
+    requires begun { IsBegun K.meaning (number_at (shown a)) (number_at (shown b)) count (M.numbers out.old.items) }
+    ensures { OnOk result (IsBegun K.meaning (number_at (shown a.entry)) (number_at (shown b.entry)) count (M.numbers out.new.items)) }
 {
-    let mut out = Vec::with_capacity(alloc, count)?;
-    if count < few(a, b) {
-        push_tested::<F>(&mut out, a, b, 0, count)?;
-        return Ok(out);
+    let Some(a) = a.in_lane() else {
+        return Ok(());
+    };
+    let Some(b) = b.in_lane() else {
+        return Ok(());
+    };
+    if count < FEW {
+        push_in_room::<L, M, K, FEW>(out, &a, &b, count)
+    } else {
+        push_in_room::<L, M, K, BLOCK>(out, &a, &b, count)
     }
-    push_all::<F>(&mut out, a, b, count)?;
-    Ok(out)
 }

@@ -2,12 +2,13 @@
 ghost use Rattle.std.specs.Prelude.{◌≡◌, ◌≢◌, ◌≤◌, ◌<◌, Bool, false, nat_eq, length, slice_index_or, Ok, Err, MatchOption};
 ghost use Rattle.std.specs.List.{range_with_len};
 ghost use Rattle.apl_arrays.specs.Answers.{Answers};
+ghost use Rattle.apl_arrays.specs.Numbers.{kept_values};
 ghost use Rattle.apl_arrays.specs.Results.{all_ok};
 ghost use Rattle.apl_scalar.specs.Extension.{compared};
 ghost use Rattle.apl_scalar.specs.Operands.{character_at, verdict, AreVerdicts};
 
 use crate::function::Dyadic;
-use apl_arrays::Stop;
+use apl_arrays::{NumberVec, Stop};
 use apl_charset::Ch;
 use apl_faults::Fault;
 use std::alloc::Global;
@@ -15,8 +16,8 @@ use std::alloc::Global;
 /// What a function answers for two elements that are the same, and for two that differ.
 #[derive(Clone, Copy)]
 struct Verdicts {
-    same: i64,
-    other: i64,
+    same: i8,
+    other: i8,
 }
 
 /// What a function answers for characters, if it takes them.
@@ -38,14 +39,14 @@ impl Dyadic {
         ensures { result ≡ compared self same }
     {
         match verdicts_of(self) {
-            Some(verdicts) => Ok(if same { verdicts.same } else { verdicts.other }),
+            Some(verdicts) => Ok(i64::from(if same { verdicts.same } else { verdicts.other })),
             None => Err(Fault::Domain),
         }
     }
 }
 
 /// Writes for each character whether it is this one.
-fn compare_with(one: Ch, many: &[Ch], verdicts: Verdicts, out: &mut [i64])
+fn compare_with(one: Ch, many: &[Ch], verdicts: Verdicts, out: &mut [i8])
     requires { length out.old ≤ length many.now }
     ensures { AreVerdicts verdicts (λ k. nat_eq one (slice_index_or many.now k 0)) out.new }
 {
@@ -59,7 +60,7 @@ fn compare_with(one: Ch, many: &[Ch], verdicts: Verdicts, out: &mut [i64])
 }
 
 /// Writes for each place whether the characters there are the same.
-fn compare_pairs(a: &[Ch], b: &[Ch], verdicts: Verdicts, out: &mut [i64])
+fn compare_pairs(a: &[Ch], b: &[Ch], verdicts: Verdicts, out: &mut [i8])
     requires a { length out.old ≤ length a.now }
     requires b { length out.old ≤ length b.now }
     ensures { AreVerdicts verdicts (λ k. nat_eq (slice_index_or a.now k 0) (slice_index_or b.now k 0)) out.new }
@@ -74,18 +75,18 @@ fn compare_pairs(a: &[Ch], b: &[Ch], verdicts: Verdicts, out: &mut [i64])
 }
 
 /// The values of a function of two operands, one of numbers and one of characters.
-pub(crate) fn mixed(alloc: Global, function: Dyadic, count: usize) -> Result<Vec<i64>, Stop>
+pub(crate) fn mixed(alloc: Global, function: Dyadic, count: usize) -> Result<NumberVec, Stop>
     requires { 0 < count }
-    ensures { Answers (λ v. v.items) (all_ok (λ k. compared function false) (range_with_len 0 count)) result }
+    ensures { Answers kept_values (all_ok (λ k. compared function false) (range_with_len 0 count)) result }
 {
     match verdicts_of(function) {
-        Some(verdicts) => Ok(vec![in alloc; verdicts.other; count]?),
+        Some(verdicts) => Ok(NumberVec::I8(vec![in alloc; verdicts.other; count]?)),
         None => Err(Stop::Fault(Fault::Domain)),
     }
 }
 
 /// Writes for each place whether the characters there are the same.
-fn compare(a: &[Ch], b: &[Ch], verdicts: Verdicts, out: &mut [i64])
+fn compare(a: &[Ch], b: &[Ch], verdicts: Verdicts, out: &mut [i8])
     requires a { length a.now ≢ 1 → length a.now ≡ length out.old }
     requires b { length b.now ≢ 1 → length b.now ≡ length out.old }
     requires one { length a.now ≡ 1 → length b.now ≡ 1 → length out.old ≡ 1 }
@@ -107,17 +108,17 @@ pub(crate) fn dyadic_characters(
     a: &[Ch],
     b: &[Ch],
     count: usize,
-) -> Result<Vec<i64>, Stop>
+) -> Result<NumberVec, Stop>
     requires some { 0 < count }
     requires a { length a.now ≢ 1 → length a.now ≡ count }
     requires b { length b.now ≢ 1 → length b.now ≡ count }
     requires one { length a.now ≡ 1 → length b.now ≡ 1 → count ≡ 1 }
-    ensures { Answers (λ v. v.items) (all_ok (λ k. compared function (nat_eq (character_at a.now k) (character_at b.now k))) (range_with_len 0 count)) result }
+    ensures { Answers kept_values (all_ok (λ k. compared function (nat_eq (character_at a.now k) (character_at b.now k))) (range_with_len 0 count)) result }
 {
     let Some(verdicts) = verdicts_of(function) else {
         return Err(Stop::Fault(Fault::Domain));
     };
-    let mut values = vec![in alloc; 0i64; count]?;
+    let mut values = vec![in alloc; 0i8; count]?;
     compare(a, b, verdicts, values.as_mut_slice());
-    Ok(values)
+    Ok(NumberVec::I8(values))
 }

@@ -1,16 +1,24 @@
 // A scalar function that is chosen when the program runs, as one that the compiler knows.
-ghost use Rattle.std.specs.Prelude.{ℤ, Result};
+ghost use Rattle.std.specs.Prelude.{◌≡◌, ℤ, Result, length, pos, slice_index_or};
+ghost use Rattle.std.specs.List.{range_with_len};
 ghost use Rattle.apl_faults.specs.declared.fault.Fault.{Fault};
+ghost use Rattle.apl_arrays.specs.Answers.{Answers};
+ghost use Rattle.apl_arrays.specs.Numbers.{kept_values, values};
+ghost use Rattle.apl_arrays.specs.Results.{all_ok};
 ghost use Rattle.apl_scalar.specs.Functions.{monadic_of, dyadic_of};
+ghost use Rattle.apl_scalar.specs.Operands.{number_at, shown, values_of, Covers};
 
 use crate::arithmetic::{
     Difference, Identity, Magnitude, Maximum, Minimum, Negation, Product, Sign, Sum,
 };
-use crate::comparison::{Equal, Less, NotEqual, NotGreater};
+use crate::comparison::{Compared, Equal, Less, NotEqual, NotGreater, Swapped};
 use crate::division::{Quotient, Reciprocal, Residue};
-use crate::function::{Dyadic, Monadic, Scalar, Swapped};
+use crate::function::{Dyadic, Monadic, Scalar};
 use crate::logic::{And, Logical, Nand, Nor, Not, Or};
 use crate::powers::{Factorial, Power};
+use crate::values::Places;
+use apl_arrays::{NumberSlice, NumberVec, Stop};
+use std::alloc::Global;
 
 /// What is done by a scalar function, made anew for each function that the compiler knows, so that no loop in it dispatches.
 /// [`Dyadic::apply`] and [`Monadic::apply`] do it by a function that is chosen when the program runs.
@@ -46,16 +54,44 @@ impl Dyadic {
             Dyadic::Maximum => visitor.with::<Maximum>(),
             Dyadic::Minimum => visitor.with::<Minimum>(),
             Dyadic::Residue => visitor.with::<Residue>(),
-            Dyadic::Less => visitor.with::<Less>(),
-            Dyadic::NotGreater => visitor.with::<NotGreater>(),
-            Dyadic::Equal => visitor.with::<Equal>(),
-            Dyadic::NotLess => visitor.with::<Swapped<NotGreater>>(),
-            Dyadic::Greater => visitor.with::<Swapped<Less>>(),
-            Dyadic::NotEqual => visitor.with::<NotEqual>(),
+            Dyadic::Less => visitor.with::<Compared<Less>>(),
+            Dyadic::NotGreater => visitor.with::<Compared<NotGreater>>(),
+            Dyadic::Equal => visitor.with::<Compared<Equal>>(),
+            Dyadic::NotLess => visitor.with::<Compared<Swapped<NotGreater>>>(),
+            Dyadic::Greater => visitor.with::<Compared<Swapped<Less>>>(),
+            Dyadic::NotEqual => visitor.with::<Compared<NotEqual>>(),
             Dyadic::And => visitor.with::<Logical<And>>(),
             Dyadic::Or => visitor.with::<Logical<Or>>(),
             Dyadic::Nand => visitor.with::<Logical<Nand>>(),
             Dyadic::Nor => visitor.with::<Logical<Nor>>(),
+        }
+    }
+
+    /// The values of this function at places.
+    pub(crate) fn at_places(self, places: &Places<'_>) -> Result<NumberVec, Stop>
+        requires a { Covers (shown places.now.a) places.now.count }
+        requires b { Covers (shown places.now.b) places.now.count }
+        ensures { Answers kept_values (values_of (dyadic_of self) (number_at (shown places.now.a)) (number_at (shown places.now.b)) places.now.count) result }
+    {
+        match self {
+            Dyadic::Plus => places.in_lanes::<Sum>(),
+            Dyadic::Minus => places.in_lanes::<Difference>(),
+            Dyadic::Times => places.in_lanes::<Product>(),
+            Dyadic::Divide => places.in_wide::<Quotient>(),
+            Dyadic::Power => places.in_wide::<Power>(),
+            Dyadic::Maximum => places.in_lanes::<Maximum>(),
+            Dyadic::Minimum => places.in_lanes::<Minimum>(),
+            Dyadic::Residue => places.in_wide::<Residue>(),
+            Dyadic::Less => places.told::<Compared<Less>>(),
+            Dyadic::NotGreater => places.told::<Compared<NotGreater>>(),
+            Dyadic::Equal => places.told::<Compared<Equal>>(),
+            Dyadic::NotLess => places.swapped().told::<Compared<NotGreater>>(),
+            Dyadic::Greater => places.swapped().told::<Compared<Less>>(),
+            Dyadic::NotEqual => places.told::<Compared<NotEqual>>(),
+            Dyadic::And => places.told::<Logical<And>>(),
+            Dyadic::Or => places.told::<Logical<Or>>(),
+            Dyadic::Nand => places.told::<Logical<Nand>>(),
+            Dyadic::Nor => places.told::<Logical<Nor>>(),
         }
     }
 }
@@ -77,6 +113,26 @@ impl Monadic {
             Monadic::Magnitude => visitor.with::<Magnitude>(),
             Monadic::Not => visitor.with::<Not>(),
             Monadic::Factorial => visitor.with::<Factorial>(),
+        }
+    }
+
+    /// The values of this function of numbers.
+    pub(crate) fn of_numbers(
+        self,
+        alloc: Global,
+        numbers: NumberSlice<'_>,
+    ) -> Result<NumberVec, Stop>
+        ensures { Answers kept_values (all_ok (λ k. monadic_of self (slice_index_or (values numbers.entry) k (pos 0))) (range_with_len 0 (length (values numbers.entry)))) result }
+    {
+        let places = Places::of_one(alloc, numbers);
+        match self {
+            Monadic::Plus | Monadic::Ceiling | Monadic::Floor => Ok(numbers.to_vec(alloc)?),
+            Monadic::Minus => places.in_lanes::<Negation>(),
+            Monadic::Times => places.in_lanes::<Sign>(),
+            Monadic::Divide => places.in_wide::<Reciprocal>(),
+            Monadic::Magnitude => places.in_lanes::<Magnitude>(),
+            Monadic::Not => places.told::<Not>(),
+            Monadic::Factorial => places.in_wide::<Factorial>(),
         }
     }
 }

@@ -6,8 +6,10 @@ ghost use Rattle.apl_scalar.specs.Functions.{monadic_of, dyadic_of, quotient, re
 
 use crate::exact_quotients::fill_quotients;
 use crate::function::Scalar;
+use crate::in_wide::InWide;
+use crate::line::Line;
 use crate::reciprocals::fill_left;
-use crate::small_residues::{are_small, begin_small, fill_small};
+use crate::small_residues::{are_small, fill_small};
 use apl_faults::Fault;
 
 /// The exact quotient.
@@ -67,6 +69,8 @@ impl Scalar for Reciprocal {
     }
 }
 
+impl InWide for Reciprocal {}
+
 /// The exact quotient.
 pub struct Quotient;
 
@@ -77,14 +81,18 @@ impl Scalar for Quotient {
     fn apply(x: i64, y: i64) -> Result<i64, Fault> {
         exact_quotient(x, y)
     }
+}
 
+impl InWide for Quotient {
     // Where the quotients by one number are exact, its inverse makes them without a division.
     #[inline(always)]
-    fn fill_by_second(a: &[i64], y: i64, b: &[i64], out: &mut [i64]) -> bool {
-        if 1 < y && fill_quotients(a, y as u64, out) {
-            return true;
+    fn fill<X: Line<i64>, Y: Line<i64>>(x: X, y: Y, out: &mut [i64]) -> bool {
+        if let Some(divisor) = y.only() {
+            if 1 < divisor && fill_quotients(x, divisor as u64, out) {
+                return true;
+            }
         }
-        Self::fill_tried(a, b, out)
+        Self::fill_tried(x, y, out)
     }
 }
 
@@ -98,24 +106,21 @@ impl Scalar for Residue {
     fn apply(x: i64, y: i64) -> Result<i64, Fault> {
         Ok(residue_by(x, y))
     }
+}
 
-    // A division of 32 bits costs less than one of 64.
+impl InWide for Residue {
+    // The reciprocal of one positive divisor serves for all. Else a division of 32 bits costs less than one of 64.
     #[inline(always)]
-    fn fill(a: &[i64], b: &[i64], out: &mut [i64]) -> bool {
-        if !(begin_small(a, b) && are_small(a, b)) {
-            return Self::fill_tried(a, b, out);
+    fn fill<X: Line<i64>, Y: Line<i64>>(x: X, y: Y, out: &mut [i64]) -> bool {
+        if let Some(divisor) = x.only() {
+            if 0 < divisor {
+                fill_left(divisor as u64, y, out);
+                return true;
+            }
+        } else if are_small(x, y, out.len()) {
+            fill_small(x, y, out);
+            return true;
         }
-        fill_small(a, b, out);
-        true
-    }
-
-    // The reciprocal of one positive divisor serves for all.
-    #[inline(always)]
-    fn fill_by_first(x: i64, a: &[i64], b: &[i64], out: &mut [i64]) -> bool {
-        if x <= 0 {
-            return Self::fill_tried(a, b, out);
-        }
-        fill_left(x as u64, b, out);
-        true
+        Self::fill_tried(x, y, out)
     }
 }

@@ -1,8 +1,9 @@
 // Exact quotients by one number for many, as products with its inverse among numbers of 64 bits.
-ghost use Rattle.std.specs.Prelude.{◌≡◌, ◌<◌, ◌*◌, ◌%◌, ◌^◌, pos, length, IsTrue, IfSome, Ok};
+ghost use Rattle.std.specs.Prelude.{◌≡◌, ◌<◌, ◌*◌, ◌%◌, ◌^◌, ℕ, pos, length, IsTrue, IfSome, Ok};
 ghost use Rattle.apl_scalar.specs.Functions.{quotient};
 ghost use Rattle.apl_scalar.specs.inside.Reciprocals.{AreQuotients, Divides};
 
+use crate::line::Line;
 use crate::overflow::wider;
 
 /// What divides many numbers by one, which is an odd number shifted to the left. A number's product with `inverse` is its quotient by the odd
@@ -59,14 +60,14 @@ fn quotient_by(x: i64, divisor: u64, by: Inverse) -> (i64, u64)
 
 /// Writes a number for each place, and says whether all are exact quotients.
 #[inline(always)]
-fn fill_by(a: &[i64], divisor: u64, by: Inverse, out: &mut [i64]) -> bool
+fn fill_by<X: Line<i64>>(x: X, divisor: u64, by: Inverse, out: &mut [i64]) -> bool
     requires by { Divides divisor by }
-    requires a { length a.now ≡ length out.old }
-    ensures { IsTrue result → AreQuotients divisor a.now out.new }
+    requires x { (k : ℕ) → k < length out.old → X.has x k }
+    ensures { IsTrue result → AreQuotients divisor (X.number x) out.new }
 {
     let mut raised = 0u64;
     for i in 0..out.len() {
-        let (value, one) = quotient_by(a[i], divisor, by);
+        let (value, one) = quotient_by(x.at(i), divisor, by);
         out[i] = value;
         raised = wider(raised, one);
     }
@@ -77,10 +78,10 @@ fn fill_by(a: &[i64], divisor: u64, by: Inverse, out: &mut [i64]) -> bool
 }
 
 /// Writes a number for each place, and says whether all are exact quotients by a divisor above 1.
-pub(crate) fn fill_quotients(a: &[i64], divisor: u64, out: &mut [i64]) -> bool
+pub(crate) fn fill_quotients<X: Line<i64>>(x: X, divisor: u64, out: &mut [i64]) -> bool
     requires divisor { (1 < divisor) × (divisor < 2 ^ 63) }
-    requires a { length a.now ≡ length out.old }
-    ensures { IsTrue result → AreQuotients divisor a.now out.new }
+    requires x { (k : ℕ) → k < length out.old → X.has x k }
+    ensures { IsTrue result → AreQuotients divisor (X.number x) out.new }
 {
     let shift = divisor.trailing_zeros();
     let odd = divisor >> shift;
@@ -93,7 +94,7 @@ pub(crate) fn fill_quotients(a: &[i64], divisor: u64, out: &mut [i64]) -> bool
     let half = half_for(divisor);
     if shift == 0 {
         return fill_by(
-            a,
+            x,
             divisor,
             Inverse {
                 inverse,
@@ -105,7 +106,7 @@ pub(crate) fn fill_quotients(a: &[i64], divisor: u64, out: &mut [i64]) -> bool
         );
     }
     fill_by(
-        a,
+        x,
         divisor,
         Inverse {
             inverse,

@@ -1,11 +1,8 @@
 // The scalar functions.
-ghost use Rattle.std.specs.Prelude.{◌≡◌, ◌≤ℤ◌, ◌<ℤ◌, ℤ, Result, pos, Ok, IsErr, length, IsTrue, IsFalse};
+ghost use Rattle.std.specs.Prelude.{◌≡◌, ◌≤ℤ◌, ◌<ℤ◌, ℤ, Result, pos, Ok, IsErr};
 ghost use Rattle.apl_faults.specs.declared.fault.Fault.{Fault};
-ghost use Rattle.apl_scalar.specs.Operands.{AreValues, IsEach, SomeHasNone};
 
-use crate::overflow::either;
 use apl_faults::Fault;
-use std::marker::PhantomData;
 
 /// The scalar functions of one argument.
 #[derive(Clone, Copy, Debug, PartialEq, Eq)]
@@ -90,75 +87,5 @@ pub trait Scalar {
             Ok(value) => (value, 0),
             Err(_) => (0, -1),
         }
-    }
-
-    /// Writes the values for the places of a block, and says whether there is one at each, by one test of the flags of all. Where there is not,
-    /// what it wrote means nothing.
-    #[inline(always)]
-    fn fill_tried(a: &[i64], b: &[i64], out: &mut [i64]) -> bool
-        requires a { length a.now ≡ length out.old }
-        requires b { length b.now ≡ length out.old }
-        ensures values { IsTrue result → AreValues meaning a.now b.now out.new }
-        ensures none { IsFalse result → SomeHasNone meaning a.now b.now }
-    {
-        let mut flags = 0i64;
-        for i in 0..out.len() {
-            let (value, flag) = Self::tried(a[i], b[i]);
-            out[i] = value;
-            flags = either(flags, flag);
-        }
-        0 <= flags
-    }
-
-    /// The same, first on a fast path that numbers often allow, where there is one.
-    #[inline(always)]
-    fn fill(a: &[i64], b: &[i64], out: &mut [i64]) -> bool
-        requires a { length a.now ≡ length out.old }
-        requires b { length b.now ≡ length out.old }
-        ensures values { IsTrue result → AreValues meaning a.now b.now out.new }
-        ensures none { IsFalse result → SomeHasNone meaning a.now b.now }
-    {
-        Self::fill_tried(a, b, out)
-    }
-
-    /// The same where each first number is this one.
-    #[inline(always)]
-    fn fill_by_first(_x: i64, a: &[i64], b: &[i64], out: &mut [i64]) -> bool
-        requires x { IsEach _x a.now }
-        requires a { length a.now ≡ length out.old }
-        requires b { length b.now ≡ length out.old }
-        ensures values { IsTrue result → AreValues meaning a.now b.now out.new }
-        ensures none { IsFalse result → SomeHasNone meaning a.now b.now }
-    {
-        Self::fill(a, b, out)
-    }
-
-    /// The same where each second number is this one.
-    #[inline(always)]
-    fn fill_by_second(a: &[i64], _y: i64, b: &[i64], out: &mut [i64]) -> bool
-        requires y { IsEach _y b.now }
-        requires a { length a.now ≡ length out.old }
-        requires b { length b.now ≡ length out.old }
-        ensures values { IsTrue result → AreValues meaning a.now b.now out.new }
-        ensures none { IsFalse result → SomeHasNone meaning a.now b.now }
-    {
-        Self::fill(a, b, out)
-    }
-}
-
-/// A scalar function with its first argument on the right and its second on the left.
-pub struct Swapped<F>(PhantomData<F>);
-
-impl<F: Scalar> Scalar for Swapped<F> {
-    ghost meaning = { λ x y. F.meaning y x };
-
-    #[inline(always)]
-    fn apply(x: i64, y: i64) -> Result<i64, Fault> {
-        F::apply(y, x)
-    }
-
-    #[inline(always)]
-    fn tried(x: i64, y: i64) -> (i64, i64) {
-        F::tried(y, x)
     }
 }

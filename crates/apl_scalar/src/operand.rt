@@ -1,82 +1,73 @@
 // The numbers of an operand by the places of the result.
-ghost use Rattle.std.specs.Prelude.{◌≡◌, ◌<◌, ◌≤◌, ◌+◌, ◌-◌, ℕ, ℤ, length, slice_index_or, slice_range, pos, replicate};
-ghost use Rattle.apl_scalar.specs.declared.operand.Operand.TheVariants.{One, Many};
-ghost use Rattle.apl_scalar.specs.Operands.{number_at, Covers};
+ghost use Rattle.std.specs.Prelude.{◌≡◌, ◌+◌, IfSome};
+ghost use Rattle.apl_scalar.specs.Operands.{shown, number_at, Covers};
+ghost use Rattle.apl_scalar.specs.Lanes.{laid_in, shown_in};
 
-/// How many values are made without a test at each.
-pub(crate) const BLOCK: usize = 256;
+use crate::computed::Computed;
+use crate::line::Laid;
+use apl_arrays::NumberSlice;
 
 /// The numbers of an operand: one that serves at each place of the result, or one for each place.
 #[derive(Clone, Copy)]
 pub(crate) enum Operand<'a> {
     One(i64),
-    Many(&'a [i64]),
+    Many(NumberSlice<'a>),
+}
+
+/// The same for a lane: numbers of it, or those of a narrower one.
+#[derive(Clone, Copy)]
+pub(crate) enum Source<'a, L> {
+    One(L),
+    Lies(&'a [L]),
+    Narrow(NumberSlice<'a>),
 }
 
 impl<'a> Operand<'a> {
     /// The number for a place.
     #[inline(always)]
     pub(crate) fn at(self, place: usize) -> i64
-        requires { Covers self (place + 1) }
-        ensures { result ≡ number_at self.entry place }
+        requires { Covers (shown self) (place + 1) }
+        ensures { result ≡ number_at (shown self.entry) place }
     {
         match self {
             Operand::One(number) => number,
-            Operand::Many(numbers) => numbers[place],
-        }
-    }
-}
-
-/// The numbers for the places from one to another.
-#[inline(always)]
-fn between(numbers: &[i64], from: usize, till: usize) -> &[i64]
-    requires { (from ≤ till) × (till ≤ length numbers.now) }
-    ensures { result.now ≡ slice_range numbers.now from till }
-{
-    &numbers[from..till]
-}
-
-/// The numbers of an operand by blocks of consecutive places.
-#[derive(Clone, Copy)]
-pub(crate) struct Blocks<'a> {
-    pub(crate) operand: Operand<'a>,
-    spread: &'a [i64],
-    ghost is_spread: { (x : ℤ) → operand ≡ One x → spread.now ≡ replicate 256 x },
-}
-
-impl<'a> Blocks<'a> {
-    /// Those of one number, which is laid out for a block.
-    pub(crate) fn one(number: i64, spread: &'a [i64; BLOCK]) -> Blocks<'a>
-        requires { spread.now ≡ replicate 256 number }
-        ensures { result.operand ≡ One number }
-    {
-        Blocks {
-            operand: Operand::One(number),
-            spread,
+            Operand::Many(numbers) => numbers.at(place),
         }
     }
 
-    /// Those of many.
-    pub(crate) fn many(numbers: &'a [i64]) -> Blocks<'a>
-        ensures { result.operand ≡ Many numbers.entry }
-    {
-        Blocks {
-            operand: Operand::Many(numbers),
-            spread: numbers,
+    /// Whether one number serves at each place.
+    #[inline(always)]
+    pub(crate) fn is_one(self) -> bool {
+        matches!(self, Operand::One(_))
+    }
+
+    /// Whether a lane holds it: the number, or the type that stores the numbers.
+    #[inline(always)]
+    pub(crate) fn fits<L: Computed>(self) -> bool {
+        match self {
+            Operand::One(number) => L::cut(number).is_some(),
+            Operand::Many(numbers) => L::source(numbers).is_some(),
         }
     }
 
-    /// The numbers for the places from one to another.
-    pub(crate) fn piece(&self, from: usize, till: usize) -> &'a [i64]
-        requires covers { Covers self.now.operand till }
-        requires order { from ≤ till }
-        requires few { till ≤ from + BLOCK }
-        ensures len { length result.now ≡ till - from }
-        ensures numbers { (j : ℕ) → j < till - from → slice_index_or result.now j (pos 0) ≡ number_at self.now.operand (from + j) }
+    /// The same numbers where they lie in a lane; none where they don't.
+    #[inline(always)]
+    pub(crate) fn laid<L: Computed>(self) -> Option<Laid<'a, L>>
+        ensures { IfSome result (λ l. laid_in L.value L.numbers l ≡ shown self.entry) }
     {
-        match self.operand {
-            Operand::One(_) => &self.spread[..till - from],
-            Operand::Many(numbers) => between(numbers, from, till),
+        match self {
+            Operand::One(number) => Some(Laid::One(L::cut(number)?)),
+            Operand::Many(numbers) => Some(Laid::Many(L::own(numbers)?)),
+        }
+    }
+
+    /// The same numbers for a lane; none where it doesn't hold them.
+    pub(crate) fn in_lane<L: Computed>(self) -> Option<Source<'a, L>>
+        ensures { IfSome result (λ s. shown_in L.value L.numbers s ≡ shown self.entry) }
+    {
+        match self {
+            Operand::One(number) => Some(Source::One(L::cut(number)?)),
+            Operand::Many(numbers) => L::source(numbers),
         }
     }
 }

@@ -6,6 +6,7 @@ ghost use Rattle.apl_scalar.specs.declared.function.Dyadic.TheVariants as two;
 ghost use Rattle.apl_scalar.specs.Functions.{in_range, monadic_of, dyadic_of, power, factorial_of};
 
 use crate::function::Scalar;
+use crate::in_wide::InWide;
 use apl_faults::Fault;
 
 /// The factorials that fit 64 bits.
@@ -98,6 +99,8 @@ impl Scalar for Power {
     }
 }
 
+impl InWide for Power {}
+
 pub(crate) struct Factorial;
 
 impl Scalar for Factorial {
@@ -108,3 +111,5 @@ impl Scalar for Factorial {
         factorial_at(y)
     }
 }
+
+impl InWide for Factorial {}

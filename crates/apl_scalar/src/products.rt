@@ -1,9 +1,10 @@
 // Products of small numbers, by their low halves.
-ghost use Rattle.std.specs.Prelude.{◌≡◌, ◌<◌, ◌^◌, ◌*ℤ◌, length, IsTrue, Ok};
+ghost use Rattle.std.specs.Prelude.{◌≡◌, ◌<◌, ◌^◌, ◌*ℤ◌, ℕ, length, IsTrue, Ok};
 ghost use Rattle.apl_scalar.specs.declared.function.Dyadic.TheVariants as two;
 ghost use Rattle.apl_scalar.specs.Functions.{dyadic_of, in_range};
 ghost use Rattle.apl_scalar.specs.Operands.{AreValues};
 
+use crate::line::Line;
 use crate::overflow::wider;
 
 /// What is below it tells that numbers are their low halves.
@@ -30,24 +31,46 @@ fn low_product(x: i64, y: i64) -> (i64, u64)
 }
 
 /// Whether the first product of a block is that of the low halves. Where it is not, a try at the others would mostly be lost.
-pub(crate) fn begins_low(a: &[i64], b: &[i64]) -> bool {
-    let [x, ..] = a else { return true };
-    let [y, ..] = b else { return true };
-    let (_, beyond) = low_product(*x, *y);
+#[inline(always)]
+pub(crate) fn begins_low<X: Line<i64>, Y: Line<i64>>(x: X, y: Y, count: usize) -> bool
+    requires x { (k : ℕ) → k < count → X.has x k }
+    requires y { (k : ℕ) → k < count → Y.has y k }
+{
+    if count == 0 {
+        return true;
+    }
+    let (_, beyond) = low_product(x.at(0), y.at(0));
     beyond < LOW
 }
 
 /// Writes the products of the low halves, each in one instruction, and says whether they are those of the numbers.
-pub(crate) fn fill_low(a: &[i64], b: &[i64], out: &mut [i64]) -> bool
-    requires a { length a.now ≡ length out.old }
-    requires b { length b.now ≡ length out.old }
-    ensures { IsTrue result → AreValues (dyadic_of two.Times) a.now b.now out.new }
+#[inline(always)]
+pub(crate) fn fill_low<X: Line<i64>, Y: Line<i64>>(x: X, y: Y, out: &mut [i64]) -> bool
+    requires x { (k : ℕ) → k < length out.old → X.has x k }
+    requires y { (k : ℕ) → k < length out.old → Y.has y k }
+    ensures { IsTrue result → AreValues (dyadic_of two.Times) (X.number x) (Y.number y) out.new }
 {
     let mut far = 0u64;
     for i in 0..out.len() {
-        let (product, beyond) = low_product(a[i], b[i]);
+        let (product, beyond) = low_product(x.at(i), y.at(i));
         out[i] = product;
         far = wider(far, beyond);
     }
     far < LOW
+}
+
+/// Writes the products, each tested before the next, and says whether all have values.
+#[inline(always)]
+pub(crate) fn fill_tested<X: Line<i64>, Y: Line<i64>>(x: X, y: Y, out: &mut [i64]) -> bool
+    requires x { (k : ℕ) → k < length out.old → X.has x k }
+    requires y { (k : ℕ) → k < length out.old → Y.has y k }
+    ensures { IsTrue result → AreValues (dyadic_of two.Times) (X.number x) (Y.number y) out.new }
+{
+    for i in 0..out.len() {
+        match x.at(i).checked_mul(y.at(i)) {
+            Some(product) => out[i] = product,
+            None => return false,
+        }
+    }
+    true
 }

@@ -1,9 +1,10 @@
 // What is left of many numbers by one, by a product with its reciprocal.
-ghost use Rattle.std.specs.Prelude.{◌≡◌, ◌<◌, ◌*◌, ◌/◌, ◌%◌, ◌^◌, pos, length};
+ghost use Rattle.std.specs.Prelude.{◌≡◌, ◌<◌, ◌*◌, ◌/◌, ◌%◌, ◌^◌, ℕ, pos, length};
 ghost use Rattle.apl_scalar.specs.Functions.{residue};
 ghost use Rattle.apl_scalar.specs.inside.Reciprocals.{AreLeft, IsBelowReciprocal};
 
 use crate::complements::{turned_back, turned_up};
+use crate::line::Line;
 
 /// The high half of a product.
 #[inline(always)]
@@ -40,13 +41,14 @@ fn left_by(y: i64, divisor: u64, inverse: u64) -> i64
 }
 
 /// Writes what is left of each number by a positive divisor.
-pub(crate) fn fill_left(divisor: u64, b: &[i64], out: &mut [i64])
+#[inline(always)]
+pub(crate) fn fill_left<Y: Line<i64>>(divisor: u64, y: Y, out: &mut [i64])
     requires divisor { (0 < divisor) × (divisor < 2 ^ 63) }
-    requires b { length b.now ≡ length out.old }
-    ensures { AreLeft divisor b.now out.new }
+    requires y { (k : ℕ) → k < length out.old → Y.has y k }
+    ensures { AreLeft divisor (Y.number y) out.new }
 {
     let inverse = u64::MAX / divisor;
     for i in 0..out.len() {
-        out[i] = left_by(b[i], divisor, inverse);
+        out[i] = left_by(y.at(i), divisor, inverse);
     }
 }

@@ -1,11 +1,12 @@
 // What is left of small numbers, by divisions of 32 bits, which cost less than those of 64.
-ghost use Rattle.std.specs.Prelude.{◌≡◌, ◌<◌, ◌^◌, ◌%◌, length, IsTrue};
+ghost use Rattle.std.specs.Prelude.{◌≡◌, ◌<◌, ◌^◌, ◌%◌, ℕ, length, IsTrue};
 ghost use Rattle.apl_scalar.specs.declared.function.Dyadic.TheVariants as two;
 ghost use Rattle.apl_scalar.specs.Functions.{dyadic_of, residue};
 ghost use Rattle.apl_scalar.specs.Operands.{AreValues};
 ghost use Rattle.apl_scalar.specs.inside.Turns.{AreSmall, IsSmall};
 
 use crate::complements::{turned_back, turned_up};
+use crate::line::Line;
 use crate::overflow::wider;
 
 /// The bound of the extents of small numbers.
@@ -19,21 +20,19 @@ fn extent(x: i64, y: i64) -> u64
     wider(x.wrapping_sub(1).cast_unsigned(), turned_up(y))
 }
 
-/// Whether the first numbers of a block are small. Where they are not, a look at the others would mostly be lost.
-pub(crate) fn begin_small(a: &[i64], b: &[i64]) -> bool {
-    let [x, ..] = a else { return true };
-    let [y, ..] = b else { return true };
-    extent(*x, *y) < SMALL
-}
-
-/// Whether each divisor is positive and all numbers have 32 bits.
-pub(crate) fn are_small(a: &[i64], b: &[i64]) -> bool
-    requires { length b.now ≡ length a.now }
-    ensures { IsTrue result → AreSmall a.now b.now }
+/// Whether each divisor is positive and all numbers have 32 bits. The first ones are looked at before the others, since mostly all are alike.
+#[inline(always)]
+pub(crate) fn are_small<X: Line<i64>, Y: Line<i64>>(x: X, y: Y, count: usize) -> bool
+    requires x { (k : ℕ) → k < count → X.has x k }
+    requires y { (k : ℕ) → k < count → Y.has y k }
+    ensures { IsTrue result → AreSmall (X.number x) (Y.number y) count }
 {
+    if count == 0 || SMALL <= extent(x.at(0), y.at(0)) {
+        return count == 0;
+    }
     let mut far = 0u64;
-    for i in 0..a.len() {
-        far = wider(far, extent(a[i], b[i]));
+    for i in 0..count {
+        far = wider(far, extent(x.at(i), y.at(i)));
     }
     far < SMALL
 }
@@ -59,13 +58,14 @@ fn small_left(x: i64, y: i64) -> i64
 }
 
 /// Writes what is left at each place.
-pub(crate) fn fill_small(a: &[i64], b: &[i64], out: &mut [i64])
-    requires a { length a.now ≡ length out.old }
-    requires b { length b.now ≡ length out.old }
-    requires small { AreSmall a.now b.now }
-    ensures { AreValues (dyadic_of two.Residue) a.now b.now out.new }
+#[inline(always)]
+pub(crate) fn fill_small<X: Line<i64>, Y: Line<i64>>(x: X, y: Y, out: &mut [i64])
+    requires x { (k : ℕ) → k < length out.old → X.has x k }
+    requires y { (k : ℕ) → k < length out.old → Y.has y k }
+    requires small { AreSmall (X.number x) (Y.number y) (length out.old) }
+    ensures { AreValues (dyadic_of two.Residue) (X.number x) (Y.number y) out.new }
 {
     for i in 0..out.len() {
-        out[i] = small_left(a[i], b[i]);
+        out[i] = small_left(x.at(i), y.at(i));
     }
 }

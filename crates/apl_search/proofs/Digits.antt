@@ -66,6 +66,10 @@ row_below n w s p h k =
     let next : suc s * w ≡ s * w + w = omega arith in
     omega arith
 
+-- what the checks let through, as it was read
+pub read : (a b : Arr) (xs ys ws ds : List ℤ) (n : ℕ) → bases_and_digits a b ≡ Ok (xs, ys, n) → ws ≡ xs → ds ≡ ys → bases_and_digits a b ≡ Ok (ws, ds, n)
+read a b xs ys ws ds n e f g = rw (f, g) e
+
 -- each base is there
 pub bases_there : (a b : Arr) (ws ds : List ℤ) (n : ℕ) → bases_and_digits a b ≡ Ok (ws, ds, n) → (k : ℕ) → k < n → served (length ws) k < length ws
 bases_there a b ws ds n e k h =

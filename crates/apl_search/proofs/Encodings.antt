@@ -26,6 +26,10 @@ size_of-append (n ∷ s) t = ap (λ m. n * m) (size_of-append s t) ∙ turn n (s
     turn : (n a b : ℕ) → n * (a * b) ≡ (n * a) * b
     turn n a b = omega arith
 
+-- what the checks let through, as it was read
+pub read : (a b : Arr) (xs ys ws rs : List ℤ) → bases_and_numbers a b ≡ Ok (xs, ys) → ws ≡ xs → rs ≡ ys → bases_and_numbers a b ≡ Ok (ws, rs)
+read a b xs ys ws rs e f g = rw (f, g) e
+
 -- as many digits as the shape has index lists
 pub count : (a b : Arr) (ws rs : List ℤ) → bases_and_numbers a b ≡ Ok (ws, rs) → length (cells_of a.items) ≡ size_of a.shape → length (cells_of b.items) ≡ size_of b.shape →
     length ws * length rs ≡ size_of (a.shape ++ b.shape)

@@ -20,3 +20,4 @@ pub mod Loads
 pub mod Passes
 pub mod Sorts
 pub mod Mapped
+pub mod Slots

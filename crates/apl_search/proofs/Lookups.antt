@@ -1,10 +1,12 @@
 -- Lists of what was looked for.
-use Rattle.std.proofs.Common.{◌≡◌, ℕ, pos, suc, ◌+◌, ◌≤◌, Bool, true, false, not, nat_lt, cond, List, [], ◌∷◌, map, length, refl, ap, ◌∙◌, arith}
+use Rattle.std.proofs.Common.{◌≡◌, ℕ, ℤ, pos, suc, ◌+◌, ◌≤◌, Bool, true, false, not, nat_lt, cond, List, [], ◌∷◌, map, length, to_z, of_z, w8, refl, ap, ◌∙◌, arith}
+use mir.Val.{bool_byte}
 use Rattle.std.specs.Prelude.{nat_eq, ◌||◌}
 use Rattle.std.specs.Ordering.{int_eq}
 use Rattle.std.specs.List.{list_any, position_or_len}
 use Rattle.std.proofs.lemmas.Bool.{lt-ltb, ltb-true, ltb-false, eqb-true, eqb-false}
 use Rattle.std.proofs.lemmas.Bool.Decides.{nat_tests}
+use Rattle.apl_scalar.specs.Functions.{number_of}
 use Rattle.apl_search.proofs.Firsts.{within}
 
 -- an item that stands there has a place
@@ -38,3 +40,8 @@ place_of_code d (c ∷ cs) = ap (λ (b : Bool). cond (not b) (1 + position_or_le
 pub code_stands : (d : ℕ) (cs : List ℕ) → list_any (int_eq (pos d)) (map pos cs) ≡ list_any (nat_eq d) cs
 code_stands d [] = refl
 code_stands d (c ∷ cs) = ap (λ (b : Bool). b || list_any (int_eq (pos d)) (map pos cs)) (code_eq d c) ∙ ap (λ (b : Bool). nat_eq d c || b) (code_stands d cs)
+
+-- a verdict as a byte is its number
+pub kept : (b : Bool) (z : ℤ) → z ≡ pos (bool_byte b) → to_z w8 (of_z w8 z) ≡ number_of b
+kept true z e = ap (λ x. to_z w8 (of_z w8 x)) e
+kept false z e = ap (λ x. to_z w8 (of_z w8 x)) e

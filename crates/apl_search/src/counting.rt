@@ -1,11 +1,11 @@
 // The numbers up to a count.
-ghost use Rattle.std.specs.Prelude.{◌≡◌, ◌+◌, ◌^◌, ◌<◌, IfOk, map, pos};
+ghost use Rattle.std.specs.Prelude.{◌≡◌, ◌+◌, ◌^◌, ◌<◌, length, map, pos};
 ghost use Rattle.std.specs.List.{range_with_len};
 ghost use Rattle.apl_arrays.specs.Answers.{Answers, FaultsFirst};
 ghost use Rattle.apl_arrays.specs.Origins.{origin_number};
 ghost use Rattle.apl_search.specs.Counted.{natural, count_named, iota};
 
-use apl_arrays::{Array, Origin, Ravel, Stop, numbers_in, within_limits};
+use apl_arrays::{Array, NumberVec, Origin, Ravel, Stop, numbers_in, within_limits};
 use apl_faults::Fault;
 use std::alloc::{AllocError, Global};
 
@@ -30,23 +30,20 @@ fn count_in(b: &Array) -> Result<usize, Fault>
     if b.items().len() != 1 {
         return Err(Fault::Length);
     }
-    match numbers_in(b.items()) {
-        Ok([number]) => as_count(*number),
-        Ok(_) => Err(Fault::Length),
-        Err(fault) => Err(fault),
+    match numbers_in(b.items())?.only() {
+        Some(number) => as_count(number),
+        None => Err(Fault::Length),
     }
 }
 
-/// So many numbers from a number on.
-fn numbers_from(alloc: Global, first: usize, count: usize) -> Result<Vec<i64>, AllocError>
-    requires { first + count < 2 ^ 63 }
-    ensures { IfOk result (λ v. v.items ≡ map pos (range_with_len first count)) }
+/// Writes the numbers from a number on.
+fn count_up(numbers: &mut [i32], first: usize)
+    requires { first + length numbers.old < 2 ^ 31 }
+    ensures { numbers.new ≡ map pos (range_with_len first (length numbers.old)) }
 {
-    let mut numbers = Vec::with_capacity(alloc, count)?;
-    for number in first..first + count {
-        numbers.push(number as i64)?;
+    for k in 0..numbers.len() {
+        numbers[k] = (first + k) as i32;
     }
-    Ok(numbers)
 }
 
 /// The numbers from the index origin on, as many as an array of one number says, as a vector.
@@ -59,6 +56,7 @@ pub fn iota(alloc: Global, b: &Array, origin: Origin) -> Result<Array, Stop>
 {
     let count = count_in(b)?;
     within_limits(&[count])?;
-    let numbers = numbers_from(alloc, origin.number(), count)?;
-    Ok(Array::vector(alloc, Ravel::Nums(numbers))?)
+    let mut numbers = vec![in alloc; 0i32; count]?;
+    count_up(numbers.as_mut_slice(), origin.number());
+    Ok(Array::vector(alloc, Ravel::Nums(NumberVec::I32(numbers)))?)
 }

@@ -2,12 +2,13 @@
 ghost use Rattle.std.specs.Prelude.{◌≡◌, ℕ, ◌+◌, ◌*◌, ◌<◌, ◌+ℤ◌, ◌*ℤ◌, pos, length, map, slice_index_or};
 ghost use Rattle.std.specs.List.{range_with_len};
 ghost use Rattle.apl_arrays.specs.Answers.{Answers, FaultsFirst};
+ghost use Rattle.apl_arrays.specs.Numbers.{values};
 ghost use Rattle.apl_arrays.specs.Results.{all_ok, ok_map};
 ghost use Rattle.apl_scalar.specs.Functions.{in_range};
 ghost use Rattle.apl_search.specs.Decoded.{bases_and_digits, decode, first_length, joined_count, served, shape_behind, valued};
 ghost use Rattle.apl_search.specs.inside.Flat.{pair_at, value_by};
 
-use apl_arrays::{Array, Ravel, Stop, numbers_in, size};
+use apl_arrays::{Array, NumberSlice, Ravel, Stop, numbers_in, size};
 use apl_faults::Fault;
 use std::alloc::Global;
 
@@ -99,7 +100,7 @@ fn value_at(
 }
 
 /// The values for all places below `width`.
-fn values(
+fn values_of(
     alloc: Global,
     bases: &[i64],
     digits: &[i64],
@@ -142,8 +143,11 @@ fn behind(shape: &[usize]) -> &[usize]
 }
 
 /// The bases and the digits as numbers, and how many there are for each value.
-fn operands<'a>(a: &'a Array, b: &'a Array) -> Result<(&'a [i64], &'a [i64], usize), Fault>
-    ensures { bases_and_digits a.now b.now ≡ ok_map (λ r. (r.0.now, r.1.now, r.2)) result }
+fn operands<'a>(
+    a: &'a Array,
+    b: &'a Array,
+) -> Result<(NumberSlice<'a>, NumberSlice<'a>, usize), Fault>
+    ensures { bases_and_digits a.now b.now ≡ ok_map (λ r. (values r.0, values r.1, r.2)) result }
 {
     if a.rank() > 1 {
         return Err(Fault::Rank);
@@ -167,13 +171,15 @@ pub fn decode(alloc: Global, a: &Array, b: &Array) -> Result<Array, Stop>
 {
     let (bases, digits, count) = operands(a, b)?;
     let shape = behind(b.shape());
-    let values = values(
+    let wide_bases = bases.wide(alloc)?;
+    let wide_digits = digits.wide(alloc)?;
+    let values = values_of(
         alloc,
-        bases,
-        digits,
+        wide_bases.as_slice(),
+        wide_digits.as_slice(),
         length_along(b.shape()),
         size(shape),
         count,
     )?;
-    Ok(Array::in_shape(alloc, shape, Ravel::Nums(values))?)
+    Ok(Array::in_shape(alloc, shape, Ravel::wide(values))?)
 }

@@ -1,6 +1,7 @@
 // Digits of numbers by bases, a row of them for each base.
 ghost use Rattle.std.specs.Prelude.{◌≡◌, ◌*◌, ◌^◌, ◌<◌, OnOk, IfErr, length, pos, slice_index_or};
 ghost use Rattle.apl_arrays.specs.Answers.{Answers, FaultsFirst};
+ghost use Rattle.apl_arrays.specs.Numbers.{values};
 ghost use Rattle.apl_arrays.specs.Results.{all_ok, and_then, ok_map};
 ghost use Rattle.apl_scalar.specs.Functions.{in_range};
 ghost use Rattle.apl_search.specs.Encoded.{bases_and_numbers, digits_by, encode, encoded_shape, IsNear};
@@ -8,7 +9,9 @@ ghost use Rattle.apl_search.specs.inside.Rows.{HasDigits, KeepsBefore, LacksDigi
 
 use crate::decoding::narrowed;
 use crate::dividing::divided;
-use apl_arrays::{Array, Ravel, Stop, joined_shape, numbers_in, within_limits};
+use apl_arrays::{
+    Array, NumberSlice, NumberVec, Ravel, Stop, joined_shape, numbers_in, within_limits,
+};
 use apl_faults::Fault;
 use std::alloc::Global;
 
@@ -58,8 +61,8 @@ fn digits_of(alloc: Global, bases: &[i64], numbers: &[i64]) -> Result<Vec<i64>, 
 }
 
 /// The bases and the numbers to write by them.
-fn operands<'a>(a: &'a Array, b: &'a Array) -> Result<(&'a [i64], &'a [i64]), Fault>
-    ensures { bases_and_numbers a.now b.now ≡ ok_map (λ r. (r.0.now, r.1.now)) result }
+fn operands<'a>(a: &'a Array, b: &'a Array) -> Result<(NumberSlice<'a>, NumberSlice<'a>), Fault>
+    ensures { bases_and_numbers a.now b.now ≡ ok_map (λ r. (values r.0, values r.1)) result }
 {
     if a.rank() > 1 {
         return Err(Fault::Rank);
@@ -84,6 +87,9 @@ pub fn encode(alloc: Global, a: &Array, b: &Array) -> Result<Array, Stop>
     let joined = joined_shape(a.shape(), b.shape());
     let shape = joined.as_slice();
     within_limits(shape)?;
-    let digits = digits_of(alloc, bases, numbers)?;
-    Ok(Array::in_shape(alloc, shape, Ravel::Nums(digits))?)
+    let wide_bases = bases.wide(alloc)?;
+    let wide_numbers = numbers.wide(alloc)?;
+    let digits = digits_of(alloc, wide_bases.as_slice(), wide_numbers.as_slice())?;
+    let kept = NumberVec::squeezed(alloc, digits)?;
+    Ok(Array::in_shape(alloc, shape, Ravel::Nums(kept))?)
 }

@@ -1,6 +1,7 @@
 //! Functions that count, order, look up and write numbers by bases.
 #![tactic(auto)]
 
+mod bytes;
 mod counting;
 mod dealing;
 mod decoding;

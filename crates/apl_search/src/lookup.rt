@@ -1,103 +1,151 @@
 // Items looked up among others.
-ghost use Rattle.std.specs.Prelude.{◌≡◌, ◌+◌, ◌<◌, ◌≤◌, ◌^◌, length, map, pos, replicate, IfOk};
+ghost use Rattle.std.specs.Prelude.{◌≡◌, ◌+◌, ◌<◌, ◌≤◌, ◌^◌, length, map, pos, IfOk};
 ghost use Rattle.std.specs.Ordering.{int_eq};
 ghost use Rattle.std.specs.List.{list_any, position_or_len};
+ghost use Rattle.apl_arrays.specs.Numbers.{values};
 ghost use Rattle.apl_arrays.specs.Origins.{origin_number};
 ghost use Rattle.apl_scalar.specs.Functions.{number_of};
 ghost use Rattle.apl_search.specs.inside.Tables.{IsIndexOf, IsStandingOf};
 
+use crate::bytes::{both_bytes, byte_places, bytes_standing};
 use crate::index::Index;
 use crate::standing::Standing;
-use apl_arrays::{MAX_ELEMENTS, Origin};
+use apl_arrays::{Lane, MAX_ELEMENTS, NumberSlice, Origin};
 use apl_charset::Ch;
 use std::alloc::{AllocError, Global};
 
 /// The codes of characters.
-pub(crate) fn codes_of(alloc: Global, characters: &[Ch]) -> Result<Vec<i64>, AllocError>
+pub(crate) fn codes_of(alloc: Global, characters: &[Ch]) -> Result<Vec<i32>, AllocError>
     ensures { IfOk result (λ v. v.items ≡ map pos characters.now) }
 {
     let mut codes = Vec::with_capacity(alloc, characters.len())?;
     for character in characters {
-        codes.push(i64::from(character.code() as u32))?;
+        codes.push(character.code() as i32)?;
     }
     Ok(codes)
-}
-
-/// The same number so many times.
-pub(crate) fn repeated(alloc: Global, number: i64, count: usize) -> Result<Vec<i64>, AllocError>
-    ensures { IfOk result (λ v. v.items ≡ replicate count number) }
-{
-    let numbers = vec![in alloc; number; count]?;
-    Ok(numbers)
 }
 
 /// For each number its first place among others, or how many these are, counted from the index origin.
 pub(crate) fn places_among(
     alloc: Global,
-    sought: &[i64],
-    among: &[i64],
+    sought: NumberSlice<'_>,
+    among: NumberSlice<'_>,
     origin: Origin,
-) -> Result<Vec<i64>, AllocError>
-    requires { length among.now ≤ MAX_ELEMENTS }
-    ensures { IfOk result (λ v. v.items ≡ map (λ y. pos (origin_number origin + position_or_len (int_eq y) among.now)) sought.now) }
+) -> Result<Vec<i32>, AllocError>
+    requires { length (values among) ≤ MAX_ELEMENTS }
+    ensures { IfOk result (λ v. v.items ≡ map (λ y. pos (origin_number origin + position_or_len (int_eq y) (values among.entry))) (values sought.entry)) }
 {
+    let mut places = vec![in alloc; 0i32; sought.len()]?;
+    let first = origin.number();
+    if let Some((sought, among)) = both_bytes(sought, among) {
+        byte_places(sought, among, first, places.as_mut_slice());
+        return Ok(places);
+    }
     let index = Index::of(alloc, among, sought.len())?;
-    places_by(alloc, &index, sought, among, origin.number())
+    // Apart, so that the loop over a table has no branch for another index.
+    if let Index::Close(_) = index {
+        places_by(&index, sought, among, first, places.as_mut_slice());
+        return Ok(places);
+    }
+    places_by(&index, sought, among, first, places.as_mut_slice());
+    Ok(places)
 }
 
-/// The same by the others' index, counted from a number on.
+/// Writes the same by the others' index, counted from a number on.
+#[inline(always)]
 fn places_by(
-    alloc: Global,
     index: &Index,
-    sought: &[i64],
-    among: &[i64],
+    sought: NumberSlice<'_>,
+    among: NumberSlice<'_>,
     first: usize,
-) -> Result<Vec<i64>, AllocError>
-    requires index { IsIndexOf index.now among.now }
-    requires small { first + length among.now < 2 ^ 63 }
-    ensures { IfOk result (λ v. v.items ≡ map (λ y. pos (first + position_or_len (int_eq y) among.now)) sought.now) }
+    places: &mut [i32],
+)
+    requires index { IsIndexOf index.now (values among) }
+    requires small { first + length (values among) < 2 ^ 31 }
+    requires room { length places.old ≡ length (values sought) }
+    ensures { places.new ≡ map (λ y. pos (first + position_or_len (int_eq y) (values among.entry))) (values sought.entry) }
 {
-    let mut places = Vec::with_capacity(alloc, sought.len())?;
-    for number in sought {
-        places.push((first + index.first_place(among, *number)) as i64)?;
+    match sought {
+        NumberSlice::I8(sought) => write_places(index, sought, among, first, places),
+        NumberSlice::I32(sought) => write_places(index, sought, among, first, places),
+        NumberSlice::I64(sought) => write_places(index, sought, among, first, places),
     }
-    Ok(places)
+}
+
+/// The same of numbers of one type.
+#[inline(always)]
+fn write_places<L: Lane>(
+    index: &Index,
+    sought: &[L],
+    among: NumberSlice<'_>,
+    first: usize,
+    places: &mut [i32],
+)
+    requires index { IsIndexOf index.now (values among) }
+    requires small { first + length (values among) < 2 ^ 31 }
+    requires room { length places.old ≡ length sought.now }
+    ensures { places.new ≡ map (λ y. pos (first + position_or_len (int_eq y) (values among.entry))) (L.numbers sought.now) }
+{
+    for k in 0..places.len() {
+        places[k] = (first + index.first_place(among, sought[k].wide())) as i32;
+    }
 }
 
 /// For each number 1 where it stands among others, else 0.
 pub(crate) fn standing_among(
     alloc: Global,
-    sought: &[i64],
-    among: &[i64],
-) -> Result<Vec<i64>, AllocError>
-    ensures { IfOk result (λ v. v.items ≡ map (λ x. number_of (list_any (int_eq x) among.now)) sought.now) }
+    sought: NumberSlice<'_>,
+    among: NumberSlice<'_>,
+) -> Result<Vec<i8>, AllocError>
+    ensures { IfOk result (λ v. v.items ≡ map (λ x. number_of (list_any (int_eq x) (values among.entry))) (values sought.entry)) }
 {
-    let standing = Standing::of(alloc, among, sought.len())?;
-    standing_by(alloc, &standing, sought, among)
-}
-
-/// The same by how it is found.
-fn standing_by(
-    alloc: Global,
-    standing: &Standing,
-    sought: &[i64],
-    among: &[i64],
-) -> Result<Vec<i64>, AllocError>
-    requires { IsStandingOf standing.now among.now }
-    ensures { IfOk result (λ v. v.items ≡ map (λ x. number_of (list_any (int_eq x) among.now)) sought.now) }
-{
-    let mut verdicts = Vec::with_capacity(alloc, sought.len())?;
-    for number in sought {
-        verdicts.push(verdict(standing, among, *number))?;
+    let mut verdicts = vec![in alloc; 0i8; sought.len()]?;
+    if let Some((sought, among)) = both_bytes(sought, among) {
+        bytes_standing(sought, among, verdicts.as_mut_slice());
+        return Ok(verdicts);
     }
+    let standing = Standing::of(alloc, among, sought.len())?;
+    // Apart, so that the loop over marks has no branch for an index.
+    if let Standing::Marked(_) = standing {
+        standing_by(&standing, sought, among, verdicts.as_mut_slice());
+        return Ok(verdicts);
+    }
+    standing_by(&standing, sought, among, verdicts.as_mut_slice());
     Ok(verdicts)
 }
 
-/// 1 where a number stands among these, else 0.
+/// Writes the same by how it is found.
 #[inline(always)]
-fn verdict(standing: &Standing, numbers: &[i64], number: i64) -> i64
-    requires { IsStandingOf standing.now numbers.now }
-    ensures { result ≡ number_of (list_any (int_eq number) numbers.now) }
+fn standing_by(
+    standing: &Standing,
+    sought: NumberSlice<'_>,
+    among: NumberSlice<'_>,
+    verdicts: &mut [i8],
+)
+    requires standing { IsStandingOf standing.now (values among) }
+    requires room { length verdicts.old ≡ length (values sought) }
+    ensures { verdicts.new ≡ map (λ x. number_of (list_any (int_eq x) (values among.entry))) (values sought.entry) }
 {
-    i64::from(standing.has(numbers, number))
+    match sought {
+        NumberSlice::I8(sought) => write_verdicts(standing, sought, among, verdicts),
+        NumberSlice::I32(sought) => write_verdicts(standing, sought, among, verdicts),
+        NumberSlice::I64(sought) => write_verdicts(standing, sought, among, verdicts),
+    }
+}
+
+/// The same of numbers of one type.
+#[inline(always)]
+fn write_verdicts<L: Lane>(
+    standing: &Standing,
+    sought: &[L],
+    among: NumberSlice<'_>,
+    verdicts: &mut [i8],
+)
+    requires standing { IsStandingOf standing.now (values among) }
+    requires room { length verdicts.old ≡ length sought.now }
+    ensures { verdicts.new ≡ map (λ x. number_of (list_any (int_eq x) (values among.entry))) (L.numbers sought.now) }
+{
+    for k in 0..verdicts.len() {
+        verdicts[k] = i8::from(standing.has(among, sought[k].wide()));
+    }
 }

@@ -2,9 +2,11 @@
 ghost use Rattle.std.specs.Prelude.{◌≡◌, length, replicate, false, List, ℤ, IfOk, IfSome};
 ghost use Rattle.std.specs.Ordering.{int_eq};
 ghost use Rattle.std.specs.List.{All, list_any};
+ghost use Rattle.apl_arrays.specs.Numbers.{values};
 ghost use Rattle.apl_search.specs.inside.Tables.{AreMarks, IsMarksOf, IsWithin, Spans};
 
 use crate::table::{Span, plan};
+use apl_arrays::NumberSlice;
 use std::alloc::{AllocError, Global};
 
 /// Whether a number stands among others, in a slot for each from the smallest of these to the largest.
@@ -15,21 +17,21 @@ pub(crate) struct Marks {
 }
 
 /// Marks the slot of each number, where none is marked.
-fn mark(marks: &mut [bool], span: Span, numbers: &[i64])
-    requires within { All (IsWithin span) numbers.now }
+pub(crate) fn mark(marks: &mut [bool], span: Span, numbers: NumberSlice<'_>)
+    requires within { All (IsWithin span) (values numbers) }
     requires slots { Spans span (length marks.old) }
     requires none { marks.old ≡ replicate (length marks.old) false }
-    ensures { AreMarks span.smallest marks.new numbers.now }
+    ensures { AreMarks span.smallest marks.new (values numbers.entry) }
 {
-    for number in numbers {
-        marks[span.slot(*number)] = true;
+    for place in 0..numbers.len() {
+        marks[span.slot(numbers.at(place))] = true;
     }
 }
 
 impl Marks {
     /// The marks of numbers. There are none where these lie far apart.
-    pub(crate) fn of(alloc: Global, numbers: &[i64]) -> Result<Option<Marks>, AllocError>
-        ensures { IfOk result (λ made. IfSome made (λ marks. IsMarksOf marks numbers.now)) }
+    pub(crate) fn of(alloc: Global, numbers: NumberSlice<'_>) -> Result<Option<Marks>, AllocError>
+        ensures { IfOk result (λ made. IfSome made (λ marks. IsMarksOf marks (values numbers.entry))) }
     {
         let Some((span, slots, _)) = plan(numbers) else {
             return Ok(None);

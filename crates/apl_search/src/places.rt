@@ -1,64 +1,37 @@
 // First places of items among others.
 ghost use Rattle.std.specs.Prelude.{◌≡◌, ◌==◌, ◌≤◌, length, IfOk};
 ghost use Rattle.apl_arrays.specs.Answers.{Answers, FaultsFirst};
-ghost use Rattle.apl_arrays.specs.Cells.{cells_of, Numbers, Characters};
+ghost use Rattle.apl_arrays.specs.Cells.{cells_of, Characters};
 ghost use Rattle.apl_arrays.specs.Checks.{demand};
 ghost use Rattle.apl_arrays.specs.Left.{listed};
 ghost use Rattle.apl_arrays.specs.Origins.{origin_number};
 ghost use Rattle.apl_search.specs.Found.{index_of, places_from};
 
-use crate::lookup::{codes_of, places_among, repeated};
-use apl_arrays::{Array, Elements, MAX_ELEMENTS, Origin, Ravel, Stop};
+use crate::lookup::{codes_of, places_among};
+use apl_arrays::{Array, Elements, MAX_ELEMENTS, NumberSlice, NumberVec, Origin, Ravel, Stop};
 use apl_charset::Ch;
 use apl_faults::Fault;
 use std::alloc::{AllocError, Global};
 
-/// For each item its first place among numbers, or how many these are, counted from the index origin.
-fn places_in_numbers(
+/// For each character its first place among others, or how many these are, counted from the index origin.
+fn character_places(
     alloc: Global,
-    sought: Elements<'_>,
-    among: &[i64],
-    origin: Origin,
-) -> Result<Vec<i64>, AllocError>
-    requires { length among.now ≤ MAX_ELEMENTS }
-    ensures { IfOk result (λ v. v.items ≡ places_from (origin_number origin) (Numbers among.now) (listed sought.entry)) }
-{
-    match sought {
-        Elements::Nums(numbers) => {
-            let places = places_among(alloc, numbers, among, origin)?;
-            Ok(places)
-        }
-        Elements::Chars(characters) => {
-            let none = (origin.number() + among.len()) as i64;
-            let places = repeated(alloc, none, characters.len())?;
-            Ok(places)
-        }
-    }
-}
-
-/// For each item its first place among characters, or how many these are, counted from the index origin.
-fn places_in_characters(
-    alloc: Global,
-    sought: Elements<'_>,
+    sought: &[Ch],
     among: &[Ch],
     origin: Origin,
-) -> Result<Vec<i64>, AllocError>
+) -> Result<Vec<i32>, AllocError>
     requires { length among.now ≤ MAX_ELEMENTS }
-    ensures { IfOk result (λ v. v.items ≡ places_from (origin_number origin) (Characters among.now) (listed sought.entry)) }
+    ensures { IfOk result (λ v. v.items ≡ places_from (origin_number origin) (Characters among.now) (Characters sought.now)) }
 {
-    match sought {
-        Elements::Nums(numbers) => {
-            let none = (origin.number() + among.len()) as i64;
-            let places = repeated(alloc, none, numbers.len())?;
-            Ok(places)
-        }
-        Elements::Chars(characters) => {
-            let codes = codes_of(alloc, among)?;
-            let wanted = codes_of(alloc, characters)?;
-            let places = places_among(alloc, wanted.as_slice(), codes.as_slice(), origin)?;
-            Ok(places)
-        }
-    }
+    let among = codes_of(alloc, among)?;
+    let sought = codes_of(alloc, sought)?;
+    let places = places_among(
+        alloc,
+        NumberSlice::I32(sought.as_slice()),
+        NumberSlice::I32(among.as_slice()),
+        origin,
+    )?;
+    Ok(places)
 }
 
 /// For each item its first place among others, or how many these are, counted from the index origin.
@@ -67,19 +40,20 @@ fn places_in(
     sought: Elements<'_>,
     among: Elements<'_>,
     origin: Origin,
-) -> Result<Vec<i64>, AllocError>
+) -> Result<Vec<i32>, AllocError>
     requires { length (cells_of (listed among)) ≤ MAX_ELEMENTS }
     ensures { IfOk result (λ v. v.items ≡ places_from (origin_number origin) (listed among.entry) (listed sought.entry)) }
 {
+    let none = (origin.number() + among.len()) as i32;
     match among {
-        Elements::Nums(numbers) => {
-            let places = places_in_numbers(alloc, sought, numbers, origin)?;
-            Ok(places)
-        }
-        Elements::Chars(characters) => {
-            let places = places_in_characters(alloc, sought, characters, origin)?;
-            Ok(places)
-        }
+        Elements::Nums(among) => match sought {
+            Elements::Nums(sought) => places_among(alloc, sought, among, origin),
+            Elements::Chars(sought) => vec![in alloc; none; sought.len()],
+        },
+        Elements::Chars(among) => match sought {
+            Elements::Nums(sought) => vec![in alloc; none; sought.len()],
+            Elements::Chars(sought) => character_places(alloc, sought, among, origin),
+        },
     }
 }
 
@@ -104,5 +78,5 @@ pub fn index_of(alloc: Global, a: &Array, b: &Array, origin: Origin) -> Result<A
 {
     one_axis(a)?;
     let places = places_in(alloc, b.items(), a.items(), origin)?;
-    Ok(b.with_ravel(alloc, Ravel::Nums(places))?)
+    Ok(b.with_ravel(alloc, Ravel::Nums(NumberVec::I32(places)))?)
 }

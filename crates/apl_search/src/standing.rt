@@ -2,10 +2,12 @@
 ghost use Rattle.std.specs.Prelude.{◌≡◌, IfOk};
 ghost use Rattle.std.specs.Ordering.{int_eq};
 ghost use Rattle.std.specs.List.{list_any};
+ghost use Rattle.apl_arrays.specs.Numbers.{values};
 ghost use Rattle.apl_search.specs.inside.Tables.{IsIndexOf, IsStandingOf};
 
 use crate::index::{FEW, Index};
 use crate::marks::Marks;
+use apl_arrays::NumberSlice;
 use std::alloc::{AllocError, Global};
 
 /// How it is found whether a number stands among others.
@@ -19,8 +21,12 @@ pub(crate) enum Standing {
 
 impl Standing {
     /// How it is found among these numbers, of so many: by marks where these lie close together.
-    pub(crate) fn of(alloc: Global, numbers: &[i64], asked: usize) -> Result<Standing, AllocError>
-        ensures { IfOk result (λ standing. IsStandingOf standing numbers.now) }
+    pub(crate) fn of(
+        alloc: Global,
+        numbers: NumberSlice<'_>,
+        asked: usize,
+    ) -> Result<Standing, AllocError>
+        ensures { IfOk result (λ standing. IsStandingOf standing (values numbers.entry)) }
     {
         if FEW < asked {
             if let Some(marks) = Marks::of(alloc, numbers)? {
@@ -32,9 +38,9 @@ impl Standing {
 
     /// Whether a number stands among these.
     #[inline(always)]
-    pub(crate) fn has(&self, numbers: &[i64], number: i64) -> bool
-        requires { IsStandingOf self.now numbers.now }
-        ensures { result ≡ list_any (int_eq number) numbers.now }
+    pub(crate) fn has(&self, numbers: NumberSlice<'_>, number: i64) -> bool
+        requires { IsStandingOf self.now (values numbers) }
+        ensures { result ≡ list_any (int_eq number) (values numbers.entry) }
     {
         match self {
             Standing::Marked(marks) => marks.has(number),
@@ -45,9 +51,9 @@ impl Standing {
 
 /// Whether a number has a place among these, by their index.
 #[inline(always)]
-fn has_place(index: &Index, numbers: &[i64], number: i64) -> bool
-    requires { IsIndexOf index.now numbers.now }
-    ensures { result ≡ list_any (int_eq number) numbers.now }
+fn has_place(index: &Index, numbers: NumberSlice<'_>, number: i64) -> bool
+    requires { IsIndexOf index.now (values numbers) }
+    ensures { result ≡ list_any (int_eq number) (values numbers.entry) }
 {
     index.first_place(numbers, number) < numbers.len()
 }

@@ -2,8 +2,10 @@
 ghost use Rattle.std.specs.Prelude.{◌≡◌, ◌≤◌, ◌<◌, ◌^◌, ℕ, ◌+ℤ◌, ◌-ℤ◌, ◌<ℤ◌, pos, length, replicate, IfOk, IfSome};
 ghost use Rattle.std.specs.Ordering.{int_eq};
 ghost use Rattle.std.specs.List.{All, position_or_len};
+ghost use Rattle.apl_arrays.specs.Numbers.{values};
 ghost use Rattle.apl_search.specs.inside.Tables.{AreFirsts, IsTableOf, IsWithin, Spans};
 
+use apl_arrays::NumberSlice;
 use std::alloc::{AllocError, Global};
 
 /// How many slots a table may have for each number.
@@ -28,15 +30,16 @@ pub(crate) struct Table {
 
 impl Span {
     /// From the smallest of numbers to their largest.
-    fn of(numbers: &[i64]) -> Option<Span>
-        ensures { IfSome result (λ span. All (IsWithin span) numbers.now) }
+    fn of(numbers: NumberSlice<'_>) -> Option<Span>
+        ensures { IfSome result (λ span. All (IsWithin span) (values numbers.entry)) }
     {
-        let first = *numbers.first()?;
+        let first = numbers.get(0)?;
         let mut smallest = first;
         let mut largest = first;
-        for number in numbers {
-            smallest = smallest.min(*number);
-            largest = largest.max(*number);
+        for place in 0..numbers.len() {
+            let number = numbers.at(place);
+            smallest = smallest.min(number);
+            largest = largest.max(number);
         }
         Some(Span { smallest, largest })
     }
@@ -65,10 +68,10 @@ impl Span {
 }
 
 /// From the smallest of numbers to their largest, how many numbers these are, and what a slot holds where none of the numbers stands; if a table has room for them.
-pub(crate) fn plan(numbers: &[i64]) -> Option<(Span, usize, u32)>
-    ensures within { IfSome result (λ r. All (IsWithin r.0) numbers.now) }
+pub(crate) fn plan(numbers: NumberSlice<'_>) -> Option<(Span, usize, u32)>
+    ensures within { IfSome result (λ r. All (IsWithin r.0) (values numbers.entry)) }
     ensures slots { IfSome result (λ r. Spans r.0 r.1) }
-    ensures none { IfSome result (λ r. r.2 ≡ length numbers.now) }
+    ensures none { IfSome result (λ r. r.2 ≡ length (values numbers.entry)) }
 {
     let span = Span::of(numbers)?;
     let slots = span.slots(numbers.len())?;
@@ -77,22 +80,22 @@ pub(crate) fn plan(numbers: &[i64]) -> Option<(Span, usize, u32)>
 }
 
 /// Puts into the slot of each number its first place, where each slot holds how many numbers there are.
-fn enter(firsts: &mut [u32], span: Span, numbers: &[i64])
-    requires few { length numbers.now < 2 ^ 32 }
-    requires within { All (IsWithin span) numbers.now }
+pub(crate) fn enter(firsts: &mut [u32], span: Span, numbers: NumberSlice<'_>)
+    requires few { length (values numbers) < 2 ^ 32 }
+    requires within { All (IsWithin span) (values numbers) }
     requires slots { Spans span (length firsts.old) }
-    requires none { firsts.old ≡ replicate (length firsts.old) (length numbers.now) }
-    ensures { AreFirsts span.smallest firsts.new 0 numbers.now }
+    requires none { firsts.old ≡ replicate (length firsts.old) (length (values numbers)) }
+    ensures { AreFirsts span.smallest firsts.new 0 (values numbers.entry) }
 {
     for place in (0..numbers.len()).rev() {
-        firsts[span.slot(numbers[place])] = place as u32;
+        firsts[span.slot(numbers.at(place))] = place as u32;
     }
 }
 
 impl Table {
     /// The table of numbers. There is none where they lie far apart.
-    pub(crate) fn of(alloc: Global, numbers: &[i64]) -> Result<Option<Table>, AllocError>
-        ensures { IfOk result (λ made. IfSome made (λ table. IsTableOf table numbers.now)) }
+    pub(crate) fn of(alloc: Global, numbers: NumberSlice<'_>) -> Result<Option<Table>, AllocError>
+        ensures { IfOk result (λ made. IfSome made (λ table. IsTableOf table (values numbers.entry))) }
     {
         let Some((span, slots, none)) = plan(numbers) else {
             return Ok(None);
@@ -104,10 +107,10 @@ impl Table {
 
     /// The first place of a number among those of the table, or how many they are.
     #[inline(always)]
-    pub(crate) fn first_place(&self, numbers: &[i64], number: i64) -> usize
-        requires { IsTableOf self.now numbers.now }
-        ensures value { result ≡ position_or_len (int_eq number) numbers.now }
-        ensures within { result ≤ length numbers.now }
+    pub(crate) fn first_place(&self, numbers: NumberSlice<'_>, number: i64) -> usize
+        requires { IsTableOf self.now (values numbers) }
+        ensures value { result ≡ position_or_len (int_eq number) (values numbers.entry) }
+        ensures within { result ≤ length (values numbers.entry) }
     {
         if number < self.span.smallest || self.span.largest < number {
             return numbers.len();

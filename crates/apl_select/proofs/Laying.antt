@@ -1,5 +1,5 @@
 -- Places of an axis laid plane by plane, each with a block of the axes behind.
-use Rattle.std.proofs.Common.{zero, suc, ◌≡◌, ℕ, ◌+◌, ◌*◌, ◌<◌, ◌≤◌, List, [], ◌∷◌, map, take, drop, length, get_or, refl, ap, sym, ◌∙◌, arith, append-nil, ◌-◌, ◌^◌, replicate, ℤ, max, add-one, Option, None, Some}
+use Rattle.std.proofs.Common.{zero, suc, ◌≡◌, ℕ, ◌+◌, ◌*◌, ◌<◌, ◌≤◌, List, [], ◌∷◌, map, take, drop, length, get_or, refl, ap, sym, ◌∙◌, arith, append-nil, ◌-◌, ◌^◌, replicate, ℤ, pos, max, add-one, Option, None, Some}
 use Rattle.std.specs.Option.{option_map}
 use Rattle.std.specs.List.{flat_map, range_with_len, All}
 use Rattle.std.proofs.lemmas.Grind.{common_steps}
@@ -11,6 +11,7 @@ use Rattle.std.proofs.lemmas.List.{length-map}
 use Rattle.apl_arrays.specs.declared.cell.Cell.TheVariants.{Num, Char}
 use Rattle.apl_arrays.specs.Cells.{Items, Numbers, Characters, cells_of}
 use Rattle.apl_arrays.specs.Index.{size_of, bound_of, indices, position_in}
+use Rattle.apl_arrays.specs.Structural.{made_of}
 use Rattle.apl_arrays.proofs.Places.{bound_of-pos, mul_low}
 use Rattle.apl_arrays.specs.Views.{on_axis}
 use Rattle.apl_arrays.proofs.Order.{map_map, map_by_places, places_in_order}
@@ -213,11 +214,11 @@ layout_laid fill xs s axis planes len block places l e f g =
     ∙ ap (λ n. planes_of (item_or fill xs) (get_or s axis 0) n places (size_of (take axis s))) (g ∙ ap (λ k. size_of (drop k s)) (add-one axis))
     ∙ sym (laid_out (item_or fill xs) axis s places l)
 
-pub numbers_count : (items : Items) (zs : List ℤ) (n : ℕ) → length (cells_of items) ≡ n → items ≡ Numbers zs → length zs ≡ n
-numbers_count items zs n full e = sym (length-map zs Num) ∙ sym (ap (λ (t : Items). length (cells_of t)) e) ∙ full
-
-pub characters_count : (items : Items) (cs : List ℕ) (n : ℕ) → length (cells_of items) ≡ n → items ≡ Characters cs → length cs ≡ n
-characters_count items cs n full e = sym (length-map cs Char) ∙ sym (ap (λ (t : Items). length (cells_of t)) e) ∙ full
+-- what is laid of elements
+pub made_laid : (items : Items) (s : List ℕ) (axis planes len block : ℕ) (places : List (Option ℕ)) → axis < length s → planes ≡ size_of (take axis s) → len ≡ get_or s axis 0 → block ≡ size_of (drop (axis + 1) s) →
+    made_of (λ A d fill xs. planes_of (item_or fill xs) len block places planes) items ≡ filled items (source_of s axis places) (indices (on_axis axis (λ n. length places) s))
+made_laid (Numbers zs) s axis planes len block places l e f g = ap (λ (t : List ℤ). Numbers t) (layout_laid (pos 0) zs s axis planes len block places l e f g)
+made_laid (Characters cs) s axis planes len block places l e f g = ap (λ (t : List ℕ). Characters t) (layout_laid 32 cs s axis planes len block places l e f g)
 
 -- one length changed
 pub set_axis : (s : List ℕ) (axis m : ℕ) → slice_set s axis m ≡ on_axis axis (λ n. m) s

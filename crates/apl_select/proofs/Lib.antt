@@ -13,3 +13,5 @@ pub mod Assigned
 pub mod SinglePlace
 pub mod Vectors
 pub mod NextPlace
+pub mod Lanes
+pub mod Masks

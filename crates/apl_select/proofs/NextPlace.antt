@@ -8,15 +8,17 @@ use Rattle.std.proofs.lemmas.List.{get_or_read, map-append, length-map}
 use Rattle.std.proofs.lemmas.List.FromFn.{length-range_with_len}
 use Rattle.std.proofs.lemmas.List.Sums.{length-filter}
 use Rattle.apl_faults.specs.declared.fault.Fault.TheVariants.{Limit}
-use Rattle.apl_arrays.specs.Cells.{Arr, Items, cells_of}
+use Rattle.apl_arrays.specs.Cells.{Arr, Items, Numbers, Characters, cells_of}
 use Rattle.apl_arrays.specs.Checks.{demand}
 use Rattle.apl_arrays.specs.Index.{indices}
 use Rattle.apl_arrays.specs.Results.{ok_map}
 use Rattle.apl_arrays.specs.Simple.{vector}
+use Rattle.apl_arrays.specs.Structural.{made_of}
 use Rattle.apl_arrays.specs.Views.{on_axis}
 use Rattle.apl_arrays.proofs.Order.{length-indices}
 use Rattle.apl_select.specs.Compress.{is_one, kept}
 use Rattle.apl_select.specs.inside.Laying.{plane_of}
+use Rattle.apl_select.specs.inside.Masks.{kept_all}
 use Rattle.apl_select.specs.Lined.{item_or, laid, laid_within, place_served}
 use Rattle.apl_select.proofs.Choosing.{kept_more}
 use Rattle.apl_select.proofs.Laying.{layout_laid, length-filled, plane_single, source_of}
@@ -118,6 +120,11 @@ vector_laid {A = A} fill xs n places =
     none : (o : Option ℕ) → option_map (λ k. 0 * n + k) o ≡ o
     none None = refl
     none (Some k) = ap (λ (j : ℕ). Some j) (turn k)
+
+-- the elements at ones are those that are laid
+pub kept_laid : (bits : List ℤ) (items : Items) → made_of (λ A d fill xs. map (item_or fill xs) (kept_all bits)) items ≡ (laid 0 (kept_all bits) (record { shape = length bits ∷ []; items = items })).items
+kept_laid bits (Numbers zs) = ap (λ (l : List ℤ). Numbers l) (vector_laid (pos 0) zs (length bits) (kept_all bits))
+kept_laid bits (Characters cs) = ap (λ (l : List ℕ). Characters l) (vector_laid 32 cs (length bits) (kept_all bits))
 
 -- no more than the bits are kept
 fewer_pass : (p : ℕ → Bool) (xs : List ℕ) → length (filter p xs) ≤ length xs

@@ -1,13 +1,15 @@
 -- What slots reach axis after axis is what the index lists of their joined shape lead to.
-use Rattle.std.proofs.Common.{zero, suc, ◌≡◌, ℕ, ◌+◌, ◌*◌, ◌<◌, ◌≤◌, true, nat_lt, List, [], ◌∷◌, ◌++◌, map, drop, length, get_or, refl, ap, sym, ◌∙◌, arith, append-nil, max}
+use Rattle.std.proofs.Common.{zero, suc, ◌≡◌, ℕ, ◌+◌, ◌*◌, ◌<◌, ◌≤◌, true, nat_lt, ℤ, pos, List, [], ◌∷◌, ◌++◌, map, drop, length, get_or, refl, ap, sym, ◌∙◌, arith, append-nil, max}
 use Rattle.std.specs.List.{flat_map, range_with_len, All}
 use Rattle.std.proofs.lemmas.List.Folds.{flat_map-map}
 use Rattle.std.proofs.lemmas.List.Elements.{All-get_or}
 use Rattle.std.proofs.Math.Nat.{mul-le-mul_right}
+use Rattle.apl_arrays.specs.Cells.{Items, Numbers, Characters, cells_of}
+use Rattle.apl_arrays.specs.Structural.{made_of}
 use Rattle.apl_arrays.specs.Index.{size_of, bound_of, indices, is_within, position_in}
 use Rattle.apl_arrays.proofs.Places.{both, position_in-lt, within_head}
 use Rattle.apl_arrays.proofs.Order.{map_map, places_in_order, all_within, within_cons}
-use Rattle.apl_select.specs.Indexing.{Places, joined_shape, led_to}
+use Rattle.apl_select.specs.Indexing.{Places, items_led_to, joined_shape, led_to}
 use Rattle.apl_select.specs.inside.Reached.{crossed, led, reached, AreOnAxes}
 use Rattle.apl_select.proofs.Lists.{flat_map_flat_map, map_flat_map, flat_map_same, flat_map_equal, map_equal, all_read, all_mapped}
 
@@ -146,3 +148,19 @@ pub read_led : {A : Type 0} (xs : List A) (d : A) (shape : List ℕ) (ps : List 
 read_led xs d shape ps f =
     ap (map (λ q. get_or xs q d)) (reached_led shape ps f)
     ∙ map_map (λ q. get_or xs q d) (λ i. position_in shape (led_to ps i)) (indices (joined_shape ps))
+
+-- what is read of elements
+pub made_led : (items : Items) (shape : List ℕ) (ps : List Places) (qs : List ℕ) → AreOnAxes shape ps → qs ≡ reached (0 ∷ []) shape ps → made_of (λ A d fill xs. map (λ q. get_or xs q d) qs) items ≡ items_led_to items shape ps
+made_led (Numbers zs) shape ps qs f e = ap (λ (l : List ℕ). Numbers (map (λ q. get_or zs q (pos 0)) l)) e ∙ ap (λ (l : List ℤ). Numbers l) (read_led zs (pos 0) shape ps f)
+made_led (Characters cs) shape ps qs f e = ap (λ (l : List ℕ). Characters (map (λ q. get_or cs q 0) l)) e ∙ ap (λ (l : List ℕ). Characters l) (read_led cs 0 shape ps f)
+
+-- the one element of a scalar
+pub scalar_led : (items : Items) (shape : List ℕ) (ps : List Places) → length shape ≡ 0 → AreOnAxes shape ps → length (cells_of items) ≡ size_of shape → items ≡ items_led_to items shape ps
+scalar_led items (n ∷ ns) ps e f full = absurd (omega arith)
+scalar_led items [] (p ∷ ps) e f full = absurd f
+scalar_led (Numbers []) [] [] e f full = absurd (omega arith)
+scalar_led (Numbers (z ∷ [])) [] [] e f full = refl
+scalar_led (Numbers (y ∷ z ∷ zs)) [] [] e f full = absurd (omega arith)
+scalar_led (Characters []) [] [] e f full = absurd (omega arith)
+scalar_led (Characters (c ∷ [])) [] [] e f full = refl
+scalar_led (Characters (b ∷ c ∷ cs)) [] [] e f full = absurd (omega arith)

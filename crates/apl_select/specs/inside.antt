@@ -3,3 +3,4 @@ pub mod Reached
 pub mod Single
 pub mod Written
 pub mod Numbered
+pub mod Masks

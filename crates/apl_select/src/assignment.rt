@@ -68,8 +68,7 @@ fn overwritten(alloc: Global, v: &Array, b: &Array, places: &[usize]) -> Result<
     requires enough { AreEnough (count_of b.now) (length places.now) }
     ensures { IfOk result (λ array. array ≡ overwritten v.now b.now places.now) }
 {
-    let mut ravel = v.items().to_ravel(alloc)?;
-    ravel.write(places, b.items());
+    let ravel = v.items().written(alloc, places, b.items())?;
     Ok(Array::in_shape(alloc, v.shape(), ravel)?)
 }
 
@@ -79,8 +78,8 @@ fn lone_number(items: Elements<'_>) -> Option<i64>
     ensures { result ≡ lone_number (listed items.entry) }
 {
     match items {
-        Elements::Nums([number]) => Some(*number),
-        _ => None,
+        Elements::Nums(numbers) => numbers.only(),
+        Elements::Chars(_) => None,
     }
 }
 

@@ -1,10 +1,11 @@
 // Compression and expansion.
-ghost use Rattle.std.specs.Prelude.{◌≡◌, ◌<◌, ◌≤◌, ◌∷◌, [], nat_le, length, IsTrue};
+ghost use Rattle.std.specs.Prelude.{◌≡◌, ◌<◌, ◌≤◌, ◌∷◌, [], length, IsTrue};
 ghost use Rattle.apl_arrays.specs.Answers.{Answers, FaultsFirst};
 ghost use Rattle.apl_arrays.specs.Cells.{cells_of};
 ghost use Rattle.apl_arrays.specs.Checks.{vector_rank};
 ghost use Rattle.apl_arrays.specs.Index.{bound_of, size_of};
 ghost use Rattle.apl_arrays.specs.Left.{listed};
+ghost use Rattle.apl_arrays.specs.Numbers.{values};
 ghost use Rattle.apl_arrays.specs.Origins.{origin_number};
 ghost use Rattle.apl_select.specs.Compress.{compressed, compressed_along, compression_checks, places_kept};
 ghost use Rattle.apl_select.specs.Compress.{expanded, expanded_along, expansion_checks, places_spread};
@@ -12,7 +13,7 @@ ghost use Rattle.apl_select.specs.Compress.{expanded, expanded_along, expansion_
 use crate::bits::{bits_in, common_count, fits_ones, kept, ones, spread};
 use crate::keeping::kept_of_vector;
 use crate::lines::{axis_in, laid, lined_shape};
-use apl_arrays::{Along, Array, Elements, MAX_ELEMENTS, Origin, Stop};
+use apl_arrays::{Along, Array, Elements, MAX_ELEMENTS, NumberSlice, Origin, Stop};
 use apl_faults::Fault;
 use std::alloc::Global;
 
@@ -28,9 +29,9 @@ fn within_a_vector(array: &Array) -> Result<(), Fault>
 }
 
 /// Whether there is a bit for each element of a vector, so many in all.
-fn is_bit_each(bits: &[i64], shape: &[usize], count: usize) -> bool
-    ensures shape { IsTrue result → shape.now ≡ length bits.now ∷ [] }
-    ensures count { IsTrue result → count ≡ length bits.now }
+fn is_bit_each(bits: NumberSlice<'_>, shape: &[usize], count: usize) -> bool
+    ensures shape { IsTrue result → shape.now ≡ length (values bits.entry) ∷ [] }
+    ensures count { IsTrue result → count ≡ length (values bits.entry) }
 {
     match shape {
         [len] if *len == bits.len() => count == *len,

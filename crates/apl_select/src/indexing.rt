@@ -1,45 +1,17 @@
 // Indexing.
-ghost use Rattle.std.specs.Prelude.{◌≡◌, ◌≤◌, length, IfOk, MatchOption, Err, Ok};
+ghost use Rattle.std.specs.Prelude.{◌≡◌, ◌≤◌, MatchOption, Err, Ok};
 ghost use Rattle.apl_arrays.specs.Answers.{Answers, FaultsFirst, HadMemory};
-ghost use Rattle.apl_arrays.specs.Cells.{cells_of};
-ghost use Rattle.apl_arrays.specs.Index.{bound_of, size_of};
-ghost use Rattle.apl_arrays.specs.Left.{listed};
 ghost use Rattle.apl_arrays.specs.Origins.{origin_number};
-ghost use Rattle.apl_arrays.specs.Ravels.{items_of};
 ghost use Rattle.apl_arrays.specs.Simple.{single};
-ghost use Rattle.apl_select.specs.Indexing.{indexed, items_led_to, AreNumbers, joined_shape, slots_fit};
-ghost use Rattle.apl_select.specs.inside.Reached.{AreOnAxes};
+ghost use Rattle.apl_select.specs.Indexing.{indexed, AreNumbers, slots_fit};
 ghost use Rattle.apl_select.specs.inside.Single.{fault_of_numbers};
 
 use crate::reach::read;
 use crate::single::{fault_of_numbers, place_picked};
 use crate::slots::{Picked, joined_shape, picks_of};
 use crate::vector::vector_picked;
-use apl_arrays::{
-    Array, Cell, Elements, MAX_ELEMENTS, MAX_RANK, Origin, Ravel, Stop, size, within_limits,
-};
-use std::alloc::{AllocError, Global};
-
-/// The elements to which index lists within what is joined lead, with room for so many.
-fn read_items(
-    alloc: Global,
-    room: usize,
-    items: Elements<'_>,
-    shape: &[usize],
-    picks: &[Picked],
-) -> Result<Ravel, AllocError>
-    requires full { length (cells_of (listed items)) ≡ size_of shape.now }
-    requires on_axes { AreOnAxes shape.now picks.now }
-    requires small { bound_of shape.now ≤ MAX_ELEMENTS }
-    requires few { length shape.now ≤ MAX_RANK }
-    requires room { bound_of (joined_shape picks.now) ≤ MAX_ELEMENTS }
-    ensures { IfOk result (λ r. items_of r ≡ items_led_to (listed items.entry) shape.now picks.now) }
-{
-    match items {
-        Elements::Nums(raw) => Ok(Ravel::Nums(read(alloc, room, raw, shape, picks)?)),
-        Elements::Chars(raw) => Ok(Ravel::Chars(read(alloc, room, raw, shape, picks)?)),
-    }
-}
+use apl_arrays::{Array, Cell, Origin, Stop, size, within_limits};
+use std::alloc::Global;
 
 /// The element at the one place that slots pick, where each is a number that counts a place.
 #[inline]
@@ -65,7 +37,7 @@ fn elements_led_to(
     let shape = joined_shape(alloc, picks.as_slice())?;
     within_limits(shape.as_slice())?;
     let room = size(shape.as_slice());
-    let ravel = read_items(alloc, room, b.items(), b.shape(), picks.as_slice())?;
+    let ravel = read(alloc, room, b.items(), b.shape(), picks.as_slice())?;
     Ok(Array::in_shape(alloc, shape.as_slice(), ravel)?)
 }
 

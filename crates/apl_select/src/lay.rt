@@ -1,10 +1,11 @@
 // Elements of an array along an axis, by the places they come from.
-ghost use Rattle.std.specs.Prelude.{◌≡◌, ◌+◌, ◌*◌, ◌^◌, ◌<◌, ◌≤◌, ◌++◌, length, map, replicate, IfOk, OnOk};
+ghost use Rattle.std.specs.Prelude.{◌≡◌, ◌+◌, ◌*◌, ◌^◌, ◌<◌, ◌++◌, length, map, replicate, OnOk};
 ghost use Rattle.std.specs.Option.{option_map};
 ghost use Rattle.std.specs.List.{All};
-ghost use Rattle.apl_select.specs.inside.Laying.{block_of, plane_of, planes_of, IsBelow};
+ghost use Rattle.apl_select.specs.inside.Laying.{block_of, plane_of, IsBelow};
 ghost use Rattle.apl_select.specs.Lined.{item_or};
 
+use apl_arrays::Structural;
 use std::alloc::{AllocError, Global};
 
 /// How the elements of an array lie around an axis: so many planes, each of so many blocks of elements along the axis.
@@ -120,30 +121,32 @@ fn lay_plane<T: Copy>(
     Ok(())
 }
 
-/// The elements at places along the axis, plane by plane, with room for so many.
-pub(crate) fn lay_planes<T: Copy>(
-    alloc: Global,
-    room: usize,
-    raw: &[T],
-    fill: T,
-    layout: Layout,
-    places: &[Option<usize>],
-) -> Result<Vec<T>, AllocError>
-    requires whole { length raw.now ≡ layout.planes * (layout.length * layout.block) }
-    requires near { layout.planes * layout.length < 2 ^ 62 }
-    requires places { All (IsBelow layout.length) places.now }
-    ensures { IfOk result (λ v. v.items ≡ planes_of (item_or fill raw.now) layout.length layout.block places.now layout.planes) }
-{
-    let mut out = Vec::with_capacity(alloc, room)?;
-    for plane in 0..layout.planes {
-        lay_plane(
-            raw,
-            fill,
-            plane * layout.length,
-            layout.block,
-            places,
-            &mut out,
-        )?;
+/// Elements at places along the axis, plane by plane, with fills where there is no place, and the room for them.
+#[derive(Clone, Copy)]
+pub(crate) struct Laying<'p> {
+    pub(crate) layout: Layout,
+    pub(crate) places: &'p [Option<usize>],
+    pub(crate) room: usize,
+}
+
+impl<'p> Structural for Laying<'p> {
+    ghost use Rattle.apl_select.specs.inside.Laying.{planes_of, IsLaid};
+    ghost use Rattle.apl_select.specs.Lined.{item_or};
+
+    ghost takes = { IsLaid };
+
+    ghost makes = { λ A l d fill xs. planes_of (item_or fill xs) l.layout.length l.layout.block l.places.now l.layout.planes };
+
+    fn make<T: Copy>(self, alloc: Global, items: &[T], fill: T) -> Result<Vec<T>, AllocError> {
+        let mut out = Vec::with_capacity(alloc, self.room)?;
+        let Layout {
+            planes,
+            length,
+            block,
+        } = self.layout;
+        for plane in 0..planes {
+            lay_plane(items, fill, plane * length, block, self.places, &mut out)?;
+        }
+        Ok(out)
     }
-    Ok(out)
 }

@@ -1,5 +1,5 @@
 // An array along an axis.
-ghost use Rattle.std.specs.Prelude.{◌≡◌, ◌+◌, ◌*◌, ◌^◌, ◌<◌, ◌≤◌, max, length, take, drop, map, slice_index_or, IfOk, OnOk};
+ghost use Rattle.std.specs.Prelude.{◌≡◌, ◌+◌, ◌*◌, ◌^◌, ◌<◌, ◌≤◌, max, length, take, drop, slice_index_or, IfOk};
 ghost use Rattle.std.specs.List.{All};
 ghost use Rattle.apl_arrays.specs.Along.{axis_along};
 ghost use Rattle.apl_arrays.specs.Answers.{Answers};
@@ -13,9 +13,8 @@ ghost use Rattle.apl_arrays.specs.Views.{on_axis};
 ghost use Rattle.apl_select.specs.inside.Laying.{IsBelow};
 ghost use Rattle.apl_select.specs.Lined.{laid, laid_within, lined_shape, or_first};
 
-use crate::lay::{Layout, lay_planes};
+use crate::lay::{Laying, Layout};
 use apl_arrays::{Along, Array, Elements, MAX_ELEMENTS, Origin, Ravel, Stop, size, within_limits};
-use apl_charset::Ch;
 use apl_faults::Fault;
 use std::alloc::{AllocError, Global};
 
@@ -83,14 +82,12 @@ fn lay_items(
     requires places { All (IsBelow (slice_index_or shape.now axis 0)) places.now }
     ensures { IfOk result (λ r. items_of r ≡ (laid axis places.now (record { shape = shape.now; items = listed items.entry })).items) }
 {
-    let layout = layout_of(shape, axis);
-    match items {
-        Elements::Nums(raw) => Ok(Ravel::Nums(lay_planes(alloc, room, raw, 0, layout, places)?)),
-        Elements::Chars(raw) => {
-            let blank = Ch::ascii(b' ');
-            Ok(Ravel::Chars(lay_planes(alloc, room, raw, blank, layout, places)?))
-        }
-    }
+    let laying = Laying {
+        layout: layout_of(shape, axis),
+        places,
+        room,
+    };
+    items.made_by(alloc, laying)
 }
 
 /// The array of the elements at places along an axis, with fills where there is no place. It is a limit fault where there is no such array.

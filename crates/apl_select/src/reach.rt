@@ -1,13 +1,16 @@
 // Places in a ravel that slots lead to, and the elements there.
-ghost use Rattle.std.specs.Prelude.{◌≡◌, ℕ, ◌+◌, ◌*◌, ◌^◌, ◌<◌, ◌≤◌, [], ◌∷◌, ◌++◌};
+ghost use Rattle.std.specs.Prelude.{◌≡◌, ◌+◌, ◌*◌, ◌<◌, ◌≤◌, [], ◌∷◌, ◌++◌};
 ghost use Rattle.std.specs.Prelude.{drop, length, map, slice_index_or, IfOk, OnOk};
 ghost use Rattle.std.specs.List.{All};
+ghost use Rattle.apl_arrays.specs.Cells.{cells_of};
 ghost use Rattle.apl_arrays.specs.Index.{bound_of, size_of};
-ghost use Rattle.apl_select.specs.Indexing.{joined_shape};
+ghost use Rattle.apl_arrays.specs.Left.{listed};
+ghost use Rattle.apl_arrays.specs.Ravels.{items_of};
+ghost use Rattle.apl_select.specs.Indexing.{items_led_to, joined_shape};
 ghost use Rattle.apl_select.specs.inside.Reached.{crossed, led, reached, AreOnAxes};
 
 use crate::slots::Picked;
-use apl_arrays::{MAX_ELEMENTS, MAX_RANK};
+use apl_arrays::{Elements, MAX_ELEMENTS, MAX_RANK, Ravel, Structural};
 use std::alloc::{AllocError, Global};
 
 /// Appends the places of an axis, counted from one on.
@@ -116,34 +119,55 @@ fn gather<T: Copy>(
     Ok(())
 }
 
+/// The elements at the places of the last axis, counted from each start so many rows of it on, and the room for them.
+#[derive(Clone, Copy)]
+struct Reading<'p> {
+    starts: &'p [usize],
+    len: usize,
+    places: &'p [usize],
+    room: usize,
+}
+
+impl<'p> Structural for Reading<'p> {
+    ghost use Rattle.std.specs.Prelude.{map, slice_index_or};
+    ghost use Rattle.apl_select.specs.inside.Reached.{crossed, IsRead};
+
+    ghost takes = { IsRead };
+
+    ghost makes = { λ A r d fill xs. map (λ q. slice_index_or xs q d) (crossed r.starts.now r.len r.places.now) };
+
+    fn make<T: Copy>(self, alloc: Global, items: &[T], _fill: T) -> Result<Vec<T>, AllocError> {
+        let mut out = Vec::with_capacity(alloc, self.room)?;
+        gather(items, self.starts, self.len, self.places, &mut out)?;
+        Ok(out)
+    }
+}
+
 /// The elements at all places that are reached, with room for so many. The last axis has a loop of its own.
-pub(crate) fn read<T: Copy>(
+pub(crate) fn read(
     alloc: Global,
     room: usize,
-    raw: &[T],
+    items: Elements<'_>,
     shape: &[usize],
     picks: &[Picked],
-) -> Result<Vec<T>, AllocError>
-    requires full { length raw.now ≡ size_of shape.now }
+) -> Result<Ravel, AllocError>
+    requires full { length (cells_of (listed items)) ≡ size_of shape.now }
     requires on_axes { AreOnAxes shape.now picks.now }
     requires small { bound_of shape.now ≤ MAX_ELEMENTS }
     requires few { length shape.now ≤ MAX_RANK }
     requires room { bound_of (joined_shape picks.now) ≤ MAX_ELEMENTS }
-    ensures { IfOk result (λ v. (d : T) → v.items ≡ map (λ q. slice_index_or raw.now q d) (reached (0 ∷ []) shape.now picks.now)) }
+    ensures { IfOk result (λ r. items_of r ≡ items_led_to (listed items.entry) shape.now picks.now) }
 {
-    let mut out = Vec::with_capacity(alloc, room)?;
     if shape.is_empty() {
-        out.push(raw[0])?;
-        return Ok(out);
+        return items.to_ravel(alloc);
     }
     let last = shape.len() - 1;
     let starts = starts_of(alloc, shape, picks, last)?;
-    gather(
-        raw,
-        starts.as_slice(),
-        shape[last],
-        picks[last].places(),
-        &mut out,
-    )?;
-    Ok(out)
+    let reading = Reading {
+        starts: starts.as_slice(),
+        len: shape[last],
+        places: picks[last].places(),
+        room,
+    };
+    items.made_by(alloc, reading)
 }

@@ -1,13 +1,14 @@
 // What index slots pick of the axes of an array.
-ghost use Rattle.std.specs.Prelude.{◌≡◌, ◌<◌, ◌≤◌, [], ◌∷◌, length, pos, slice_index_or, IfOk, Some};
+ghost use Rattle.std.specs.Prelude.{◌≡◌, ◌<◌, [], ◌∷◌, length, pos, slice_index_or, IfOk, Some};
 ghost use Rattle.std.specs.List.{All, range_with_len};
 ghost use Rattle.apl_arrays.specs.Answers.{Answers, FaultsFirst};
 ghost use Rattle.apl_arrays.specs.Index.{size_of};
+ghost use Rattle.apl_arrays.specs.Numbers.{values};
 ghost use Rattle.apl_arrays.specs.Results.{all_ok};
 ghost use Rattle.apl_select.specs.Indexing.{all_picked, joined_shape, picked_by, place_numbered, slots_fit, slots_of};
 ghost use Rattle.apl_select.specs.inside.Reached.{AreOnAxes};
 
-use apl_arrays::{Array, Stop, numbers_in};
+use apl_arrays::{Array, Lane, NumberSlice, Stop, numbers_in};
 use apl_faults::Fault;
 use std::alloc::{AllocError, Global};
 use std::marker::Model;
@@ -60,16 +61,21 @@ pub(crate) fn numbered(number: i64, len: usize, origin: usize) -> Result<usize, 
 
 /// The same of the number at a place of a list.
 #[inline(always)]
-fn numbered_at(numbers: &[i64], at: usize, len: usize, origin: usize) -> Result<usize, Fault>
+fn numbered_at<L: Lane>(numbers: &[L], at: usize, len: usize, origin: usize) -> Result<usize, Fault>
     requires { at < length numbers.now }
-    ensures { result ≡ place_numbered len origin (slice_index_or numbers.now at (pos 0)) }
+    ensures { result ≡ place_numbered len origin (slice_index_or (L.numbers numbers.now) at (pos 0)) }
 {
-    numbered(numbers[at], len, origin)
+    numbered(numbers[at].wide(), len, origin)
 }
 
 /// The places that numbers count from the index origin. The first that counts none is an index fault.
-fn places_in(alloc: Global, numbers: &[i64], len: usize, origin: usize) -> Result<Vec<usize>, Stop>
-    ensures { Answers (λ v. v.items) (all_ok (place_numbered len origin) numbers.now) result }
+fn places_of<L: Lane>(
+    alloc: Global,
+    numbers: &[L],
+    len: usize,
+    origin: usize,
+) -> Result<Vec<usize>, Stop>
+    ensures { Answers (λ v. v.items) (all_ok (place_numbered len origin) (L.numbers numbers.now)) result }
 {
     let mut places = Vec::with_capacity(alloc, numbers.len())?;
     for k in 0..numbers.len() {
@@ -79,6 +85,22 @@ fn places_in(alloc: Global, numbers: &[i64], len: usize, origin: usize) -> Resul
         }
     }
     Ok(places)
+}
+
+/// The same of numbers of any type.
+fn places_in(
+    alloc: Global,
+    numbers: NumberSlice<'_>,
+    len: usize,
+    origin: usize,
+) -> Result<Vec<usize>, Stop>
+    ensures { Answers (λ v. v.items) (all_ok (place_numbered len origin) (values numbers.entry)) result }
+{
+    match numbers {
+        NumberSlice::I8(numbers) => places_of(alloc, numbers, len, origin),
+        NumberSlice::I32(numbers) => places_of(alloc, numbers, len, origin),
+        NumberSlice::I64(numbers) => places_of(alloc, numbers, len, origin),
+    }
 }
 
 /// All places on an axis.

@@ -195,7 +195,8 @@ fn show_items(alloc: Global, shape: &[usize], items: Elements<'_>) -> Result<Val
     let shape = show_list(alloc, shape)?;
     match items {
         Elements::Nums(numbers) => {
-            let numbers = show_list(alloc, numbers)?;
+            let numbers = numbers.wide(alloc)?;
+            let numbers = show_list(alloc, numbers.as_slice())?;
             json!(in alloc; {"nums": numbers, "shape": shape})
         }
         Elements::Chars(characters) => {

@@ -7,7 +7,7 @@ ghost use Rattle.apl_translate.specs.Binding.{symbol_word, word_of, form_of, nei
 ghost use Rattle.apl_translate.specs.Binding.{with_item, items_from, constant_in, bound_of, elements_in, HasName};
 
 use crate::form::{Bound, Form, Placed, Word};
-use apl_arrays::Array;
+use apl_arrays::{Array, NumberSlice, Ravel};
 use apl_code::{Function, Variable};
 use apl_symbols::{Class, Name, Primitive, Symbol, SystemName};
 use apl_tokens::{Kind, Token};
@@ -262,8 +262,8 @@ fn constants_of(alloc: Global, tokens: &[Token]) -> Result<Vec<Array>, AllocErro
     for token in tokens {
         match &token.kind {
             Kind::Constant(numbers) => {
-                let numbers = Vec::from_slice(alloc, numbers.as_slice())?;
-                constants.push(Array::from_nums(alloc, numbers)?)?;
+                let numbers = NumberSlice::I64(numbers.as_slice()).squeezed(alloc)?;
+                constants.push(Array::from_ravel(alloc, Ravel::Nums(numbers))?)?;
             }
             Kind::Text(text) => {
                 let characters = Vec::from_slice(alloc, text.as_slice())?;

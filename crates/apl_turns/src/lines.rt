@@ -4,7 +4,7 @@ ghost use Rattle.std.specs.Prelude.{ℕ, length, take, drop, slice_index_or, IfO
 ghost use Rattle.apl_arrays.specs.Index.{bound_of, size_of};
 ghost use Rattle.apl_turns.specs.inside.Lines.{shift_at, sourced_list, turned_plane, turned_row};
 
-use apl_arrays::{MAX_ELEMENTS, size};
+use apl_arrays::{MAX_ELEMENTS, Structural, size};
 use std::alloc::{AllocError, Global};
 
 /// How the elements of an array lie along an axis: planes one after another, in each as many rows as the axis is long, and in each row an
@@ -165,25 +165,27 @@ fn turn_lines<T: Copy>(
     Ok(out)
 }
 
-/// The elements of a ravel, each line turned by its number. A single number serves for all lines.
-pub(crate) fn turn<T: Copy>(
-    alloc: Global,
-    raw: &[T],
-    extent: Extent,
-    shifts: &[usize],
-) -> Result<Vec<T>, AllocError>
-    requires whole { length raw.now ≡ extent.planes * (extent.rows * extent.width) }
-    requires some { 0 < length raw.now }
-    requires small { length raw.now ≤ MAX_ELEMENTS }
-    requires known { length shifts.now ≢ 1 → length shifts.now ≡ extent.planes * extent.width }
-    requires below { (line : ℕ) → shift_at shifts.now line < extent.rows }
-    ensures { IfOk result (λ v. (d : T) → v.items ≡ sourced_list extent.rows extent.width shifts.now raw.now d) }
-{
-    if shifts.len() == 1 {
-        return turn_planes(alloc, raw, extent, shifts);
+/// Each line of a ravel turned by its number. A single number serves for all lines.
+#[derive(Clone, Copy)]
+pub(crate) struct Turn<'s> {
+    pub(crate) extent: Extent,
+    pub(crate) shifts: &'s [usize],
+}
+
+impl<'s> Structural for Turn<'s> {
+    ghost use Rattle.apl_turns.specs.inside.Lines.{sourced_list, IsTurn};
+
+    ghost takes = { IsTurn };
+
+    ghost makes = { λ A t d fill xs. sourced_list t.extent.rows t.extent.width t.shifts.now xs d };
+
+    fn make<T: Copy>(self, alloc: Global, items: &[T], _fill: T) -> Result<Vec<T>, AllocError> {
+        if self.shifts.len() == 1 {
+            return turn_planes(alloc, items, self.extent, self.shifts);
+        }
+        if self.extent.width == 1 {
+            return turn_planes(alloc, items, self.extent, self.shifts);
+        }
+        turn_lines(alloc, items, self.extent, self.shifts)
     }
-    if extent.width == 1 {
-        return turn_planes(alloc, raw, extent, shifts);
-    }
-    turn_lines(alloc, raw, extent, shifts)
 }

@@ -1,14 +1,10 @@
 // Lines along the last axis, each the other way in a ravel.
-ghost use Rattle.std.specs.Prelude.{◌≡◌, ◌+◌, ◌*◌, ◌%◌, ◌<◌, ◌≤◌, ◌++◌, length, take, drop, reverse, slice_index_or, vec_capacity, vec_len, IfOk, Ok};
+ghost use Rattle.std.specs.Prelude.{◌≡◌, ◌+◌, ◌*◌, ◌%◌, ◌≤◌, ◌++◌, length, reverse, vec_capacity, vec_len, Ok};
 ghost use Rattle.apl_arrays.specs.Answers.{Answers};
-ghost use Rattle.apl_arrays.specs.Cells.{cells_of};
-ghost use Rattle.apl_arrays.specs.Left.{listed};
-ghost use Rattle.apl_arrays.specs.Ravels.{items_of};
 ghost use Rattle.apl_arrays.specs.Views.{reversed};
-ghost use Rattle.apl_turns.specs.inside.Mirrored.{mirrored, mirrored_list};
 
 use crate::lines::{extent_along, piece};
-use apl_arrays::{Array, Elements, Ravel, Stop};
+use apl_arrays::{Array, Stop, Structural};
 use std::alloc::{AllocError, Global};
 
 /// How many elements are taken the other way at once.
@@ -103,35 +99,26 @@ fn put_line<T: Copy>(out: &mut Vec<T>, line: &[T])
 }
 
 /// So many lines of a ravel, which are so long, each the other way.
-fn reverse_lines<T: Copy>(
-    alloc: Global,
-    raw: &[T],
+#[derive(Clone, Copy)]
+struct Mirror {
     lines: usize,
     size: usize,
-) -> Result<Vec<T>, AllocError>
-    requires { length raw.now ≡ lines * size }
-    ensures { IfOk result (λ v. (d : T) → v.items ≡ mirrored_list size raw.now d) }
-{
-    let mut out = Vec::with_capacity(alloc, raw.len())?;
-    for line in 0..lines {
-        put_line(&mut out, piece(raw, line, size));
-    }
-    Ok(out)
 }
 
-/// Elements, so many lines of which, which are so long, are taken the other way.
-fn mirrored_items(
-    alloc: Global,
-    items: Elements<'_>,
-    lines: usize,
-    size: usize,
-) -> Result<Ravel, AllocError>
-    requires { length (cells_of (listed items)) ≡ lines * size }
-    ensures { IfOk result (λ turned. items_of turned ≡ mirrored size (listed items.entry)) }
-{
-    match items {
-        Elements::Nums(raw) => Ok(Ravel::Nums(reverse_lines(alloc, raw, lines, size)?)),
-        Elements::Chars(raw) => Ok(Ravel::Chars(reverse_lines(alloc, raw, lines, size)?)),
+impl Structural for Mirror {
+    ghost use Rattle.std.specs.Prelude.{◌≡◌, ◌*◌};
+    ghost use Rattle.apl_turns.specs.inside.Mirrored.{mirrored_list};
+
+    ghost takes = { λ m n. n ≡ m.lines * m.size };
+
+    ghost makes = { λ A m d fill xs. mirrored_list m.size xs d };
+
+    fn make<T: Copy>(self, alloc: Global, items: &[T], _fill: T) -> Result<Vec<T>, AllocError> {
+        let mut out = Vec::with_capacity(alloc, items.len())?;
+        for line in 0..self.lines {
+            put_line(&mut out, piece(items, line, self.size));
+        }
+        Ok(out)
     }
 }
 
@@ -141,6 +128,10 @@ pub(crate) fn reverse_last(alloc: Global, b: &Array, axis: usize) -> Result<Arra
     ensures { Answers (λ turned. turned) (Ok (reversed axis b.now)) result }
 {
     let extent = extent_along(b.shape(), axis);
-    let turned = mirrored_items(alloc, b.items(), extent.planes, extent.rows)?;
+    let mirror = Mirror {
+        lines: extent.planes,
+        size: extent.rows,
+    };
+    let turned = b.items().made_by(alloc, mirror)?;
     Ok(Array::in_shape(alloc, b.shape(), turned)?)
 }

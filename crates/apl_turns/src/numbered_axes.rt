@@ -1,10 +1,11 @@
 // Axes by numbers of an array.
 ghost use Rattle.std.specs.Prelude.{◌≡◌, ◌<◌, ◌≤◌, length, IfOk};
 ghost use Rattle.std.specs.List.{All};
+ghost use Rattle.apl_arrays.specs.Numbers.{values};
 ghost use Rattle.apl_arrays.specs.Results.{all_ok, ok_map};
 ghost use Rattle.apl_turns.specs.Turns.{axis_from, has_its_place, have_no_gap, named_axes};
 
-use apl_arrays::{Array, MAX_RANK, numbers_in};
+use apl_arrays::{Array, MAX_RANK, NumberSlice, numbers_in};
 use apl_faults::Fault;
 use arrayvec::ArrayVec;
 
@@ -24,14 +25,14 @@ fn axis_from(origin: usize, number: i64) -> Result<usize, Fault>
 }
 
 /// The axes that numbers count, or the first fault.
-fn axes_from(origin: usize, numbers: &[i64]) -> Result<ArrayVec<usize, MAX_RANK>, Fault>
-    requires { length numbers.now ≤ MAX_RANK }
-    ensures axes { all_ok (axis_from origin) numbers.now ≡ ok_map (λ axes. axes.items) result }
-    ensures each { IfOk result (λ axes. length axes.items ≡ length numbers.now) }
+fn axes_from(origin: usize, numbers: NumberSlice<'_>) -> Result<ArrayVec<usize, MAX_RANK>, Fault>
+    requires { length (values numbers) ≤ MAX_RANK }
+    ensures axes { all_ok (axis_from origin) (values numbers.entry) ≡ ok_map (λ axes. axes.items) result }
+    ensures each { IfOk result (λ axes. length axes.items ≡ length (values numbers.entry)) }
 {
     let mut axes = ArrayVec::new();
-    for number in numbers {
-        match axis_from(origin, *number) {
+    for k in 0..numbers.len() {
+        match axis_from(origin, numbers.at(k)) {
             Ok(axis) => axes.push(axis),
             Err(fault) => return Err(fault),
         }

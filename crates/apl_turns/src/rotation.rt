@@ -1,18 +1,17 @@
 // Lines of arrays turned round.
-ghost use Rattle.std.specs.Prelude.{◌≡◌, ◌≢◌, ◌*◌, ◌<◌, ◌≤◌, ℕ, length, map, IfOk, IfSome, ◌+◌, slice_index_or};
+ghost use Rattle.std.specs.Prelude.{◌≡◌, ◌≢◌, ◌<◌, ◌≤◌, length, map, IfOk, IfSome, ◌+◌, slice_index_or};
 ghost use Rattle.apl_arrays.specs.Answers.{Answers, FaultsFirst};
 ghost use Rattle.apl_arrays.specs.Axes.{without};
 ghost use Rattle.apl_arrays.specs.Cells.{cells_of};
 ghost use Rattle.apl_arrays.specs.Checks.{same};
 ghost use Rattle.apl_arrays.specs.Index.{size_of};
-ghost use Rattle.apl_arrays.specs.Left.{listed};
+ghost use Rattle.apl_arrays.specs.Numbers.{values};
 ghost use Rattle.apl_arrays.specs.Origins.{origin_number};
-ghost use Rattle.apl_arrays.specs.Ravels.{items_of};
-ghost use Rattle.apl_turns.specs.inside.Lines.{shift_at, shift_of, sourced, turned_lines};
+ghost use Rattle.apl_turns.specs.inside.Lines.{shift_of, turned_lines};
 ghost use Rattle.apl_turns.specs.Turns.{fits_axis, fits_lines, rotated};
 
-use crate::lines::{Extent, extent_along, turn};
-use apl_arrays::{Along, Array, Elements, MAX_ELEMENTS, Origin, Ravel, Stop, numbers_in};
+use crate::lines::{Turn, extent_along};
+use apl_arrays::{Along, Array, MAX_ELEMENTS, NumberSlice, Origin, Stop, numbers_in};
 use apl_faults::Fault;
 use std::alloc::{AllocError, Global};
 
@@ -27,43 +26,28 @@ fn shift_of(number: i64, rows: usize) -> usize
 }
 
 /// The same of each of these numbers.
-fn shifts_of(alloc: Global, numbers: &[i64], rows: usize) -> Result<Vec<usize>, AllocError>
+fn shifts_of(alloc: Global, numbers: NumberSlice<'_>, rows: usize) -> Result<Vec<usize>, AllocError>
     requires some { 0 < rows }
     requires small { rows ≤ MAX_ELEMENTS }
-    ensures { IfOk result (λ shifts. shifts.items ≡ map (shift_of rows) numbers.now) }
+    ensures { IfOk result (λ shifts. shifts.items ≡ map (shift_of rows) (values numbers.entry)) }
 {
     let mut shifts = Vec::with_capacity(alloc, numbers.len())?;
-    for number in numbers {
-        shifts.push(shift_of(*number, rows))?;
+    for k in 0..numbers.len() {
+        shifts.push(shift_of(numbers.at(k), rows))?;
     }
     Ok(shifts)
 }
 
-/// Elements, each line of which along an axis is turned by its number. A single number serves for all lines.
-fn turned_items(
-    alloc: Global,
-    items: Elements<'_>,
-    extent: Extent,
-    shifts: &[usize],
-) -> Result<Ravel, AllocError>
-    requires whole { length (cells_of (listed items)) ≡ extent.planes * (extent.rows * extent.width) }
-    requires some { 0 < length (cells_of (listed items)) }
-    requires small { length (cells_of (listed items)) ≤ MAX_ELEMENTS }
-    requires known { length shifts.now ≢ 1 → length shifts.now ≡ extent.planes * extent.width }
-    requires below { (line : ℕ) → shift_at shifts.now line < extent.rows }
-    ensures { IfOk result (λ turned. items_of turned ≡ sourced extent.rows extent.width shifts.now (listed items.entry)) }
-{
-    match items {
-        Elements::Nums(raw) => Ok(Ravel::Nums(turn(alloc, raw, extent, shifts)?)),
-        Elements::Chars(raw) => Ok(Ravel::Chars(turn(alloc, raw, extent, shifts)?)),
-    }
-}
-
 /// An array, each line along an axis turned by its number. A single number serves for all lines.
-fn turn_array(alloc: Global, b: &Array, numbers: &[i64], axis: usize) -> Result<Array, AllocError>
+fn turn_array(
+    alloc: Global,
+    b: &Array,
+    numbers: NumberSlice<'_>,
+    axis: usize,
+) -> Result<Array, AllocError>
     requires within { axis < length b.now.shape }
-    requires each { length numbers.now ≢ 1 → length numbers.now ≡ size_of (without axis b.now.shape) }
-    ensures turned { IfOk result (λ turned. turned ≡ turned_lines axis numbers.now b.now) }
+    requires each { length (values numbers) ≢ 1 → length (values numbers) ≡ size_of (without axis b.now.shape) }
+    ensures turned { IfOk result (λ turned. turned ≡ turned_lines axis (values numbers.entry) b.now) }
     ensures full { length (cells_of b.now.items) ≡ size_of b.now.shape }
 {
     let items = b.items();
@@ -72,7 +56,11 @@ fn turn_array(alloc: Global, b: &Array, numbers: &[i64], axis: usize) -> Result<
     }
     let extent = extent_along(b.shape(), axis);
     let shifts = shifts_of(alloc, numbers, extent.rows)?;
-    let turned = turned_items(alloc, items, extent, shifts.as_slice())?;
+    let turn = Turn {
+        extent,
+        shifts: shifts.as_slice(),
+    };
+    let turned = items.made_by(alloc, turn)?;
     b.with_ravel(alloc, turned)
 }
 

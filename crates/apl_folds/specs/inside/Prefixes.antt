@@ -1,7 +1,7 @@
 -- Scans of numbers in row-major order, by their places.
 -- All prefixes together are the scan of `Scans`, which folds each prefix anew.
 use Rattle.std.specs.Prelude.{◌≡◌, ℕ, ℤ, pos, ◌+◌, ◌-◌, ◌*◌, ◌/◌, ◌%◌, ◌^◌, ◌<◌}
-use Rattle.std.specs.Prelude.{List, length, slice_index_or, Result, Ok}
+use Rattle.std.specs.Prelude.{List, [], ◌∷◌, ◌++◌, length, slice_index_or, Result, Ok}
 use Rattle.std.specs.List.{range_with_len}
 use Rattle.apl_faults.specs.declared.fault.Fault.{Fault}
 use Rattle.apl_arrays.specs.declared.axis.Axis.{Axis}
@@ -36,3 +36,7 @@ prefix_folds f zs axis = all_ok (prefix_fold f zs axis) (range_with_len 0 (lengt
 -- so many of them stand first here
 abbrev pub ArePrefixes : (ℤ → ℤ → Result ℤ Fault) → List ℤ → Axis → ℕ → List ℤ → Type 0
 ArePrefixes f zs axis count prefixes = (q : ℕ) → q < count → prefix_fold f zs axis q ≡ Ok (slice_index_or prefixes q (pos 0))
+
+-- there is room for each prefix
+abbrev pub AllHaveRoom : (List ℤ → Type 0) → List ℤ → Axis → Type 0
+AllHaveRoom room zs axis = (q : ℕ) → q < length zs → room (before zs axis q ++ slice_index_or zs q (pos 0) ∷ [])

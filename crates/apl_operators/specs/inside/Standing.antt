@@ -3,13 +3,12 @@
 use Rattle.std.specs.Prelude.{◌≡◌, ◌<◌, ℕ, ℤ, pos, Bool, nat_eq, List, length, slice_index_or, Option, None, Some, Err}
 use Rattle.apl_faults.specs.declared.fault.Fault.TheVariants.{Domain}
 use Rattle.apl_arrays.specs.Cells.{Items, cells_of}
+use Rattle.apl_arrays.specs.Numbers.{typed_items}
 use Rattle.apl_scalar.specs.declared.function.Dyadic.{Dyadic}
 use Rattle.apl_scalar.specs.Extension.{compared}
 use Rattle.apl_scalar.specs.Functions.{dyadic_of}
 use Rattle.apl_operators.specs.Places.{cells_met}
 use Rattle.apl_operators.specs.declared.standing.StandIns.{StandIns}
-use Rattle.apl_operators.specs.declared.standing.Held.{Held}
-use Rattle.apl_operators.specs.declared.standing.Held.TheVariants.{Borrowed, Made}
 
 -- a function of characters is that of their codes
 abbrev pub TakesCodes : Dyadic → Type 0
@@ -18,11 +17,6 @@ TakesCodes g = (c d : ℕ) → compared g (nat_eq c d) ≡ dyadic_of g (pos c) (
 -- a function has no value for characters
 abbrev pub RefusesCharacters : Dyadic → Type 0
 RefusesCharacters g = (same : Bool) → compared g same ≡ Err Domain
-
--- the numbers that are held
-abbrev pub held : Held → List ℤ
-held (Borrowed zs) = zs.now
-held (Made v) = v.items
 
 -- a function of two elements is the same function of the numbers at their places
 pub record Stand (g : Dyadic) (a b : Items) (xs ys : List ℤ) : Type 0 where
@@ -33,5 +27,5 @@ pub record Stand (g : Dyadic) (a b : Items) (xs ys : List ℤ) : Type 0 where
 
 -- these numbers stand for the elements, or each pair of elements is a domain fault
 abbrev pub StandOrFail : Dyadic → Items → Items → Option StandIns → Type 0
-StandOrFail g a b (Some found) = Stand g a b (held found.left) (held found.right)
+StandOrFail g a b (Some found) = Stand g a b (typed_items found.left) (typed_items found.right)
 StandOrFail g a b None = (i j : ℕ) → i < length (cells_of a) → j < length (cells_of b) → cells_met g a b i j ≡ Err Domain

@@ -7,6 +7,7 @@ use Rattle.apl_arrays.specs.Cells.{Items, Numbers, Characters}
 use Rattle.apl_reshape.specs.declared.blocks.Block.{Block}
 use Rattle.apl_reshape.specs.declared.pairs.Pair.{Pair}
 use Rattle.apl_reshape.specs.declared.pairs.Pair.TheVariants as pair
+use Rattle.apl_arrays.specs.Numbers.{values}
 use Rattle.apl_reshape.specs.Catenate.{Both, BothNumbers, BothCharacters}
 
 -- the item at a place, of which a scalar has one for all
@@ -36,7 +37,7 @@ needed x rows = if x.is_scalar then 1 else rows * x.len
 
 -- the elements of a pair
 abbrev pub both_of : Pair → Both
-both_of (pair.Numbers xs ys) = BothNumbers xs.now ys.now
+both_of (pair.Numbers xs ys) = BothNumbers (values xs) (values ys)
 both_of (pair.Characters xs ys) = BothCharacters xs.now ys.now
 
 -- a pair has the items that so many blocks of each need

@@ -17,10 +17,10 @@ pub record Divides (d : ℕ) (by : Inverse) : Type 0 where
   pub half : by.half * d < 2 ^ 63
   pub reach : by.half * 2 ^ by.shift ≡ by.reach
 
--- each number is what is left of that at its place
-abbrev pub AreLeft : ℕ → List ℤ → List ℤ → Type 0
-AreLeft d ys zs = (k : ℕ) → k < length zs → slice_index_or zs k (pos 0) ≡ residue (pos d) (slice_index_or ys k (pos 0))
+-- each number is what is left of that for its place
+abbrev pub AreLeft : ℕ → (ℕ → ℤ) → List ℤ → Type 0
+AreLeft d y zs = (k : ℕ) → k < length zs → slice_index_or zs k (pos 0) ≡ residue (pos d) (y k)
 
--- each number is the exact quotient of that at its place
-abbrev pub AreQuotients : ℕ → List ℤ → List ℤ → Type 0
-AreQuotients d xs zs = (k : ℕ) → k < length zs → quotient (slice_index_or xs k (pos 0)) (pos d) ≡ Ok (slice_index_or zs k (pos 0))
+-- each number is the exact quotient of that for its place
+abbrev pub AreQuotients : ℕ → (ℕ → ℤ) → List ℤ → Type 0
+AreQuotients d x zs = (k : ℕ) → k < length zs → quotient (x k) (pos d) ≡ Ok (slice_index_or zs k (pos 0))

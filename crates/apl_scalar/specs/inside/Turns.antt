@@ -1,5 +1,5 @@
 -- Numbers turned to their complements, and which of them are small.
-use Rattle.std.specs.Prelude.{◌<◌, ◌≤ℤ◌, ◌<ℤ◌, ◌^◌, ℕ, ℤ, pos, negsuc, List, length, slice_index_or}
+use Rattle.std.specs.Prelude.{◌<◌, ◌≤ℤ◌, ◌<ℤ◌, ◌^◌, ℕ, ℤ, pos, negsuc}
 
 -- the number itself, or the complement of a negative one
 abbrev pub turned : ℤ → ℕ
@@ -10,6 +10,6 @@ turned (negsuc n) = n
 abbrev pub IsSmall : ℤ → ℤ → Type 0
 IsSmall x y = (pos 0 <ℤ x) × (x ≤ℤ pos (2 ^ 31)) × (turned y < 2 ^ 31)
 
--- the same at each place
-abbrev pub AreSmall : List ℤ → List ℤ → Type 0
-AreSmall xs ys = (k : ℕ) → k < length xs → IsSmall (slice_index_or xs k (pos 0)) (slice_index_or ys k (pos 0))
+-- the same at each place below n
+abbrev pub AreSmall : (ℕ → ℤ) → (ℕ → ℤ) → ℕ → Type 0
+AreSmall x y n = (k : ℕ) → k < n → IsSmall (x k) (y k)

@@ -1,8 +1,9 @@
 -- Places in a ravel that slots lead to, axis after axis.
 -- They are the places of the cells that `Indexing` picks index by index.
-use Rattle.std.specs.Prelude.{◌≡◌, ℕ, ◌+◌, ◌*◌, ◌<◌, List, [], ◌∷◌, map, length}
+use Rattle.std.specs.Prelude.{◌≡◌, ℕ, ◌+◌, ◌*◌, ◌<◌, ◌≤◌, List, [], ◌∷◌, map, length}
 use Rattle.std.specs.List.{All, flat_map}
 use Rattle.apl_arrays.specs.Index.{indices, position_in, size_of}
+use Rattle.apl_select.specs.declared.reach.Reading.{Reading}
 use Rattle.apl_select.specs.Indexing.{Places, joined_shape, led_to}
 
 -- from each start so many rows of an axis on, its places
@@ -25,3 +26,9 @@ AreOnAxes [] [] = Unit {0}
 AreOnAxes [] (p ∷ ps) = ⊥
 AreOnAxes (n ∷ ns) [] = ⊥
 AreOnAxes (n ∷ ns) (p ∷ ps) = (length p.places ≡ size_of p.shape) × All (λ k. k < n) p.places × AreOnAxes ns ps
+
+-- the starts are near, and the places that they lead to are those of so many elements of an array
+pub record IsRead (r : Reading) (count : ℕ) : Type 0 where
+  pub near : All (λ s. s * r.len ≤ 1000000) r.starts.now
+  pub within : All (λ q. q < count) (crossed r.starts.now r.len r.places.now)
+  pub small : count ≤ 1000000

@@ -1,13 +1,15 @@
 -- Lines along an axis, by places in the ravel: planes one after another, in each as many rows as the axis is long, and in each row an
 -- element of each of the plane's lines.
 -- They are the elements of the reversal and the rotation, which are defined index by index.
-use Rattle.std.specs.Prelude.{ℕ, ℤ, pos, ◌+◌, ◌*◌, ◌/◌, ◌%◌, ◌==◌, unsigned_abs, if◌then◌else◌}
+use Rattle.std.specs.Prelude.{◌≡◌, ◌≢◌, ℕ, ℤ, pos, ◌+◌, ◌*◌, ◌/◌, ◌%◌, ◌==◌, ◌<◌, ◌≤◌, unsigned_abs, if◌then◌else◌}
 use Rattle.std.specs.Prelude.{List, map, length, drop, slice_index_or}
 use Rattle.std.specs.Int.{int_rem_euclid}
 use Rattle.std.specs.List.{range_with_len}
 use Rattle.apl_arrays.specs.Index.{size_of}
-use Rattle.apl_arrays.specs.Cells.{Arr, Items, Numbers, Characters}
+use Rattle.apl_arrays.specs.Cells.{Arr, Items}
+use Rattle.apl_arrays.specs.Structural.{made_of}
 use Rattle.apl_arrays.specs.Views.{all_at}
+use Rattle.apl_turns.specs.declared.lines.Turn.{Turn}
 
 -- a number that turns a line of so many elements, as one below as many
 abbrev pub shift_of : ℕ → ℤ → ℕ
@@ -33,8 +35,7 @@ sourced_list rows width shifts xs d = all_at xs (source rows width shifts) (rang
 
 -- the elements from those places
 abbrev pub sourced : ℕ → ℕ → List ℕ → Items → Items
-sourced rows width shifts (Numbers zs) = Numbers (sourced_list rows width shifts zs (pos 0))
-sourced rows width shifts (Characters cs) = Characters (sourced_list rows width shifts cs 0)
+sourced rows width shifts items = made_of (λ A d fill xs. sourced_list rows width shifts xs d) items
 
 -- a plane, each line of it turned by its own number
 abbrev pub turned_plane : {A : Type 0} → List A → List ℕ → ℕ → A → List A
@@ -51,3 +52,11 @@ turned_lines axis zs b =
     let rows = slice_index_or b.shape axis 0 in
     let width = size_of (drop (axis + 1) b.shape) in
     record { shape = b.shape; items = sourced rows width (map (shift_of rows) zs) b.items }
+
+-- so many elements lie as the turn says, and each line has a number below the rows, its own or that of all
+pub record IsTurn (t : Turn) (count : ℕ) : Type 0 where
+  pub whole : count ≡ t.extent.planes * (t.extent.rows * t.extent.width)
+  pub some : 0 < count
+  pub small : count ≤ 1000000
+  pub known : length t.shifts.now ≢ 1 → length t.shifts.now ≡ t.extent.planes * t.extent.width
+  pub below : (line : ℕ) → shift_at t.shifts.now line < t.extent.rows

@@ -1,7 +1,8 @@
 -- Lines along the last axis, by places in the ravel.
-use Rattle.std.specs.Prelude.{ℕ, pos, ◌+◌, ◌-◌, ◌*◌, ◌/◌, ◌%◌, List, length}
+use Rattle.std.specs.Prelude.{ℕ, ◌+◌, ◌-◌, ◌*◌, ◌/◌, ◌%◌, List, length}
 use Rattle.std.specs.List.{range_with_len}
-use Rattle.apl_arrays.specs.Cells.{Items, Numbers, Characters}
+use Rattle.apl_arrays.specs.Cells.{Items}
+use Rattle.apl_arrays.specs.Structural.{made_of}
 use Rattle.apl_arrays.specs.Views.{all_at}
 
 -- the place from which the element at a place comes, where lines that are so long are taken the other way
@@ -14,5 +15,4 @@ mirrored_list size xs d = all_at xs (mirror size) (range_with_len 0 (length xs))
 
 -- the elements from those places
 abbrev pub mirrored : ℕ → Items → Items
-mirrored size (Numbers zs) = Numbers (mirrored_list size zs (pos 0))
-mirrored size (Characters cs) = Characters (mirrored_list size cs 0)
+mirrored size items = made_of (λ A d fill xs. mirrored_list size xs d) items

@@ -1,4 +1,4 @@
-use Rattle.std.proofs.Common.{◌≡◌, ◌++◌, ◌+◌, ◌*◌, ◌≤◌, ℕ, List, length, rules, arith, refl, ap, ◌∙◌}
+use Rattle.std.proofs.Common.{◌≡◌, ◌++◌, ◌+◌, ◌*◌, ◌≤◌, ℕ, length, rules, arith, ap, ◌∙◌}
 use Rattle.apl_arrays.specs.Strides.{step_at}
 use Rattle.apl_arrays.proofs.Fours.{four_lines, lines_long, read_first, room_begins, room_long, written_behind}
 use Rattle.apl_arrays.proofs.gather.push_four.Goals as goal

@@ -1,4 +1,4 @@
-use Rattle.std.proofs.Common.{◌≡◌, ◌+◌, ◌<◌, ℕ, length, refl, arith}
+use Rattle.std.proofs.Common.{◌≡◌, ◌+◌, ◌<◌, ℕ, length, arith}
 use Rattle.apl_arrays.specs.Strides.{step_at}
 use Rattle.apl_arrays.proofs.Fours.{line_more, read_below, read_first, read_further, written_line}
 use Rattle.apl_arrays.proofs.gather.write_four.Goals as goal

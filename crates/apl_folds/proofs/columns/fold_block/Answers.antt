@@ -2,20 +2,20 @@ use Rattle.std.proofs.Common.{rules, arith, ◌≤ℤ◌, ◌<◌, ◌-◌, ◌+
 use Rattle.std.proofs.lemmas.Int.{to_z-of_z}
 use mir.Val.{SFits}
 use Rattle.apl_folds.specs.Lines.{line_of}
-use Rattle.apl_folds.proofs.Rights.{fold_last, fold_before}
+use Rattle.apl_folds.proofs.Rights.{fold_last, one_before}
 use Rattle.apl_folds.proofs.Rows.{length-line, line_at, all_placed, first_near}
 use Rattle.apl_folds.proofs.columns.fold_block.Goals as goal
 
 pub fold_fours-flags-requires-clause-last : goal.fold_fours-flags-requires-clause-last
 fold_fours-flags-requires-clause-last g c =
     λ j h.
-    let line : List ℤ = line_of (pos 0) c.args.numbers.now c.args.axis.now (c.args.at + j) c.args.count in
+    let line : List ℤ = line_of (pos 0) (g.L.Lane.numbers c.args.numbers.now) c.args.axis.now (c.args.at + j) c.args.count in
     let within : j < length c.args.folds.now = search rules in
     let some = (c.requires.lines j within).some in
-    fold_last g.F.Scalar.meaning line (c.args.count - 1) (omega (arith, some, length-line (pos 0) c.args.numbers.now c.args.axis.now (c.args.at + j) c.args.count))
-    ∙ ap (λ (x : ℤ). Ok x) (line_at (pos 0) c.args.numbers.now c.args.axis.now (c.args.at + j) c.args.count (c.args.count - 1) (omega (arith, some))
+    fold_last g.S.Step.meaning line (c.args.count - 1) (omega (arith, some, length-line (pos 0) (g.L.Lane.numbers c.args.numbers.now) c.args.axis.now (c.args.at + j) c.args.count))
+    ∙ ap (λ (x : ℤ). Ok x) (line_at (pos 0) (g.L.Lane.numbers c.args.numbers.now) c.args.axis.now (c.args.at + j) c.args.count (c.args.count - 1) (omega (arith, some))
     ∙ sym (c.beside.ensures.numbers j within)
-    ∙ ap (λ (l : List ℤ). get_or l j (pos 0)) (sym c.copy_from_slice.ensures.after))
+    ∙ ap (λ (l : List ℤ). get_or l j (pos 0)) (sym c.copy_row.ensures))
 
 pub loop-k-init : goal.loop-k-init
 loop-k-init g c =
@@ -34,7 +34,7 @@ beside-requires-in-loop-k-clause-placed g c =
 pub loop-k-preserved : goal.loop-k-preserved
 loop-k-preserved g c =
     λ z j h.
-    let line : List ℤ = line_of (pos 0) c.args.numbers.now c.args.axis.now (c.args.at + j) c.args.count in
+    let line : List ℤ = line_of (pos 0) (g.L.Lane.numbers c.args.numbers.now) c.args.axis.now (c.args.at + j) c.args.count in
     let within : j < length c.args.folds.now = search rules in
     let here : j < length c.loop-k.folds = search rules in
     let fits : SFits w64 c.either-flags.result = search rules in
@@ -42,10 +42,9 @@ loop-k-preserved g c =
     let raised : pos 0 ≤ℤ c.either-flags.result = simp to_z-of_z at z in
     let both = c.either-flags.ensures.neither raised in
     let fresh : pos 0 ≤ℤ c.take_row-flag.result = simp to_z-of_z at both.1 in
-    fold_before g.F.Scalar.meaning line c.loop-k.k (get_or c.loop-k.folds j (pos 0)) (omega arith) (omega (arith, length-line (pos 0) c.args.numbers.now c.args.axis.now (c.args.at + j) c.args.count)) (c.loop-k.invariant both.0 j h)
-    ∙ ap (λ (x : ℤ). g.F.Scalar.meaning x (get_or c.loop-k.folds j (pos 0)))
-    (line_at (pos 0) c.args.numbers.now c.args.axis.now (c.args.at + j) c.args.count (c.loop-k.k - 1) (omega arith) ∙ sym (c.beside-in-loop-k.ensures.numbers j here))
-    ∙ c.take_row-flag.ensures fresh j here
+    one_before g.S.Step.meaning g.S.Step.room g.met.S.Step.shorter line c.loop-k.k _ (get_or c.loop-k.folds j (pos 0)) _ (omega arith) (omega (arith, length-line (pos 0) (g.L.Lane.numbers c.args.numbers.now) c.args.axis.now (c.args.at + j) c.args.count))
+    (line_at (pos 0) (g.L.Lane.numbers c.args.numbers.now) c.args.axis.now (c.args.at + j) c.args.count (c.loop-k.k - 1) (omega arith) ∙ sym (c.beside-in-loop-k.ensures.numbers j here))
+    (c.requires.room j within) (c.loop-k.invariant both.0 j h) (c.take_row-flag.ensures fresh j here)
 
 count_before : (count : ℕ) → 0 < count → count - 1 < count
 count_before count h = omega arith
@@ -66,3 +65,9 @@ fold_fours-flags-requires-clause-lines g c =
     λ j h.
     let within : j < length c.args.folds.now = search rules in
     c.requires.lines j within
+
+pub fold_fours-flags-requires-clause-room : goal.fold_fours-flags-requires-clause-room
+fold_fours-flags-requires-clause-room g c =
+    λ j h.
+    let within : j < length c.args.folds.now = search rules in
+    c.requires.room j within

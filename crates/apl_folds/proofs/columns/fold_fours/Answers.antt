@@ -14,7 +14,7 @@ loop-left-preserved g c =
       size = search rules;
       so_far =
           λ z j h.
-          let line : List ℤ = line_of (pos 0) c.args.numbers.now c.args.axis.now (c.args.at + j) c.args.count in
+          let line : List ℤ = line_of (pos 0) (g.L.Lane.numbers c.args.numbers.now) c.args.axis.now (c.args.at + j) c.args.count in
           let within : j < length c.args.folds.now = search rules in
           let here : j < length c.loop-left.folds = search rules in
           let fits : SFits w64 c.either-flags.result = search rules in
@@ -23,12 +23,13 @@ loop-left-preserved g c =
           let both = c.either-flags.ensures.neither raised in
           let fresh : pos 0 ≤ℤ c.take_four-flag.result = simp to_z-of_z at both.1 in
           let back : c.loop-left.left - 4 + 4 ≡ c.loop-left.left = omega arith in
-          four_before g.F.Scalar.meaning line (c.loop-left.left - 4) _ _ _ _ (get_or c.loop-left.folds j (pos 0)) _ (omega (arith, few, length-line (pos 0) c.args.numbers.now c.args.axis.now (c.args.at + j) c.args.count))
-          (line_at (pos 0) c.args.numbers.now c.args.axis.now (c.args.at + j) c.args.count (c.loop-left.left - 4) (omega (arith, few)) ∙ sym (c.beside.ensures.numbers j within))
-          (line_at (pos 0) c.args.numbers.now c.args.axis.now (c.args.at + j) c.args.count (c.loop-left.left - 4 + 1) (omega (arith, few)) ∙ sym (c.beside-in-loop-left.ensures.numbers j within))
-          (line_at (pos 0) c.args.numbers.now c.args.axis.now (c.args.at + j) c.args.count (c.loop-left.left - 4 + 2) (omega (arith, few)) ∙ sym (c.beside-in-loop-left-2.ensures.numbers j within))
-          (line_at (pos 0) c.args.numbers.now c.args.axis.now (c.args.at + j) c.args.count (c.loop-left.left - 4 + 3) (omega (arith, few)) ∙ sym (c.beside-in-loop-left-3.ensures.numbers j within))
-          (ap (λ (m : ℕ). fold_by g.F.Scalar.meaning (drop m line)) back ∙ c.loop-left.invariant.so_far both.0 j here)
+          four_before g.S.Step.meaning g.S.Step.room g.met.S.Step.shorter line (c.loop-left.left - 4) _ _ _ _ (get_or c.loop-left.folds j (pos 0)) _ (omega (arith, few, length-line (pos 0) (g.L.Lane.numbers c.args.numbers.now) c.args.axis.now (c.args.at + j) c.args.count))
+          (line_at (pos 0) (g.L.Lane.numbers c.args.numbers.now) c.args.axis.now (c.args.at + j) c.args.count (c.loop-left.left - 4) (omega (arith, few)) ∙ sym (c.beside.ensures.numbers j within))
+          (line_at (pos 0) (g.L.Lane.numbers c.args.numbers.now) c.args.axis.now (c.args.at + j) c.args.count (c.loop-left.left - 4 + 1) (omega (arith, few)) ∙ sym (c.beside-in-loop-left.ensures.numbers j within))
+          (line_at (pos 0) (g.L.Lane.numbers c.args.numbers.now) c.args.axis.now (c.args.at + j) c.args.count (c.loop-left.left - 4 + 2) (omega (arith, few)) ∙ sym (c.beside-in-loop-left-2.ensures.numbers j within))
+          (line_at (pos 0) (g.L.Lane.numbers c.args.numbers.now) c.args.axis.now (c.args.at + j) c.args.count (c.loop-left.left - 4 + 3) (omega (arith, few)) ∙ sym (c.beside-in-loop-left-3.ensures.numbers j within))
+          (c.requires.room j within)
+          (ap (λ (m : ℕ). fold_by g.S.Step.meaning (drop m line)) back ∙ c.loop-left.invariant.so_far both.0 j here)
           (c.take_four-flag.ensures fresh j here);
     }
 

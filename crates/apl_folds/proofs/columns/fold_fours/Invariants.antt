@@ -7,7 +7,7 @@ abbrev pub invariant-loop-left : goal.invariant-loop-left
 invariant-loop-left g l = record {
   few : l.left < l.count;
   size : length l.folds ≡ length l.initial.folds;
-  so_far : pos 0 ≤ℤ l.flags → AreFoldsFrom g.F.Scalar.meaning l.numbers l.axis l.at l.count l.left l.folds;
+  so_far : pos 0 ≤ℤ l.flags → AreFoldsFrom g.S.Step.meaning (g.L.Lane.numbers l.numbers) l.axis l.at l.count l.left l.folds;
 }
 
 abbrev pub decreases-loop-left : goal.decreases-loop-left

@@ -9,7 +9,7 @@ use Rattle.apl_folds.proofs.columns.push_columns.Given as goal
 -- the folds so far and those to come are all the folds
 abbrev pub invariant-loop-from : goal.invariant-loop-from
 invariant-loop-from g l =
-    let fold : ℕ → Result ℤ Fault = λ p. fold_by g.F.Scalar.meaning (line_of (pos 0) l.numbers l.axis p l.count) in
+    let fold : ℕ → Result ℤ Fault = λ p. fold_by g.F.Scalar.meaning (line_of (pos 0) (g.L.Lane.numbers l.numbers) l.axis p l.count) in
     record {
       after_first : l.first ≤ l.from;
       within : l.from ≤ l.till;

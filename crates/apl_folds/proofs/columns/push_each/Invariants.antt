@@ -9,5 +9,5 @@ use Rattle.apl_folds.proofs.columns.push_each.Given as goal
 -- the folds so far and those to come are all the folds
 abbrev pub invariant-loop-at : goal.invariant-loop-at
 invariant-loop-at g l =
-    let fold : ℕ → Result ℤ Fault = λ p. fold_by g.F.Scalar.meaning (line_of (pos 0) l.numbers l.axis p l.count) in
+    let fold : ℕ → Result ℤ Fault = λ p. fold_by g.F.Scalar.meaning (line_of (pos 0) (g.L.Lane.numbers l.numbers) l.axis p l.count) in
     after l.out.items (all_ok fold (range_with_len l.at (l.till - l.at))) ≡ after l.initial.out.items (all_ok fold (range_with_len l.initial.from (l.till - l.initial.from)))

@@ -1,9 +1,13 @@
-use Rattle.std.proofs.Common.{◌≡◌, ℕ, ◌<◌, ◌≤◌, ◌≤ℤ◌, pos, get_or, Ok}
+use Rattle.std.proofs.Common.{◌≡◌, ℕ, ◌<◌, ◌≤◌, ◌≤ℤ◌, ◌∷◌, ℤ, List, pos, get_or, Ok}
+use Rattle.apl_folds.specs.Lines.{fold_by}
 use Rattle.apl_folds.proofs.columns.take_row.Given as goal
 
 -- while no flag is raised, each number so far is the value, and those to come stand as they were
 abbrev pub invariant-loop-j : goal.invariant-loop-j
-invariant-loop-j g l = record {
-  so_far : pos 0 ≤ℤ l.flags → (k : ℕ) → k < l.j → g.F.Scalar.meaning (get_or l.numbers k (pos 0)) (get_or l.initial.folds k (pos 0)) ≡ Ok (get_or l.folds k (pos 0));
-  others : (k : ℕ) → l.j ≤ k → get_or l.folds k (pos 0) ≡ get_or l.initial.folds k (pos 0);
-}
+invariant-loop-j g l =
+    let f = g.S.Step.meaning in
+    let zs = g.L.Lane.numbers l.numbers in
+    record {
+      so_far : pos 0 ≤ℤ l.flags → (k : ℕ) → k < l.j → (rest : List ℤ) → g.S.Step.room (get_or zs k (pos 0) ∷ rest) → fold_by f rest ≡ Ok (get_or l.initial.folds k (pos 0)) → fold_by f (get_or zs k (pos 0) ∷ rest) ≡ Ok (get_or l.folds k (pos 0));
+      others : (k : ℕ) → l.j ≤ k → get_or l.folds k (pos 0) ≡ get_or l.initial.folds k (pos 0);
+    }

@@ -4,4 +4,4 @@ use Rattle.apl_folds.proofs.line.fold_strided.Given as goal
 
 -- what was folded so far is the fold of the last numbers
 abbrev pub invariant-loop-k : goal.invariant-loop-k
-invariant-loop-k g l = fold_by g.F.Scalar.meaning (drop l.k (line_of (pos 0) l.numbers l.axis l.at l.count)) ≡ Ok l.all
+invariant-loop-k g l = fold_by g.F.Scalar.meaning (drop l.k (line_of (pos 0) (g.L.Lane.numbers l.numbers) l.axis l.at l.count)) ≡ Ok l.all

@@ -6,5 +6,5 @@ use Rattle.apl_folds.proofs.prefixes.fold_rest.Given as goal
 abbrev pub invariant-loop-at : goal.invariant-loop-at
 invariant-loop-at g l = record {
   size : length l.out ≡ length l.fn.out;
-  prefixes : ArePrefixes g.F.Scalar.meaning l.numbers l.axis l.at l.out;
+  prefixes : ArePrefixes g.F.Scalar.meaning (g.L.Lane.numbers l.numbers) l.axis l.at l.out;
 }

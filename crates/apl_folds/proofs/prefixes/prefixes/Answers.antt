@@ -1,16 +1,10 @@
 use Rattle.apl_folds.proofs.prefixes.prefixes.Goals as goal
 
-pub returns-in-Plus : goal.returns-in-Plus
-returns-in-Plus c = rw c.in-Plus.is c.prefixes_by.ensures
+pub returns-in-I8 : goal.returns-in-I8
+returns-in-I8 c = rw c.in-I8.is c.prefixes_in.ensures
 
-pub returns-in-Minus : goal.returns-in-Minus
-returns-in-Minus c = rw c.in-Minus.is c.prefixes_by-in-Minus.ensures
+pub returns-in-I32 : goal.returns-in-I32
+returns-in-I32 c = rw c.in-I32.is c.prefixes_in-in-I32.ensures
 
-pub returns-in-Times : goal.returns-in-Times
-returns-in-Times c = rw c.in-Times.is c.prefixes_by-in-Times.ensures
-
-pub returns-in-Maximum : goal.returns-in-Maximum
-returns-in-Maximum c = rw c.in-Maximum.is c.prefixes_by-in-Maximum.ensures
-
-pub returns-in-Minimum : goal.returns-in-Minimum
-returns-in-Minimum c = rw c.in-Minimum.is c.prefixes_by-in-Minimum.ensures
+pub returns-in-I64 : goal.returns-in-I64
+returns-in-I64 c = rw c.in-I64.is c.prefixes_in-in-I64.ensures

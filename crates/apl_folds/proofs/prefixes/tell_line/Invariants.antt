@@ -6,6 +6,6 @@ use Rattle.apl_folds.proofs.prefixes.tell_line.Given as goal
 abbrev pub invariant-loop-k : goal.invariant-loop-k
 invariant-loop-k g l = record {
   size : length l.out ≡ length l.fn.out;
-  kept : l.k < l.axis.length → g.K.Kept.knows l.kept (before l.numbers l.axis (l.from + l.k));
-  prefixes : ArePrefixes g.F.Scalar.meaning l.numbers l.axis (l.from + l.k) l.out;
+  kept : l.k < l.axis.length → g.K.Kept.knows l.kept (before (g.L.Lane.numbers l.numbers) l.axis (l.from + l.k));
+  prefixes : ArePrefixes g.F.Scalar.meaning (g.L.Lane.numbers l.numbers) l.axis (l.from + l.k) l.out;
 }

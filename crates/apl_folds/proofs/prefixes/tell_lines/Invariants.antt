@@ -6,5 +6,5 @@ use Rattle.apl_folds.proofs.prefixes.tell_lines.Given as goal
 abbrev pub invariant-loop-line : goal.invariant-loop-line
 invariant-loop-line g l = record {
   size : length l.out ≡ length l.fn.out;
-  prefixes : ArePrefixes g.F.Scalar.meaning l.numbers l.axis (l.line * l.axis.length) l.out;
+  prefixes : ArePrefixes g.F.Scalar.meaning (g.L.Lane.numbers l.numbers) l.axis (l.line * l.axis.length) l.out;
 }

@@ -7,6 +7,6 @@ abbrev pub invariant-loop-row : goal.invariant-loop-row
 invariant-loop-row g l = record {
   columns : length l.all ≡ l.axis.up;
   size : length l.out ≡ length l.fn.out;
-  kept : 0 < l.row % l.axis.length → (j : ℕ) (d : g.row.K.Denot) → j < length l.all → g.K.Kept.knows (get_or l.all j d) (before l.numbers l.axis (l.row * l.axis.up + j));
-  prefixes : ArePrefixes g.F.Scalar.meaning l.numbers l.axis (l.row * l.axis.up) l.out;
+  kept : 0 < l.row % l.axis.length → (j : ℕ) (d : g.row.K.Denot) → j < length l.all → g.K.Kept.knows (get_or l.all j d) (before (g.L.Lane.numbers l.numbers) l.axis (l.row * l.axis.up + j));
+  prefixes : ArePrefixes g.F.Scalar.meaning (g.L.Lane.numbers l.numbers) l.axis (l.row * l.axis.up) l.out;
 }

@@ -3,8 +3,9 @@ use Rattle.std.proofs.lemmas.List.{length-map}
 use Rattle.std.proofs.lemmas.Result.{err_from_is_err_and}
 use Rattle.apl_arrays.specs.declared.cell.Cell.TheVariants.{Num}
 use Rattle.apl_arrays.specs.Axes.{without}
-use Rattle.apl_arrays.specs.Cells.{Arr, Numbers}
+use Rattle.apl_arrays.specs.Cells.{Arr, Items, Numbers, cells_of}
 use Rattle.apl_arrays.specs.Index.{size_of, bound_of}
+use Rattle.apl_arrays.specs.Ravels.{items_of}
 use Rattle.apl_arrays.specs.Results.{ok_map}
 use Rattle.apl_arrays.specs.Strides.{lengths}
 use Rattle.apl_arrays.proofs.Exits.{answers_along, answers_err, ok_map_err}
@@ -40,7 +41,8 @@ pub formed-requires-clause-full : goal.formed-requires-clause-full
 formed-requires-clause-full c =
     let es : c.remove.new.self.items ≡ without c.args.axis c.args.view.now.shape =
     parted c.args.view.now.shape c.shape-shape.result.items c.remove.new.self.items c.remove.new.self.items c.args.axis c.requires.axis c.shape-shape.ensures.value c.remove.ensures.items refl in
-    length-map c.in_ok-numbers.numbers.items Num
+    ap (λ (i : Items). length (cells_of i)) c.wide.ensures
+    ∙ length-map c.in_ok-numbers.numbers.items Num
     ∙ length-all_ok _ _ c.in_ok-numbers.numbers.items c.in_ok-numbers.ensures
     ∙ length-indices (without c.args.axis (lengths c.strided.result.axes.now))
     ∙ ap (λ (s : List ℕ). size_of (without c.args.axis s)) (sym c.strided.ensures.shape)
@@ -59,6 +61,6 @@ returns c =
     answers_along (λ (r : Arr). r) _ _ c.formed.result
     (ap (λ (a : Arr). folds_shaped c.args.function c.args.axis a) (sym (shows_one c.args.view.now c.strided.result c.strided.ensures))
     ∙ ap (ok_map (numbers_in (without c.args.axis (lengths c.strided.result.axes.now)))) c.in_ok-numbers.ensures
-    ∙ same_array (without c.args.axis (lengths c.strided.result.axes.now)) c.remove.new.self.items (Numbers c.in_ok-numbers.numbers.items) (Numbers c.in_ok-numbers.numbers.items)
-    (ap (without c.args.axis) (sym c.strided.ensures.shape) ∙ sym es) refl)
+    ∙ same_array (without c.args.axis (lengths c.strided.result.axes.now)) c.remove.new.self.items (Numbers c.in_ok-numbers.numbers.items) (items_of c.wide.result)
+    (ap (without c.args.axis) (sym c.strided.ensures.shape) ∙ sym es) (sym c.wide.ensures))
     c.formed.ensures

@@ -6,6 +6,7 @@ use Rattle.apl_arrays.specs.declared.elements.Elements.{Elements}
 use Rattle.apl_arrays.specs.Axes.{without}
 use Rattle.apl_arrays.specs.Cells.{cells_of}
 use Rattle.apl_arrays.specs.Left.{listed}
+use Rattle.apl_arrays.specs.Numbers.{values}
 use Rattle.apl_arrays.proofs.Exits.{answers_along}
 use Rattle.apl_arrays.proofs.Moves.{shown}
 use Rattle.apl_arrays.proofs.Steps.{get_or-lengths}
@@ -39,12 +40,12 @@ folds_of_numbers-requires c =
     let eo : c.as_slice.result.now ≡ without c.args.axis xs = parted xs c.copy_axes-others.result.items c.remove-inner.new.self.items c.as_slice.result.now c.args.axis c.requires.axis c.copy_axes-others.ensures c.remove-inner.ensures.items c.as_slice.ensures.value in
     let ei : inner ≡ get_or xs c.args.axis inner = c.remove-inner.ensures.value ∙ ap (λ (l : List Axis). get_or l c.args.axis inner) c.copy_axes-others.ensures in
     let some : 0 < inner.length = omega arith in
-    let size : length (cells_of (listed c.args.strided.now.items)) ≡ length c.in-Nums.numbers.now =
-    ap (λ (e : Elements). length (cells_of (listed e))) c.in-Nums.is ∙ length-map c.in-Nums.numbers.now Num in
+    let size : length (cells_of (listed c.args.strided.now.items)) ≡ length (values c.in-Nums.numbers) =
+    ap (λ (e : Elements). length (cells_of (listed e))) c.in-Nums.is ∙ length-map (values c.in-Nums.numbers) Num in
     record {
       depth = tt;
       near = near_others c.args.strided.now.offset xs c.as_slice.result.now c.args.axis inner c.requires.axis eo c.requires.steps.near;
-      each = is_line (length c.in-Nums.numbers.now) c.args.strided.now.offset xs c.as_slice.result.now inner c.args.axis c.requires.axis eo ei some
+      each = is_line (length (values c.in-Nums.numbers)) c.args.strided.now.offset xs c.as_slice.result.now inner c.args.axis c.requires.axis eo ei some
           (λ i w. omega (arith, c.requires.steps.placed i w, size)) c.requires.steps.near;
     }
 
@@ -57,7 +58,7 @@ returns-in-Nums c =
     let long : 0 < inner.length = omega arith in
     answers_along (λ (v : Vec ℤ Global). v.items) _ _ c.folds_of_numbers.result
     (ap (λ (e : Elements). folds_along c.args.function c.args.axis (shown (listed e) c.args.strided.now.offset xs)) c.in-Nums.is
-    ∙ sym (folds_of_lines c.args.function c.in-Nums.numbers.now c.args.strided.now.offset xs c.as_slice.result.now inner c.args.axis c.requires.axis eo ei long))
+    ∙ sym (folds_of_lines c.args.function (values c.in-Nums.numbers) c.args.strided.now.offset xs c.as_slice.result.now inner c.args.axis c.requires.axis eo ei long))
     c.folds_of_numbers.ensures
 
 pub folds_of_characters-requires : goal.folds_of_characters-requires

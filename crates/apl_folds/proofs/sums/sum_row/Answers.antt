@@ -1,31 +1,28 @@
-use Rattle.std.proofs.Common.{rules, arith, ◌-◌, ◌≤◌, ℤ, pos, length, drop, get_or, Ok, ap, sym, ◌∙◌, w64}
+use Rattle.std.proofs.Common.{◌≡◌, ℤ, length, Ok, to_z, of_z, w32, w64, ap, sym, ◌∙◌, rules, FitsSigned, refl}
 use Rattle.std.proofs.lemmas.Int.{to_z-of_z}
-use mir.Val.{SFits}
-use Rattle.apl_scalar.specs.declared.function.Dyadic.TheVariants as two
-use Rattle.apl_scalar.specs.Functions.{dyadic_of}
-use Rattle.apl_folds.specs.Lines.{fold_by}
-use Rattle.apl_folds.proofs.Rights.{fold_last}
-use Rattle.apl_folds.proofs.Totals.{block_before}
+use Rattle.apl_arrays.specs.Widths.{more_than_w32}
+use Rattle.apl_folds.specs.Rooms.{HaveRoom}
+use Rattle.apl_folds.specs.inside.Sums.{total}
+use Rattle.apl_folds.proofs.InRooms.{room_fold}
+use Rattle.apl_scalar.proofs.OfLanes.{as_many}
 use Rattle.apl_folds.proofs.sums.sum_row.Goals as goal
 
-pub loop-left-init : goal.loop-left-init
-loop-left-init c =
-    let fits : SFits w64 (get_or c.args.numbers.now (length c.args.numbers.now - 1) (pos 0)) = search rules in
-    record {
-      within = omega arith;
-      so_far =
-          fold_last (dyadic_of two.Plus) c.args.numbers.now (length c.args.numbers.now - 1) (omega arith)
-          ∙ ap (λ (x : ℤ). Ok x) (sym (to_z-of_z w64 (get_or c.args.numbers.now (length c.args.numbers.now - 1) (pos 0)) fits));
-    }
+pub returns-then-has_room : goal.returns-then-has_room
+returns-then-has_room g c =
+    let zs = g.L.Lane.numbers c.args.numbers.now in
+    let size = as_many g.L.Lane.value g.L.Lane.numbers g.met.L.Lane.each c.args.numbers.now in
+    let count = length c.args.numbers.now in
+    let room : HaveRoom w32 zs count = record { bound = c.most-bound.result; within = c.most-bound.ensures; fits = c.if-has_room.ensures refl } in
+    let fits : FitsSigned w32 c.sum_in.result = search rules in
+    let wide : FitsSigned w64 c.wide.result = search rules in
+    let same : to_z w64 (of_z w64 c.wide.result) ≡ total zs = to_z-of_z w64 c.wide.result wide ∙ c.wide.ensures.value ∙ to_z-of_z w32 c.sum_in.result fits ∙ c.sum_in.ensures in
+    ap (λ (z : ℤ). Ok z) same ∙ sym (room_fold w32 zs count more_than_w32 room size c.requires)
 
-pub loop-left-preserved : goal.loop-left-preserved
-loop-left-preserved c =
-    let fits : SFits w64 c.in-Some.sum = search rules in
-    let below : c.saturating_sub-from.result ≤ c.loop-left.left = omega (arith, c.saturating_sub-from.ensures) in
-    record {
-      within = omega arith;
-      so_far =
-          ap (fold_by (dyadic_of two.Plus)) (sym (block_before c.args.numbers.now c.saturating_sub-from.result c.loop-left.left below))
-          ∙ c.in-Some.ensures (drop c.loop-left.left c.args.numbers.now) c.loop-left.invariant.so_far
-          ∙ ap (λ (x : ℤ). Ok x) (sym (to_z-of_z w64 c.in-Some.sum fits));
-    }
+pub returns-then-has_room-2 : goal.returns-then-has_room-2
+returns-then-has_room-2 g c =
+    let zs = g.L.Lane.numbers c.args.numbers.now in
+    let size = as_many g.L.Lane.value g.L.Lane.numbers g.met.L.Lane.each c.args.numbers.now in
+    let count = length c.args.numbers.now in
+    let room : HaveRoom w64 zs count = record { bound = c.most-bound.result; within = c.most-bound.ensures; fits = c.if-has_room-2.ensures refl } in
+    let fits : FitsSigned w64 c.sum_in-then-has_room-2.result = search rules in
+    ap (λ (z : ℤ). Ok z) (to_z-of_z w64 c.sum_in-then-has_room-2.result fits ∙ c.sum_in-then-has_room-2.ensures) ∙ sym (room_fold w64 zs count (λ z h. h) room size c.requires)

@@ -1,7 +1,8 @@
 use Rattle.std.proofs.Common.{◌*◌, length, sym, Vec, ℤ, Global, arith}
 use Rattle.apl_arrays.specs.Left.{listed}
 use Rattle.apl_arrays.proofs.Exits.{answers_along}
-use Rattle.apl_operators.specs.inside.Standing.{held, Stand}
+use Rattle.apl_operators.specs.inside.Standing.{Stand}
+use Rattle.apl_arrays.specs.Numbers.{typed_items}
 use Rattle.apl_operators.specs.Joints.{met_cells}
 use Rattle.apl_operators.proofs.Folding.{nothing_met}
 use Rattle.apl_operators.proofs.Meeting.{folds_by_numbers, folds_of_failures, joins_along, nothing_along}
@@ -16,10 +17,10 @@ returns-then-joint-eq0 c =
 
 pub returns-in-Some : goal.returns-in-Some
 returns-in-Some c =
-    let stand : Stand c.args.inner_function (listed c.args.a) (listed c.args.b) (held c.in-Some.found.left) (held c.in-Some.found.right) = rw c.in-Some.is at c.in_ok-found.ensures in
+    let stand : Stand c.args.inner_function (listed c.args.a) (listed c.args.b) (typed_items c.in-Some.found.left) (typed_items c.in-Some.found.right) = rw c.in-Some.is at c.in_ok-found.ensures in
     answers_along (λ (v : Vec ℤ Global). v.items) _ _ c.fold_met_by.result
-    (folds_by_numbers c.args.outer_function c.args.inner_function (listed c.args.a) (listed c.args.b) (held c.in-Some.found.left) (held c.in-Some.found.right) c.args.joint.now stand
-    (joins_along c.args.joint.now _ _ (length (held c.in-Some.found.left)) (length (held c.in-Some.found.right)) (sym stand.left) (sym stand.right) c.requires.joint))
+    (folds_by_numbers c.args.outer_function c.args.inner_function (listed c.args.a) (listed c.args.b) (typed_items c.in-Some.found.left) (typed_items c.in-Some.found.right) c.args.joint.now stand
+    (joins_along c.args.joint.now _ _ (length (typed_items c.in-Some.found.left)) (length (typed_items c.in-Some.found.right)) (sym stand.left) (sym stand.right) c.requires.joint))
     (rw (c.as_slice-left.ensures, c.as_slice-right.ensures) at c.fold_met_by.ensures)
 
 pub returns-in-None : goal.returns-in-None

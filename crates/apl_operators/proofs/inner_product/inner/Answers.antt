@@ -3,7 +3,7 @@ use Rattle.std.proofs.lemmas.List.{length-map}
 use Rattle.std.proofs.lemmas.Result.{err_from_is_err_and}
 use Rattle.apl_arrays.specs.declared.cell.Cell.TheVariants.{Num}
 use Rattle.apl_arrays.specs.Axes.{without}
-use Rattle.apl_arrays.specs.Cells.{Arr}
+use Rattle.apl_arrays.specs.Cells.{Arr, Items, cells_of}
 use Rattle.apl_arrays.specs.Checks.{limited}
 use Rattle.apl_arrays.specs.Index.{size_of, indices}
 use Rattle.apl_arrays.specs.Results.{ok_map}
@@ -56,6 +56,6 @@ from_shape-requires g c =
     let others_b : c.without_first-right.result.0.now ≡ without 0 c.view-b.result.shape = c.without_first-right.ensures.others ∙ ap (λ (s : List ℕ). without 0 s) shape_b in
     let made : c.as_slice-4.result.now ≡ without (last_axis c.view-a.result) c.view-a.result.shape ++ without 0 c.view-b.result.shape =
     c.as_slice-4.ensures.value ∙ c.joined_shape-shape.ensures ∙ ap (λ (s : List ℕ). s ++ c.without_first-right.result.0.now) others_a ∙ ap (λ (s : List ℕ). without (last_axis c.view-a.result) c.view-a.result.shape ++ s) others_b in
-    length-map c.in_ok-values.values.items Num ∙ length-folded (λ row. folded c.args.outer_function (map Num row)) (met_items c.args.inner_function (joined_item (last_axis c.view-a.result) c.view-a.result) (joined_item 0 c.view-b.result) (last_axis c.view-a.result) c.in_ok-length.length)
+    ap (λ (i : Items). length (cells_of i)) c.wide.ensures ∙ length-map c.in_ok-values.values.items Num ∙ length-folded (λ row. folded c.args.outer_function (map Num row)) (met_items c.args.inner_function (joined_item (last_axis c.view-a.result) c.view-a.result) (joined_item 0 c.view-b.result) (last_axis c.view-a.result) c.in_ok-length.length)
     (indices (without (last_axis c.view-a.result) c.view-a.result.shape ++ without 0 c.view-b.result.shape)) c.in_ok-values.values.items c.in_ok-values.ensures
     ∙ length-indices (without (last_axis c.view-a.result) c.view-a.result.shape ++ without 0 c.view-b.result.shape) ∙ ap size_of (sym made)

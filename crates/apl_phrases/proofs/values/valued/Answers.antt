@@ -7,5 +7,6 @@ use Rattle.apl_phrases.proofs.values.valued.Goals as goal
 
 pub returns-clause-is : goal.returns-clause-is
 returns-clause-is c =
-    let os = fetched c.args.operands.constants.now c.args.sources.now (reverse c.args.operands.stack.now) in
-    row_gives c.of_row.result (seen c.args.scene) c.args.action.now c.in-Phrase.row os (as_taken c.arguments.result) c.in-Phrase.is (c.is_of_primitives.ensures.yes c.if-not-is_of_primitives.false) c.arguments.ensures c.of_row.ensures
+    let p = c.args.phrase in
+    let os = fetched p.operands.constants.now p.sources.now (reverse p.operands.stack.now) in
+    row_gives c.of_row.result (seen p.scene) p.instr.now.action c.in-Phrase.row os (as_taken c.arguments-arguments.result) c.in-Phrase.is (c.is_of_primitives.ensures.yes c.if-not-is_of_primitives.false) c.arguments-arguments.ensures c.of_row.ensures

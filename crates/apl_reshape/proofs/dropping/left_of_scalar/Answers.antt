@@ -5,7 +5,7 @@ use Rattle.apl_arrays.specs.Index.{bound_of, size_of}
 use Rattle.apl_arrays.specs.Left.{listed}
 use Rattle.apl_reshape.specs.Reshape.{taken_round}
 use Rattle.apl_reshape.specs.Take.{each_axis, left_length}
-use Rattle.apl_reshape.proofs.InRounds.{length-round}
+use Rattle.apl_reshape.proofs.InRounds.{length-round, made_round}
 use Rattle.apl_reshape.proofs.Scalars.{bound-left, left_of_one, length-left}
 use Rattle.apl_reshape.proofs.dropping.left_of_scalar.Goals as goal
 
@@ -25,7 +25,7 @@ size-requires c =
 
 pub in_shape-requires-clause-full : goal.in_shape-requires-clause-full
 in_shape-requires-clause-full c =
-    ap (λ (m : Items). length (cells_of m)) c.in_ok-left.ensures ∙ length-round c.size.result (listed c.items.result) ∙ c.size.ensures ∙ ap size_of (c.as_slice-2.ensures.value ∙ sym c.as_slice-3.ensures.value)
+    ap (λ (m : Items). length (cells_of m)) (c.in_ok-left.ensures ∙ made_round c.size.result (listed c.items.result)) ∙ length-round c.size.result (listed c.items.result) ∙ c.size.ensures ∙ ap size_of (c.as_slice-2.ensures.value ∙ sym c.as_slice-3.ensures.value)
 
 pub in_shape-requires-clause-few : goal.in_shape-requires-clause-few
 in_shape-requires-clause-few c =
@@ -45,5 +45,5 @@ returns c =
     c.as_slice-3.ensures.value ∙ c.asked_of_each-lengths.ensures ∙ ap (λ s. each_axis left_length s c.args.counts.now) (c.as_slice.ensures.value ∙ c.ones-axes.ensures) in
     let count : c.size.result ≡ size_of c.as_slice-3.result.now = c.size.ensures ∙ ap size_of (c.as_slice-2.ensures.value ∙ sym c.as_slice-3.ensures.value) in
     c.in_ok-in_shape.ensures.value
-    ∙ ap (λ (i : Items). record { shape = c.as_slice-3.result.now; items = i }) (c.in_ok-left.ensures ∙ ap (λ n. taken_round n (listed c.items.result)) count ∙ ap (taken_round (size_of c.as_slice-3.result.now)) c.items.ensures.value)
+    ∙ ap (λ (i : Items). record { shape = c.as_slice-3.result.now; items = i }) (c.in_ok-left.ensures ∙ made_round c.size.result (listed c.items.result) ∙ ap (λ n. taken_round n (listed c.items.result)) count ∙ ap (taken_round (size_of c.as_slice-3.result.now)) c.items.ensures.value)
     ∙ left_of_one c.args.b.now c.args.counts.now c.as_slice-3.result.now (length c.args.counts.now) refl c.requires.scalar c.items.ensures.full left

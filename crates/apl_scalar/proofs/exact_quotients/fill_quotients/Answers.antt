@@ -6,7 +6,7 @@ use Rattle.apl_scalar.proofs.Exact.{reach_low}
 use Rattle.apl_scalar.proofs.exact_quotients.fill_quotients.Goals as goal
 
 pub fill_by-requires-2-clause-by : goal.fill_by-requires-2-clause-by
-fill_by-requires-2-clause-by c =
+fill_by-requires-2-clause-by g c =
     let d = c.args.divisor in
     let s = trailing_zeros w64 d in
     let some : 0 < d = omega (arith, c.requires.divisor.0) in

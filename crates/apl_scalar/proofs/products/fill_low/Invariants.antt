@@ -4,4 +4,4 @@ use Rattle.apl_scalar.proofs.products.fill_low.Given as goal
 
 -- while no number is far, each number so far is the product
 abbrev pub invariant-loop-i : goal.invariant-loop-i
-invariant-loop-i l = l.far < 2 ^ 32 → (k : ℕ) → k < l.i → in_range (get_or l.a k (pos 0) *ℤ get_or l.b k (pos 0)) ≡ Ok (get_or l.out k (pos 0))
+invariant-loop-i g l = l.far < 2 ^ 32 → (k : ℕ) → k < l.i → in_range (g.X.Line.number l.x k *ℤ g.Y.Line.number l.y k) ≡ Ok (get_or l.out k (pos 0))

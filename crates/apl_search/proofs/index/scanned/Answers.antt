@@ -1,24 +1,36 @@
-use Rattle.std.proofs.Common.{rules, tests, ◌≡◌, ◌≤◌, ℕ, Bool, true, false, length, cond, ltb, Some, None, Option, refl, ap, ◌∙◌, arith}
-use Rattle.std.specs.Option.{unwrap_or}
-use Rattle.std.proofs.lemmas.Bool.{ltb-false}
+use Rattle.std.proofs.Common.{◌≡◌, ℤ, pos, Bool, true, false, get_or, of_z, to_z, w64, FitsSigned, ap, sym, ◌∙◌, refl, rules, arith}
 use Rattle.std.specs.Ordering.{int_eq}
-use Rattle.std.specs.List.{position_or_len}
-use Rattle.std.proofs.lemmas.Iterator.{YieldsList-from_slice}
-use Rattle.std.proofs.lemmas.Iterator.Search.{position_from_yields_List}
-use Rattle.apl_search.proofs.Firsts.{within}
+use Rattle.std.proofs.lemmas.Int.{to_z-of_z}
+use borrow.Author.Count.{below_more}
+use Rattle.apl_arrays.specs.Numbers.{values}
+use Rattle.apl_search.proofs.Firsts.{eq_items, first_at, first_none, itself}
 use Rattle.apl_search.proofs.index.scanned.Goals as goal
 
-place_or_len : (p n : ℕ) → p ≤ n → unwrap_or (cond (ltb p n) (Some p) None) n ≡ p
-place_or_len p n h = each (ltb p n) refl
+differ : (x y : ℤ) → (x ≡ y → ⊥) → int_eq y x ≡ false
+differ x y ne = each (int_eq y x) refl
   where
-    each : (b : Bool) → ltb p n ≡ b → unwrap_or (cond b (Some p) None) n ≡ p
-    each true e = refl
-    each false e = omega (arith, ltb-false p n e)
+    each : (b : Bool) → int_eq y x ≡ b → int_eq y x ≡ false
+    each false e = e
+    each true e = absurd (ne (eq_items y x e))
+
+pub loop-place-preserved : goal.loop-place-preserved
+loop-place-preserved c =
+    let zs = values c.args.numbers in
+    let number = to_z w64 (of_z w64 c.args.number) in
+    below_more (λ k. int_eq number (get_or zs k (pos 0)) ≡ false) c.loop-place.place c.loop-place.invariant
+    (differ (get_or zs c.loop-place.place (pos 0)) number (λ e. c.if-at-number.false (ap (of_z w64) (c.at.ensures ∙ e ∙ to_z-of_z w64 c.args.number c.ranges.number))))
+
+pub returns-then-at-number-clause-value : goal.returns-then-at-number-clause-value
+returns-then-at-number-clause-value c =
+    let zs = values c.args.numbers in
+    let fits : FitsSigned w64 c.at.result = search rules in
+    let own = to_z-of_z w64 c.args.number c.ranges.number in
+    let here = sym c.at.ensures ∙ sym (to_z-of_z w64 c.at.result fits) ∙ ap (to_z w64) c.if-at-number.true ∙ own in
+    sym (first_at (int_eq c.args.number) zs c.loop-place.place (pos 0) (omega arith) (ap (int_eq c.args.number) here ∙ itself c.args.number)
+    (λ k h. ap (λ z. int_eq z (get_or zs k (pos 0))) (sym own) ∙ c.loop-place.invariant k h))
 
 pub returns-clause-value : goal.returns-clause-value
 returns-clause-value c =
-    let place : c.position.result ≡ cond (ltb (position_or_len (int_eq c.args.number) c.args.numbers.now) (length c.args.numbers.now)) (Some (position_or_len (int_eq c.args.number) c.args.numbers.now)) None =
-    position_from_yields_List (int_eq c.args.number) _ _ c.position.result c.position.ensures.ran (YieldsList-from_slice c.args.numbers.now cc) (λ x b q k. search (rules, tests)) in
-    c.unwrap_or.ensures
-    ∙ ap (λ (o : Option ℕ). unwrap_or o (length c.args.numbers.now)) place
-    ∙ place_or_len (position_or_len (int_eq c.args.number) c.args.numbers.now) (length c.args.numbers.now) (within (int_eq c.args.number) c.args.numbers.now)
+    let zs = values c.args.numbers in
+    c.len.ensures
+    ∙ sym (first_none (int_eq c.args.number) zs (pos 0) (λ k h. ap (λ z. int_eq z (get_or zs k (pos 0))) (sym (to_z-of_z w64 c.args.number c.ranges.number)) ∙ c.loop-place.invariant k (omega arith)))

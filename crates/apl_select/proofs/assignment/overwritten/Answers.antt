@@ -8,12 +8,12 @@ use Rattle.apl_select.proofs.assignment.overwritten.Goals as goal
 pub in_shape-requires-clause-full : goal.in_shape-requires-clause-full
 in_shape-requires-clause-full c =
     ap (λ (t : Items). length (cells_of t))
-    (put_along c.args.v.now.items c.args.b.now.items _ _ (items_of c.write.new.self) c.args.places.now c.requires.within c.requires.enough (c.in_ok-ravel.ensures ∙ c.items.ensures.value) c.items-2.ensures.value c.write.ensures)
+    (put_along c.args.v.now.items c.args.b.now.items _ _ (items_of c.in_ok-ravel.ravel) c.args.places.now c.requires.within c.requires.enough c.items.ensures.value c.items-2.ensures.value c.in_ok-ravel.ensures)
     ∙ length-put_items c.args.v.now.items c.args.b.now.items c.args.places.now ∙ c.items.ensures.full ∙ sym (ap size_of c.shape.ensures.value)
 
 pub returns : goal.returns
 returns c =
     c.in_ok-in_shape.ensures.value
-    ∙ ap (λ (s : List ℕ). record { shape = s; items = items_of c.write.new.self }) c.shape.ensures.value
+    ∙ ap (λ (s : List ℕ). record { shape = s; items = items_of c.in_ok-ravel.ravel }) c.shape.ensures.value
     ∙ ap (λ (t : Items). record { shape = c.args.v.now.shape; items = t })
-    (put_along c.args.v.now.items c.args.b.now.items _ _ (items_of c.write.new.self) c.args.places.now c.requires.within c.requires.enough (c.in_ok-ravel.ensures ∙ c.items.ensures.value) c.items-2.ensures.value c.write.ensures)
+    (put_along c.args.v.now.items c.args.b.now.items _ _ (items_of c.in_ok-ravel.ravel) c.args.places.now c.requires.within c.requires.enough c.items.ensures.value c.items-2.ensures.value c.in_ok-ravel.ensures)

@@ -5,6 +5,7 @@ use Rattle.apl_arrays.specs.Answers.{FaultsFirst}
 use Rattle.apl_arrays.specs.Cells.{Arr, Items, cells_of}
 use Rattle.apl_arrays.specs.Checks.{count_of}
 use Rattle.apl_arrays.specs.Left.{listed}
+use Rattle.apl_arrays.specs.Numbers.{values}
 use Rattle.apl_arrays.specs.Results.{and_then, ok_map}
 use Rattle.apl_select.specs.Compress.{bits_of, common_count, compressed_along, kept, places_kept}
 use Rattle.apl_select.specs.Lined.{laid_within}
@@ -20,7 +21,7 @@ few_bits n h = omega arith
 
 pub laid-requires-clause-places : goal.laid-requires-clause-places
 laid-requires-clause-places c =
-    kept_below c.in_ok-bits.bits.now c.len.result (get_or c.args.shape.now c.args.axis 0) c.in_ok-count.count c.as_slice.result.now (c.as_slice.ensures.value ∙ c.in_ok-places.ensures) (sym c.in_ok-count.ensures)
+    kept_below (values c.in_ok-bits.bits) c.len.result (get_or c.args.shape.now c.args.axis 0) c.in_ok-count.count c.as_slice.result.now (c.as_slice.ensures.value ∙ c.in_ok-places.ensures) (sym c.in_ok-count.ensures)
 
 -- what is kept of a vector in one pass
 vector_compressed : (a : Arr) (axis count : ℕ) (shape : List ℕ) (items : Items) (bits : List ℤ) (array : Arr) → axis < length shape → shape ≡ length bits ∷ [] → count ≡ length bits →
@@ -46,23 +47,25 @@ no_fault_at (Err f) x r e = absurd (cc)
 pub returns-then-is_bit_each : goal.returns-then-is_bit_each
 returns-then-is_bit_each c =
     let p =
-    places_are c.args.a.now c.args.axis c.len.result c.in_ok-count.count (record { shape = c.args.shape.now; items = listed c.args.items }) c.in_ok-bits.bits.now
-    (c.len.ensures ∙ ap (λ (t : Items). length (cells_of t)) c.items.ensures.value) (sym c.in_ok-count.ensures) (ap bits_of (sym c.items-2.ensures.value) ∙ c.in_ok-bits.ensures)
+    places_are c.args.a.now c.args.axis c.len.result c.in_ok-count.count (record { shape = c.args.shape.now; items = listed c.args.items }) (values c.in_ok-bits.bits)
+    (c.len.ensures ∙ ap (λ (t : Items). length (cells_of t)) c.items.ensures.value) (sym c.in_ok-count.ensures) (ap bits_of (sym c.items-2.ensures.value) ∙ c.in_ok-bits.ensures.value)
     in
     record {
       value =
-          vector_compressed c.args.a.now c.args.axis c.in_ok-count.count c.args.shape.now (listed c.args.items) c.in_ok-bits.bits.now _ c.requires.axis (c.if-is_bit_each.ensures.shape refl) (c.if-is_bit_each.ensures.count refl) p
+          vector_compressed c.args.a.now c.args.axis c.in_ok-count.count c.args.shape.now (listed c.args.items) (values c.in_ok-bits.bits) _ c.requires.axis (c.if-is_bit_each.ensures.shape refl) (c.if-is_bit_each.ensures.count refl) p
           c.in_ok-kept_of_vector.ensures;
       at_once = no_fault_at _ _ _ p;
     }
 
-pub kept_of_vector-requires-clause-each : goal.kept_of_vector-requires-clause-each
-kept_of_vector-requires-clause-each c = c.requires.full ∙ ap size_of (c.if-is_bit_each.ensures.shape refl) ∙ once (length c.in_ok-bits.bits.now)
-
-pub kept_of_vector-requires-clause-few : goal.kept_of_vector-requires-clause-few
-kept_of_vector-requires-clause-few c =
+pub kept_of_vector-requires : goal.kept_of_vector-requires
+kept_of_vector-requires c =
     let P : List ℕ → Type 0 = λ s. bound_of s ≤ 1000000 in
-    few_bits (length c.in_ok-bits.bits.now) (subst P (c.if-is_bit_each.ensures.shape refl) c.requires.small)
+    let each : length (cells_of (listed c.args.items)) ≡ length (values c.in_ok-bits.bits) = c.requires.full ∙ ap size_of (c.if-is_bit_each.ensures.shape refl) ∙ once (length (values c.in_ok-bits.bits)) in
+    record {
+      each = sym each;
+      bits = c.in_ok-bits.ensures.bits;
+      few = omega (arith, each, few_bits (length (values c.in_ok-bits.bits)) (subst P (c.if-is_bit_each.ensures.shape refl) c.requires.small));
+    }
 
 pub laid-requires-clause-full : goal.laid-requires-clause-full
 laid-requires-clause-full c = c.requires.full

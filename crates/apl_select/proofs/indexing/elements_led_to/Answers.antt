@@ -1,6 +1,6 @@
-use Rattle.std.proofs.Common.{◌≡◌, ℕ, List, length, ap, sym, ◌∙◌, Result, Ok, Err, subst}
+use Rattle.std.proofs.Common.{◌≡◌, ℕ, List, length, ap, sym, ◌∙◌, Result, Ok, Err}
 use Rattle.apl_faults.specs.declared.fault.Fault.{Fault}
-use Rattle.apl_arrays.specs.Cells.{Arr, Items, cells_of}
+use Rattle.apl_arrays.specs.Cells.{Items, cells_of}
 use Rattle.apl_arrays.specs.Checks.{limited}
 use Rattle.apl_arrays.specs.Index.{size_of, indices, position_in}
 use Rattle.apl_arrays.specs.Left.{listed}
@@ -8,7 +8,7 @@ use Rattle.apl_arrays.specs.Ravels.{items_of}
 use Rattle.apl_arrays.specs.Results.{and_then, ok_map}
 use Rattle.apl_arrays.specs.Views.{selected}
 use Rattle.apl_arrays.proofs.Order.{length-indices}
-use Rattle.apl_select.specs.Indexing.{Places, items_led_to, joined_shape, led_to, slots_of, slots_fit}
+use Rattle.apl_select.specs.Indexing.{Places, items_led_to, joined_shape, led_to, slots_fit}
 use Rattle.apl_arrays.specs.declared.stop.Stop.{Stop}
 use Rattle.apl_arrays.specs.Answers.{FaultsFirst}
 use Rattle.apl_select.proofs.Indexes.{length-picked, index_shaped}
@@ -43,5 +43,5 @@ pub returns-clause-at_once : goal.returns-clause-at_once
 returns-clause-at_once c =
     fault_or_not (slots_fit c.args.b.now c.args.slots.now) c.picks_of.result c.in_ok-picks.picks c.in_ok-in_shape.field-0 c.in_ok-picks.was c.picks_of.ensures.at_once
 
-pub read_items-requires-clause-full : goal.read_items-requires-clause-full
-read_items-requires-clause-full c = ap (λ (t : Items). length (cells_of t)) c.items.ensures.value ∙ c.items.ensures.full ∙ sym (ap size_of c.shape.ensures.value)
+pub read-requires-clause-full : goal.read-requires-clause-full
+read-requires-clause-full c = ap (λ (t : Items). length (cells_of t)) c.items.ensures.value ∙ c.items.ensures.full ∙ sym (ap size_of c.shape.ensures.value)

@@ -6,5 +6,5 @@ abbrev pub invariant-loop-k : goal.invariant-loop-k
 invariant-loop-k g l = record {
   long : length l.out.items ≡ l.k;
   room : (vec_len l.out ≡ l.k) × (length l.numbers ≤ vec_capacity l.out);
-  so_far : (j : ℕ) (d : g.row.T.Denot) → j < l.k → item_numbered l.raw l.origin d (get_or l.numbers j (pos 0)) ≡ Ok (get_or l.out.items j d);
+  so_far : (j : ℕ) (d : g.row.T.Denot) → j < l.k → item_numbered l.raw l.origin d (get_or (g.L.Lane.numbers l.numbers) j (pos 0)) ≡ Ok (get_or l.out.items j d);
 }

@@ -7,8 +7,8 @@ use Rattle.apl_turns.specs.inside.Mirrored.{mirrored}
 use Rattle.apl_turns.proofs.FromTheEnd.{reversed_last, length-mirrored, whole_lines}
 use Rattle.apl_turns.proofs.mirrored.reverse_last.Goals as goal
 
-pub mirrored_items-requires : goal.mirrored_items-requires
-mirrored_items-requires c =
+pub made_by-requires : goal.made_by-requires
+made_by-requires c =
     whole_lines c.args.b.now.shape c.args.axis c.extent_along-extent.result.planes c.extent_along-extent.result.rows (length (cells_of (listed c.items.result))) c.requires
     (ap (λ (t : Items). length (cells_of t)) c.items.ensures.value ∙ c.items.ensures.full)
     (c.extent_along-extent.ensures.planes ∙ ap (λ (s : List ℕ). size_of (take c.args.axis s)) c.shape.ensures.value)

@@ -1,0 +1,11 @@
+-- What fits fewer bits fits 64.
+use Rattle.std.specs.Prelude.{ℤ, FitsSigned}
+use Rattle.std.specs.Int.{w8, w32, w64}
+use Rattle.std.proofs.Common.{arith}
+use Rattle.std.proofs.lemmas.Int.{ints}
+
+pub more_than_w8 : (z : ℤ) → FitsSigned w8 z → FitsSigned w64 z
+more_than_w8 z h = omega (arith, ints)
+
+pub more_than_w32 : (z : ℤ) → FitsSigned w32 z → FitsSigned w64 z
+more_than_w32 z h = omega (arith, ints)

@@ -1,0 +1,62 @@
+-- Prefixes that are made one after another.
+use Rattle.std.proofs.Common.{◌≡◌, ℕ, ℤ, pos, ◌+◌, ◌-◌, ◌*◌, ◌^◌, ◌<◌, ◌≤◌, FitsSigned, List, [], ◌∷◌, ◌++◌, map, length, take, get_or, set, Result, Ok, refl, ap, sym, subst, ◌∙◌, arith}
+use Rattle.std.specs.Int.{Width, w64}
+use Rattle.std.proofs.Math.Nat.{mul-le-mul_right}
+use Rattle.std.proofs.Math.Seq.{take-append_seam}
+use Rattle.std.proofs.lemmas.Int.{ints}
+use Rattle.apl_faults.specs.declared.fault.Fault.{Fault}
+use Rattle.apl_arrays.specs.declared.axis.Axis.{Axis}
+use Rattle.apl_arrays.proofs.Lanes.{numbers_set}
+use Rattle.apl_folds.specs.inside.Prefixes.{before, index_along, prefix_fold, prefix_folds, AllHaveRoom, ArePrefixes, AreWhole}
+use Rattle.apl_folds.specs.inside.Sums.{total, magnitudes, HasRoom}
+use Rattle.apl_folds.specs.Lines.{fold_by, line_of, IsLine}
+use Rattle.apl_folds.specs.Rooms.{HaveRoom}
+use Rattle.apl_folds.proofs.ByPlaces.{before_first, line_of_place, one_longer, prefix_told, prefix_before, prefixes_whole}
+use Rattle.apl_folds.proofs.InRooms.{line_magnitudes}
+use Rattle.apl_scalar.proofs.OfLanes.{as_many}
+use Rattle.apl_folds.proofs.Told.{filled_more}
+use Rattle.apl_folds.proofs.Totals.{total_small}
+
+-- one more is written
+pub written_one : {A : Type 0} (value : A → ℤ) (numbers : List A → List ℤ) → ((xs : List A) → numbers xs ≡ map value xs) → (f : ℤ → ℤ → Result ℤ Fault) (zs : List ℤ) (axis : Axis) (q : ℕ) (out : List A) (v : A) →
+    q < length out → prefix_fold f zs axis q ≡ Ok (value v) → ArePrefixes f zs axis q (numbers out) → ArePrefixes f zs axis (q + 1) (numbers (set out q v))
+written_one value numbers each f zs axis q out v h told so_far p l =
+    let P : List ℤ → Type 0 = λ ws. prefix_fold f zs axis p ≡ Ok (get_or ws p (pos 0)) in
+    subst P (sym (numbers_set value numbers each out q v (value v) refl))
+    (filled_more (pos 0) (λ i z. prefix_fold f zs axis i ≡ Ok z) (numbers out) q (value v) (omega (arith, as_many value numbers each out)) told so_far p l)
+
+-- the first of a line
+pub begun : (f : ℤ → ℤ → Result ℤ Fault) (room : List ℤ → Type 0) (zs : List ℤ) (axis : Axis) (q : ℕ) (x v : ℤ) → AreWhole zs axis → AllHaveRoom room zs axis → q < length zs → index_along axis q ≡ 0 → get_or zs q (pos 0) ≡ x →
+    (room (x ∷ []) → v ≡ x) → prefix_fold f zs axis q ≡ Ok v
+begun f room zs axis q x v whole all l first is made =
+    let line : before zs axis q ++ get_or zs q (pos 0) ∷ [] ≡ x ∷ [] = ap (λ (l : List ℤ). l ++ get_or zs q (pos 0) ∷ []) (sym (before_first zs axis q first)) ∙ ap (λ (y : ℤ). y ∷ []) is in
+    prefix_told f zs axis q v whole.forward (ap (fold_by f) line ∙ ap (λ (y : ℤ). Ok y) (sym (made (subst room line (all q l)))))
+
+-- the next one
+pub gone : (f : ℤ → ℤ → Result ℤ Fault) (room : List ℤ → Type 0) (zs : List ℤ) (axis : Axis) (p q : ℕ) (x z v : ℤ) → AreWhole zs axis → AllHaveRoom room zs axis → q < length zs → q ≡ p + axis.up → 0 < index_along axis q →
+    get_or zs q (pos 0) ≡ x → prefix_fold f zs axis p ≡ Ok z → ((xs : List ℤ) → room (xs ++ x ∷ []) → fold_by f xs ≡ Ok z → fold_by f (xs ++ x ∷ []) ≡ Ok v) → prefix_fold f zs axis q ≡ Ok v
+gone f room zs axis p q x z v whole all l next later is e step =
+    let line : before zs axis q ++ get_or zs q (pos 0) ∷ [] ≡ before zs axis q ++ x ∷ [] = ap (λ (y : ℤ). before zs axis q ++ y ∷ []) is in
+    prefix_told f zs axis q v whole.forward
+    (ap (fold_by f) line ∙ step (before zs axis q) (subst room line (all q l)) (sym (prefix_before f zs axis p q whole.long whole.apart whole.forward next later) ∙ e))
+
+-- there is room for the sum of each prefix
+pub prefixes_room : (w : Width) (zs : List ℤ) (axis : Axis) → ((z : ℤ) → FitsSigned w z → FitsSigned w64 z) → AreWhole zs axis → HaveRoom w zs axis.length → AllHaveRoom (HasRoom w) zs axis
+prefixes_room w zs axis bounded whole h q l =
+    let k : ℕ = index_along axis q in
+    let p : ℕ = q - k * axis.up in
+    let raw : List ℤ = line_of (pos 0) zs axis p (k + 1) in
+    let line : IsLine (length zs) axis p (k + 1) = line_of_place zs axis q whole l in
+    let few : (k + 1) * h.bound ≤ axis.length * h.bound = mul-le-mul_right h.bound line.within in
+    let small : magnitudes raw ≤ (k + 1) * h.bound = line_magnitudes zs (length zs) h.bound axis p (k + 1) h.within refl line in
+    let all : FitsSigned w64 (pos (axis.length * h.bound)) = bounded (pos (axis.length * h.bound)) (h.fits (pos (axis.length * h.bound)) (omega arith)) in
+    let near : axis.length * h.bound < 2 ^ 63 = omega (arith, ints) in
+    subst (HasRoom w) (sym (one_longer zs axis q whole.forward)) (record { sum = h.fits (total raw) (omega (arith, total_small raw)); magnitudes = omega arith })
+
+-- all are written, in a room that has no more
+pub all_written : {A : Type 0} (value : A → ℤ) (numbers : List A → List ℤ) → ((xs : List A) → numbers xs ≡ map value xs) → (f : ℤ → ℤ → Result ℤ Fault) (zs : List ℤ) (axis : Axis) (n : ℕ) (out rest : List A) →
+    length zs ≡ n → length out ≡ n → ArePrefixes f zs axis n (numbers out) → prefix_folds f zs axis ≡ Ok (numbers (take n (out ++ rest)))
+all_written {A = A} value numbers each f zs axis n out rest count size written =
+    let Written : ℕ → Type 0 = λ k. ArePrefixes f zs axis k (numbers out) in
+    prefixes_whole f zs axis (numbers out) (as_many value numbers each out ∙ size ∙ sym count) (subst Written (sym count) written)
+    ∙ ap (λ (l : List A). Ok (numbers l)) (sym (ap (λ (k : ℕ). take k (out ++ rest)) (sym size) ∙ take-append_seam out rest))

@@ -1,0 +1,183 @@
+// Scans of numbers in row-major order, each prefix from the one before it, where all have values.
+ghost use Rattle.std.specs.Prelude.{◌≡◌, ◌<◌, ◌≤◌, ◌+◌, ◌*◌, ◌∷◌, ◌++◌, [], ℤ, List, Result, length, IfOk, Ok};
+ghost use Rattle.apl_faults.specs.declared.fault.Fault.{Fault};
+ghost use Rattle.apl_arrays.specs.Numbers.{kept_values};
+ghost use Rattle.apl_scalar.specs.declared.function.Dyadic.TheVariants as two;
+ghost use Rattle.apl_scalar.specs.Functions.{dyadic_of};
+ghost use Rattle.apl_folds.specs.Lines.{fold_by};
+ghost use Rattle.apl_folds.specs.inside.Prefixes.{index_along, prefix_fold, prefix_folds, AllHaveRoom, ArePrefixes, AreWhole};
+ghost use Rattle.apl_folds.specs.inside.Sums.{HasRoom};
+
+use crate::choice::Choice;
+use crate::sums::plus;
+use apl_arrays::{Axis, Lane, NumberVec};
+use std::alloc::{AllocError, Global};
+use std::marker::PhantomData;
+
+/// A function whose fold of numbers is made of that of the numbers before the last one, in a type that has room for it.
+pub(crate) trait Running<L: Lane, M: Lane> {
+    /// The function of numbers without bounds.
+    ghost meaning: { ℤ → ℤ → Result ℤ Fault };
+
+    /// There is room for the fold of these numbers.
+    ghost room: { List ℤ → Type 0 };
+
+    /// The fold of one number.
+    fn first(number: L) -> M
+        ensures { room (L.value number ∷ []) → M.value result ≡ L.value number };
+
+    /// The fold with a number more.
+    fn then(fold: M, number: L) -> M
+        ensures { (numbers : List ℤ) → room (numbers ++ L.value number ∷ []) → fold_by meaning numbers ≡ Ok (M.value fold) → fold_by meaning (numbers ++ L.value number ∷ []) ≡ Ok (M.value result) };
+}
+
+/// A function that chooses one of two numbers.
+pub(crate) struct Chosen<C>(PhantomData<C>);
+
+impl<C: Choice, L: Lane> Running<L, L> for Chosen<C> {
+    ghost meaning = { C.meaning };
+
+    ghost room = { λ _. Unit {0} };
+
+    #[inline(always)]
+    fn first(number: L) -> L {
+        number
+    }
+
+    #[inline(always)]
+    fn then(fold: L, number: L) -> L {
+        C::of(fold, number)
+    }
+}
+
+/// The sum.
+pub(crate) struct Total;
+
+impl<L: Lane, M: Lane> Running<L, M> for Total {
+    ghost meaning = { dyadic_of two.Plus };
+
+    ghost room = { HasRoom M.width };
+
+    #[inline(always)]
+    fn first(number: L) -> M {
+        M::low(number.wide())
+    }
+
+    #[inline(always)]
+    fn then(fold: M, number: L) -> M {
+        plus(fold, number.wide())
+    }
+}
+
+/// Writes the prefixes of a line of numbers that lie side by side.
+fn run_line<R: Running<L, M>, L: Lane, M: Lane>(
+    numbers: &[L],
+    axis: Axis,
+    from: usize,
+    out: &mut [M],
+)
+    requires whole { AreWhole (L.numbers numbers.now) axis }
+    requires room { AllHaveRoom R.room (L.numbers numbers.now) axis }
+    requires beside { axis.up ≡ 1 }
+    requires line { index_along axis from ≡ 0 }
+    requires within { from + axis.length ≤ length numbers.now }
+    requires size { length out.old ≡ length numbers.now }
+    requires so_far { ArePrefixes R.meaning (L.numbers numbers.now) axis from (M.numbers out.old) }
+    ensures size { length out.new ≡ length out.old }
+    ensures prefixes { ArePrefixes R.meaning (L.numbers numbers.now) axis (from + axis.length) (M.numbers out.new) }
+{
+    let mut fold = R::first(numbers[from]);
+    out[from] = fold;
+    for at in from + 1..from + axis.length {
+        fold = R::then(fold, numbers[at]);
+        out[at] = fold;
+    }
+}
+
+/// The same line by line.
+fn run_lines<R: Running<L, M>, L: Lane, M: Lane>(numbers: &[L], axis: Axis, out: &mut [M])
+    requires whole { AreWhole (L.numbers numbers.now) axis }
+    requires room { AllHaveRoom R.room (L.numbers numbers.now) axis }
+    requires beside { axis.up ≡ 1 }
+    requires size { length out.old ≡ length numbers.now }
+    ensures size { length out.new ≡ length out.old }
+    ensures prefixes { ArePrefixes R.meaning (L.numbers numbers.now) axis (length numbers.now) (M.numbers out.new) }
+{
+    for line in 0..numbers.len() / axis.length {
+        run_line::<R, L, M>(numbers, axis, line * axis.length, out);
+    }
+}
+
+/// The prefix at a place, by those before it.
+#[inline(always)]
+fn prefix_at<R: Running<L, M>, L: Lane, M: Lane>(
+    numbers: &[L],
+    axis: Axis,
+    index: usize,
+    at: usize,
+    out: &[M],
+) -> M
+    requires whole { AreWhole (L.numbers numbers.now) axis }
+    requires room { AllHaveRoom R.room (L.numbers numbers.now) axis }
+    requires index { index_along axis at ≡ index }
+    requires within { at < length numbers.now }
+    requires size { length out.now ≡ length numbers.now }
+    requires so_far { ArePrefixes R.meaning (L.numbers numbers.now) axis at (M.numbers out.now) }
+    ensures { prefix_fold R.meaning (L.numbers numbers.now) axis at ≡ Ok (M.value result) }
+{
+    if index == 0 {
+        R::first(numbers[at])
+    } else {
+        R::then(out[at - axis.up], numbers[at])
+    }
+}
+
+/// Writes the prefixes of a row of numbers, which all have the same index along the axis.
+fn run_row<R: Running<L, M>, L: Lane, M: Lane>(numbers: &[L], axis: Axis, row: usize, out: &mut [M])
+    requires whole { AreWhole (L.numbers numbers.now) axis }
+    requires room { AllHaveRoom R.room (L.numbers numbers.now) axis }
+    requires within { row * axis.up + axis.up ≤ length numbers.now }
+    requires size { length out.old ≡ length numbers.now }
+    requires so_far { ArePrefixes R.meaning (L.numbers numbers.now) axis (row * axis.up) (M.numbers out.old) }
+    ensures size { length out.new ≡ length out.old }
+    ensures prefixes { ArePrefixes R.meaning (L.numbers numbers.now) axis (row * axis.up + axis.up) (M.numbers out.new) }
+{
+    let index = row % axis.length;
+    let from = row * axis.up;
+    for at in from..from + axis.up {
+        let prefix = prefix_at::<R, L, M>(numbers, axis, index, at, out);
+        out[at] = prefix;
+    }
+}
+
+/// The same row by row.
+fn run_rows<R: Running<L, M>, L: Lane, M: Lane>(numbers: &[L], axis: Axis, out: &mut [M])
+    requires whole { AreWhole (L.numbers numbers.now) axis }
+    requires room { AllHaveRoom R.room (L.numbers numbers.now) axis }
+    requires size { length out.old ≡ length numbers.now }
+    ensures size { length out.new ≡ length out.old }
+    ensures prefixes { ArePrefixes R.meaning (L.numbers numbers.now) axis (length numbers.now) (M.numbers out.new) }
+{
+    for row in 0..numbers.len() / axis.up {
+        run_row::<R, L, M>(numbers, axis, row, out);
+    }
+}
+
+/// All prefixes.
+pub(crate) fn run<R: Running<L, M>, L: Lane, M: Lane>(
+    alloc: Global,
+    numbers: &[L],
+    axis: Axis,
+) -> Result<NumberVec, AllocError>
+    requires whole { AreWhole (L.numbers numbers.now) axis }
+    requires room { AllHaveRoom R.room (L.numbers numbers.now) axis }
+    ensures { IfOk result (λ out. prefix_folds R.meaning (L.numbers numbers.now) axis ≡ Ok (kept_values out)) }
+{
+    let mut out = vec![in alloc; M::low(0); numbers.len()]?;
+    if axis.up == 1 {
+        run_lines::<R, L, M>(numbers, axis, out.as_mut_slice());
+        return Ok(M::kept(out));
+    }
+    run_rows::<R, L, M>(numbers, axis, out.as_mut_slice());
+    Ok(M::kept(out))
+}

@@ -1,7 +1,0 @@
-use Rattle.std.proofs.Common.{◌≡◌}
-use Rattle.std.specs.List.{flat_map, range_with_len}
-use Rattle.apl_reshape.specs.inside.Rows.{blocks, item_at}
-use Rattle.apl_reshape.proofs.blocks.rows_joined.Given as goal
-
-abbrev pub invariant-loop-row : goal.invariant-loop-row
-invariant-loop-row g l = (d : g.row.T.Denot) → l.out.items ≡ flat_map (blocks (item_at l.x.is_scalar l.xs d) (item_at l.y.is_scalar l.ys d) l.x.len l.y.len) (range_with_len 0 l.row)

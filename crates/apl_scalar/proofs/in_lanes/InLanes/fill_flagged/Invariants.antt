@@ -1,0 +1,9 @@
+use Rattle.std.proofs.Common.{ℕ, ◌≡◌, ◌<◌, ◌≤ℤ◌, ◌<ℤ◌, pos, get_or, Ok}
+use Rattle.apl_scalar.specs.Lanes.{HasNoneIn}
+use Rattle.apl_scalar.proofs.in_lanes.InLanes.fill_flagged.Given as goal
+
+-- while no flag is raised, each number so far is the value, and where one is, the lane doesn't hold one of them
+abbrev pub invariant-loop-i : goal.invariant-loop-i
+invariant-loop-i g l =
+    (pos 0 ≤ℤ g.L.Lane.value l.flags → (k : ℕ) → k < l.i → g.Self.Scalar.meaning (g.X.Line.number l.x k) (g.Y.Line.number l.y k) ≡ Ok (get_or (g.L.Lane.numbers l.out) k (pos 0)))
+    × (g.L.Lane.value l.flags <ℤ pos 0 → (k : ℕ) × (k < l.i) × HasNoneIn g.L.Lane.width (g.Self.Scalar.meaning (g.X.Line.number l.x k) (g.Y.Line.number l.y k)))

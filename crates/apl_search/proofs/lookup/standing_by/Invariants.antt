@@ -1,9 +1,0 @@
-use Rattle.std.proofs.Common.{◌≡◌, ℤ, map, take}
-use Rattle.std.specs.Ordering.{int_eq}
-use Rattle.std.specs.List.{list_any}
-use Rattle.apl_scalar.specs.Functions.{number_of}
-use Rattle.apl_search.proofs.lookup.standing_by.Given as goal
-
--- the verdicts so far
-abbrev pub invariant-loop-number : goal.invariant-loop-number
-invariant-loop-number l = l.verdicts.items ≡ map (λ (x : ℤ). number_of (list_any (int_eq x) l.among)) (take l.number-index l.sought)

@@ -1,0 +1,10 @@
+use Rattle.std.proofs.Common.{FitsSigned, w64, ap, sym, ◌∙◌, rules}
+use Rattle.apl_select.specs.Indexing.{place_numbered}
+use Rattle.apl_select.proofs.Lanes.{number_told}
+use Rattle.apl_select.proofs.vector.place_at.Goals as goal
+
+pub returns : goal.returns
+returns g c =
+    let fits : FitsSigned w64 c.wide.result = search rules in
+    let told = number_told g.L.Lane.value g.L.Lane.numbers g.met.L.Lane.each c.args.numbers.now c.args.at c.index-numbers-at.result c.wide.result fits c.requires.at c.index-numbers-at.is c.wide.ensures.value in
+    λ n few below. ap (place_numbered n c.args.origin) (sym told) ∙ c.place_from.ensures n few below
