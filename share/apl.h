@@ -62,7 +62,7 @@ uint32_t apl_play(const uint8_t *workspace, size_t workspace_length,
                   struct apl_sizes *sizes);
 
 /* The version that this file declares, a day as the number YYYYMMDD. */
-#define APL_VERSION 20261130
+#define APL_VERSION 20261201
 
 /* Returns the version of the library that the program runs with, which may be another one than APL_VERSION where it is a shared object. A later
  * version has a larger number. */

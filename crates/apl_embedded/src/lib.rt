@@ -36,9 +36,9 @@ pub extern "C" fn apl_play(
 }
 
 /// The day of the newest changes that CHANGELOG.md tells of, as the number YYYYMMDD.
-const VERSION: u32 = 20261130;
+const VERSION: u32 = 20261201;
 
-/// The version of the library, a day as the number YYYYMMDD: 20261130 is 2026-11-30. A later version has a larger number.
+/// The version of the library, a day as the number YYYYMMDD: 20261201 is 2026-12-01. A later version has a larger number.
 #[unsafe(no_mangle)]
 pub extern "C" fn apl_version() -> u32
     ensures { result ≡ VERSION }

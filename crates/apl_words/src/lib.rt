@@ -155,7 +155,7 @@ fn serve<'a>(alloc: Global) -> Result<Arg<'a>, AllocError>
 
 /// The day of the newest changes that CHANGELOG.md tells of, and the program logic in which the program
 /// is proved, which several kits of the toolchain share.
-const VERSION: &str = "2026-11-30 (logic dac8208d650f15bf)";
+const VERSION: &str = "2026-12-01 (logic dac8208d650f15bf)";
 
 /// An example of each word.
 const EXAMPLES: &str = "Examples:
