@@ -59,6 +59,16 @@ pub(crate) fn fill_low<X: Line<i64>, Y: Line<i64>>(x: X, y: Y, out: &mut [i64]) 
     far < LOW
 }
 
+/// The product's low half with its sign, and whether that is the whole.
+#[inline(always)]
+fn whole_product(x: i64, y: i64) -> (i64, bool)
+    ensures { IsTrue result.1 → in_range (x *ℤ y) ≡ Ok result.0 }
+{
+    let product = i128::from(x) * i128::from(y);
+    let low = (product.cast_unsigned() & 0xFFFF_FFFF_FFFF_FFFF) as u64;
+    (low.cast_signed(), i128::from(low.cast_signed()) == product)
+}
+
 /// Writes the products, each tested before the next, and says whether all have values.
 #[inline(always)]
 pub(crate) fn fill_tested<X: Line<i64>, Y: Line<i64>>(x: X, y: Y, out: &mut [i64]) -> bool
@@ -67,9 +77,10 @@ pub(crate) fn fill_tested<X: Line<i64>, Y: Line<i64>>(x: X, y: Y, out: &mut [i64
     ensures { IsTrue result → AreValues (dyadic_of two.Times) (X.number x) (Y.number y) out.new }
 {
     for i in 0..out.len() {
-        match x.at(i).checked_mul(y.at(i)) {
-            Some(product) => out[i] = product,
-            None => return false,
+        let (product, is_whole) = whole_product(x.at(i), y.at(i));
+        out[i] = product;
+        if !is_whole {
+            return false;
         }
     }
     true
