@@ -15,7 +15,7 @@ use crate::attempt::{Attempt, Sure};
 use crate::joint::{Joint, joined, without_first, without_last};
 use crate::line::{Stepped, meet};
 use crate::small::SmallProduct;
-use crate::standing::standing;
+use crate::standing::{Few, standing};
 use crate::sums_of_products::sums_of_products;
 use apl_arrays::{Array, Cells, Elements, Ravel, Stop, View, joined_shape, size, within_limits};
 use apl_faults::Fault;
@@ -217,7 +217,8 @@ fn fold_elements(
     if joint.joined == 0 {
         return identities(alloc, outer_function, count);
     }
-    match standing(alloc, inner_function, a, b)? {
+    let mut few = Few::new();
+    match standing(alloc, inner_function, a, b, &mut few)? {
         Some(found) => {
             let left = found.left.as_slice();
             let right = found.right.as_slice();
