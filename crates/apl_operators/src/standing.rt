@@ -11,7 +11,7 @@ use apl_scalar::Dyadic;
 use std::alloc::{AllocError, Global};
 
 /// So many numbers at most are few.
-const FEW: usize = 16;
+pub(crate) const FEW: usize = 16;
 
 /// Room for few numbers of each of two arrays, which takes no memory.
 #[derive(Drop)]
