@@ -146,7 +146,7 @@ impl<'a> ByFunction for Meeting<'a> {
     }
 }
 
-/// The folds of the products of rows and columns. Sums of small numbers are taken a whole row at a time.
+/// The folds of the products of rows and columns. Sums of small numbers need no row of what meets.
 fn fold_products(
     alloc: Global,
     function: Dyadic,

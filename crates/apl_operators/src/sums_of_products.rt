@@ -1,4 +1,4 @@
-// Sums of products, whole rows of the second table at a time.
+// Sums of products of small numbers, whole rows of the second table at a time where these are long.
 ghost use Rattle.std.specs.Prelude.{◌≡◌, ◌<◌, ◌≤◌, ◌+◌, ◌*◌, ◌^◌, ◌*ℤ◌, ◌+ℤ◌, ℕ, ℤ, List, FitsSigned, unsigned_abs};
 ghost use Rattle.std.specs.Prelude.{length, slice_index_or, pos, Ok, IsTrue, IfOk, IfSome};
 ghost use Rattle.std.specs.Int.{w64};
