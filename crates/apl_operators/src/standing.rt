@@ -1,5 +1,5 @@
 // Numbers that stand for the elements of two arrays under a function, so that there are loops over numbers alone.
-ghost use Rattle.std.specs.Prelude.{◌≡◌, IfOk, MatchBool, map, pos, replicate};
+ghost use Rattle.std.specs.Prelude.{◌≡◌, ◌≤◌, IfOk, MatchBool, length, map, pos, replicate};
 ghost use Rattle.apl_arrays.specs.Left.{listed};
 ghost use Rattle.apl_arrays.specs.Cells.{Numbers, Characters};
 ghost use Rattle.apl_arrays.specs.Numbers.{typed_items, values};
@@ -85,23 +85,17 @@ fn apart(alloc: Global, a: usize, b: usize) -> Result<StandIns<'static>, AllocEr
     })
 }
 
-/// Numbers as numbers of 64 bits: in a room where they are few, or else made.
-fn widened<'a, L: Lane>(
-    alloc: Global,
-    numbers: &'a [L],
-    room: &'a mut [i64; FEW],
-) -> Result<Wide<'a>, AllocError>
-    ensures { IfOk result (λ wide. typed_items wide ≡ L.numbers numbers.now) }
+/// Few numbers as numbers of 64 bits, in a room.
+fn written<'a, L: Lane>(numbers: &[L], room: &'a mut [i64; FEW]) -> Wide<'a>
+    requires { length numbers.now ≤ FEW }
+    ensures { typed_items result ≡ L.numbers numbers.now }
 {
-    if FEW < numbers.len() {
-        return L::slice(numbers).wide(alloc);
-    }
     let written = &mut room[..numbers.len()];
     convert(numbers, written);
-    Ok(Typed::Lies(written))
+    Typed::Lies(written)
 }
 
-/// Numbers as numbers of 64 bits: where they lie, if they are.
+/// Numbers as numbers of 64 bits: where they lie, if they are, or in a room where they are few, or else made.
 fn wide<'a>(
     alloc: Global,
     numbers: NumberSlice<'a>,
@@ -109,9 +103,12 @@ fn wide<'a>(
 ) -> Result<Wide<'a>, AllocError>
     ensures { IfOk result (λ wide. typed_items wide ≡ values numbers.entry) }
 {
+    if FEW < numbers.len() {
+        return numbers.wide(alloc);
+    }
     match numbers {
-        NumberSlice::I8(raw) => widened(alloc, raw, room),
-        NumberSlice::I32(raw) => widened(alloc, raw, room),
+        NumberSlice::I8(raw) => Ok(written(raw, room)),
+        NumberSlice::I32(raw) => Ok(written(raw, room)),
         NumberSlice::I64(raw) => Ok(Typed::Lies(raw)),
     }
 }
