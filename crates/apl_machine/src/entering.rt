@@ -115,6 +115,7 @@ impl Workspace {
     /// A call of a function with lines, whose names stand in the newest scope, begins its first line, or
     /// stops before it. Tells whether it stopped. After an error that scope is gone, and nothing else has
     /// changed.
+    #[inline(always)]
     pub(crate) fn come_into(
         &mut self,
         function: DefinedFunction,

@@ -157,6 +157,27 @@ sums_more xs ys j r old new row some before size e each = record {
         ∙ ap (λ (m : ℕ). sum_from (product_of xs (m * j.joined) ys j.columns ((r * j.columns + (q - r * j.columns)) % j.columns)) 0 j.joined) (div-mul-add r j.columns (q - r * j.columns) b)
         ∙ ap (λ (m : ℕ). sum_from (product_of xs (r * j.joined) ys j.columns m) 0 j.joined) (mod-mul-add r j.columns (q - r * j.columns) b))
 
+-- the sums so far and one more
+pub sum_pushed : (xs ys : List ℤ) (j : Joint) (r : ℕ) (old new : List ℤ) (sum : ℤ) → AreSums xs ys j r old → new ≡ old ++ sum ∷ [] → sum ≡ sum_at xs ys j r → AreSums xs ys j (r + 1) new
+sum_pushed xs ys j r old new sum before e made = record {
+  size = ap length e ∙ length-append old (sum ∷ []) ∙ ap (λ (n : ℕ). n + 1) before.size;
+  each = λ q h. ap (λ (l : List ℤ). get_or l q (pos 0)) e ∙ ⊎_elim (early q) (late q h) (cases_lt q r);
+}
+  where
+    early : (q : ℕ) → q < r → get_or (old ++ sum ∷ []) q (pos 0) ≡ sum_at xs ys j q
+    early q l = get_or_append_left old (sum ∷ []) (pos 0) q (omega (arith, before.size)) ∙ before.each q l
+
+    last : (q : ℕ) → q < r + 1 → r ≤ q → q - r ≡ 0
+    last q h l = omega arith
+
+    late : (q : ℕ) → q < r + 1 → r ≤ q → get_or (old ++ sum ∷ []) q (pos 0) ≡ sum_at xs ys j q
+    late q h l =
+        let same : r ≡ q = omega arith in
+        get_or-append_right old (sum ∷ []) r q (pos 0) before.size l
+        ∙ ap (λ (m : ℕ). get_or (sum ∷ []) m (pos 0)) (last q h l)
+        ∙ made
+        ∙ ap (λ (m : ℕ). sum_at xs ys j m) same
+
 -- along an axis that does not extend each index is itself
 extended_same : (l n k : ℕ) → l ≡ n → k < n → extended_index l k ≡ k
 extended_same l n k e h = each (l == 1) refl

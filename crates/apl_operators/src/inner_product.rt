@@ -15,7 +15,7 @@ use crate::attempt::{Attempt, Sure};
 use crate::joint::{Joint, joined, without_first, without_last};
 use crate::line::{Stepped, meet};
 use crate::small::SmallProduct;
-use crate::standing::standing;
+use crate::standing::{FEW, Few, standing};
 use crate::sums_of_products::sums_of_products;
 use apl_arrays::{Array, Cells, Elements, Ravel, Stop, View, joined_shape, size, within_limits};
 use apl_faults::Fault;
@@ -116,6 +116,10 @@ fn fold_met<F: Attempt>(
     requires small { joint.now.rows * joint.now.columns < 2 ^ 63 }
     ensures { Answers (λ v. v.items) (folds_met function (met F.meaning xs.now ys.now joint.now) joint.now) result }
 {
+    if joint.joined <= FEW {
+        let mut few = [0i64; FEW];
+        return fold_each::<F>(alloc, function, xs, ys, joint, &mut few[..joint.joined]);
+    }
     let mut row = vec![in alloc; 0i64; joint.joined]?;
     fold_each::<F>(alloc, function, xs, ys, joint, row.as_mut_slice())
 }
@@ -142,7 +146,7 @@ impl<'a> ByFunction for Meeting<'a> {
     }
 }
 
-/// The folds of the products of rows and columns. Sums of small numbers are taken a whole row at a time.
+/// The folds of the products of rows and columns. Sums of small numbers need no row of what meets.
 fn fold_products(
     alloc: Global,
     function: Dyadic,
@@ -217,7 +221,8 @@ fn fold_elements(
     if joint.joined == 0 {
         return identities(alloc, outer_function, count);
     }
-    match standing(alloc, inner_function, a, b)? {
+    let mut few = Few::new();
+    match standing(alloc, inner_function, a, b, &mut few)? {
         Some(found) => {
             let left = found.left.as_slice();
             let right = found.right.as_slice();

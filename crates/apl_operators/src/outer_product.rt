@@ -14,7 +14,7 @@ use crate::attempt::{Attempt, Sure};
 use crate::line::{Each, Same, meet};
 use crate::small::SmallProduct;
 use crate::small_products::small_products;
-use crate::standing::standing;
+use crate::standing::{Few, standing};
 use apl_arrays::{Array, Cells, Elements, Ravel, Stop, View, joined_shape, within_limits};
 use apl_faults::Fault;
 use apl_folds::in_order;
@@ -114,7 +114,8 @@ fn cross_elements(
     if a.is_empty() || b.is_empty() {
         return Ok(Vec::new(alloc));
     }
-    match standing(alloc, function, a, b)? {
+    let mut few = Few::new();
+    match standing(alloc, function, a, b, &mut few)? {
         Some(found) => cross_by(
             alloc,
             function,

@@ -1,14 +1,34 @@
 // Numbers that stand for the elements of two arrays under a function, so that there are loops over numbers alone.
-ghost use Rattle.std.specs.Prelude.{◌≡◌, IfOk, MatchBool, map, pos, replicate};
+ghost use Rattle.std.specs.Prelude.{◌≡◌, ◌≤◌, IfOk, MatchBool, length, map, pos, replicate};
 ghost use Rattle.apl_arrays.specs.Left.{listed};
 ghost use Rattle.apl_arrays.specs.Cells.{Numbers, Characters};
 ghost use Rattle.apl_arrays.specs.Numbers.{typed_items, values};
 ghost use Rattle.apl_operators.specs.inside.Standing.{StandOrFail, TakesCodes, RefusesCharacters};
 
-use apl_arrays::{Elements, NumberSlice, Typed, Wide};
+use apl_arrays::{Elements, Lane, NumberSlice, Typed, Wide, convert};
 use apl_charset::Ch;
 use apl_scalar::Dyadic;
 use std::alloc::{AllocError, Global};
+
+/// So many numbers at most are few.
+pub(crate) const FEW: usize = 16;
+
+/// Room for few numbers of each of two arrays, which takes no memory.
+#[derive(Drop)]
+pub(crate) struct Few {
+    left: [i64; FEW],
+    right: [i64; FEW],
+}
+
+impl Few {
+    #[inline(always)]
+    pub(crate) fn new() -> Few {
+        Few {
+            left: [0; FEW],
+            right: [0; FEW],
+        }
+    }
+}
 
 /// Numbers for the elements of two arrays.
 #[derive(Drop)]
@@ -65,19 +85,48 @@ fn apart(alloc: Global, a: usize, b: usize) -> Result<StandIns<'static>, AllocEr
     })
 }
 
+/// Few numbers as numbers of 64 bits, in a room.
+fn written<'a, L: Lane>(numbers: &[L], room: &'a mut [i64; FEW]) -> Wide<'a>
+    requires { length numbers.now ≤ FEW }
+    ensures { typed_items result ≡ L.numbers numbers.now }
+{
+    let written = &mut room[..numbers.len()];
+    convert(numbers, written);
+    Typed::Lies(written)
+}
+
+/// Numbers as numbers of 64 bits: where they lie, if they are, or in a room where they are few, or else made.
+fn wide<'a>(
+    alloc: Global,
+    numbers: NumberSlice<'a>,
+    room: &'a mut [i64; FEW],
+) -> Result<Wide<'a>, AllocError>
+    ensures { IfOk result (λ wide. typed_items wide ≡ values numbers.entry) }
+{
+    if FEW < numbers.len() {
+        return numbers.wide(alloc);
+    }
+    match numbers {
+        NumberSlice::I8(raw) => Ok(written(raw, room)),
+        NumberSlice::I32(raw) => Ok(written(raw, room)),
+        NumberSlice::I64(raw) => Ok(Typed::Lies(raw)),
+    }
+}
+
 /// What stands for numbers and the elements of another array.
 fn beside_numbers<'a>(
     alloc: Global,
     function: Dyadic,
     a: NumberSlice<'a>,
     b: Elements<'a>,
+    few: &'a mut Few,
 ) -> Result<Option<StandIns<'a>>, AllocError>
     ensures { IfOk result (λ found. StandOrFail function (Numbers (values a.entry)) (listed b.entry) found) }
 {
     match b {
         Elements::Nums(b) => {
-            let left = a.wide(alloc)?;
-            let right = b.wide(alloc)?;
+            let left = wide(alloc, a, &mut few.left)?;
+            let right = wide(alloc, b, &mut few.right)?;
             Ok(Some(StandIns { left, right }))
         }
         Elements::Chars(b) => {
@@ -114,11 +163,12 @@ pub(crate) fn standing<'a>(
     function: Dyadic,
     a: Elements<'a>,
     b: Elements<'a>,
+    few: &'a mut Few,
 ) -> Result<Option<StandIns<'a>>, AllocError>
     ensures { IfOk result (λ found. StandOrFail function (listed a.entry) (listed b.entry) found) }
 {
     match a {
-        Elements::Nums(a) => beside_numbers(alloc, function, a, b),
+        Elements::Nums(a) => beside_numbers(alloc, function, a, b, few),
         Elements::Chars(a) => beside_characters(alloc, function, a, b),
     }
 }

@@ -1,4 +1,4 @@
-// Sums of products, whole rows of the second table at a time.
+// Sums of products of small numbers, whole rows of the second table at a time where these are long.
 ghost use Rattle.std.specs.Prelude.{◌≡◌, ◌<◌, ◌≤◌, ◌+◌, ◌*◌, ◌^◌, ◌*ℤ◌, ◌+ℤ◌, ℕ, ℤ, List, FitsSigned, unsigned_abs};
 ghost use Rattle.std.specs.Prelude.{length, slice_index_or, pos, Ok, IsTrue, IfOk, IfSome};
 ghost use Rattle.std.specs.Int.{w64};
@@ -14,7 +14,7 @@ use crate::small::times;
 use apl_scalar::{wider, widest};
 use std::alloc::{AllocError, Global};
 
-/// Below this many columns a row is so short that a fold of each place costs less.
+/// Below this many columns a row is so short that a sum of each place costs less.
 const FEW: usize = 8;
 
 /// Below this many rows a column that is gathered serves too seldom.
@@ -120,15 +120,45 @@ fn sum_rows(alloc: Global, xs: &[i64], ys: &[i64], joint: &Joint) -> Result<Vec<
     Ok(out)
 }
 
-/// Whether no axis extends, and rows are long enough for a row at a time.
+/// The sum of the products of so many numbers, from a place on, with those of a column of a table that is so wide.
+#[inline(always)]
+fn sum_column(xs: &[i64], from: usize, count: usize, ys: &[i64], width: usize, column: usize) -> i64
+    requires within { from + count ≤ length xs.now }
+    requires whole { length ys.now ≡ count * width }
+    requires column { column < width }
+    requires small { FitTogether xs.now ys.now count }
+    ensures { result ≡ sum_from (product_of xs.now from ys.now width column) 0 count }
+{
+    let mut sum = 0i64;
+    for k in (0..count).rev() {
+        sum = more(sum, xs[from + k], ys[k * width + column]);
+    }
+    sum
+}
+
+/// The sums of the products along each row of one table and each column of another, one after another.
+fn sum_places(alloc: Global, xs: &[i64], ys: &[i64], joint: &Joint) -> Result<Vec<i64>, AllocError>
+    requires left { length xs.now ≡ joint.now.rows * joint.now.joined }
+    requires right { length ys.now ≡ joint.now.joined * joint.now.columns }
+    requires count { joint.now.rows * joint.now.columns < 2 ^ 63 }
+    requires small { FitTogether xs.now ys.now joint.now.joined }
+    ensures { IfOk result (λ v. AreSums xs.now ys.now joint.now (joint.now.rows * joint.now.columns) v.items) }
+{
+    let count = joint.rows * joint.columns;
+    let mut out = Vec::with_capacity(alloc, count)?;
+    for place in 0..count {
+        let from = place / joint.columns * joint.joined;
+        let column = place % joint.columns;
+        out.push(sum_column(xs, from, joint.joined, ys, joint.columns, column))?;
+    }
+    Ok(out)
+}
+
+/// Whether no axis extends.
 fn is_table(joint: &Joint) -> bool
     ensures left { IsTrue result → joint.now.left ≡ joint.now.joined }
     ensures right { IsTrue result → joint.now.right ≡ joint.now.joined }
-    ensures some { IsTrue result → FEW ≤ joint.now.columns }
 {
-    if joint.columns < FEW {
-        return false;
-    }
     if joint.left != joint.joined {
         return false;
     }
@@ -146,13 +176,15 @@ fn sum_all(
 ) -> Result<Vec<i64>, AllocError>
     requires left { length xs.now ≡ joint.now.rows * joint.now.joined }
     requires right { length ys.now ≡ joint.now.joined * joint.now.columns }
-    requires some { FEW ≤ joint.now.columns }
     requires count { joint.now.rows * joint.now.columns < 2 ^ 63 }
     requires within_left { AreWithin left xs.now }
     requires within_right { AreWithin right ys.now }
     requires small { FitTogether xs.now ys.now joint.now.joined }
     ensures { IfOk result (λ v. AreSums xs.now ys.now joint.now (joint.now.rows * joint.now.columns) v.items) }
 {
+    if joint.columns < FEW {
+        return sum_places(alloc, xs, ys, joint);
+    }
     if !are_narrow(left, right) {
         return sum_rows(alloc, xs, ys, joint);
     }
@@ -162,8 +194,7 @@ fn sum_all(
     sum_groups(alloc, xs, ys, joint)
 }
 
-/// The sums of the products along rows and columns, where the numbers are known to be so small that their order is all one, and the rows
-/// are long enough.
+/// The sums of the products along rows and columns, where the numbers are known to be so small that their order is all one.
 pub(crate) fn sums_of_products(
     alloc: Global,
     xs: &[i64],

@@ -1,10 +1,10 @@
-use Rattle.std.proofs.Common.{◌≡◌, ℤ, List, Result, Ok, sym, ap, ◌∙◌, subst}
+use Rattle.std.proofs.Common.{◌≡◌, ℤ, List, Ok, sym, ap, ◌∙◌, subst}
 use Rattle.apl_arrays.specs.Origins.{origin_number}
 use Rattle.apl_arrays.specs.declared.stop.Stop.TheVariants.{Fault}
 use Rattle.apl_tokens.specs.Tokens.{tokens_of}
 use Rattle.apl_names.specs.Maps.{Map, Text}
 use Rattle.apl_machine_state.specs.Outcomes.{executed_by}
-use Rattle.apl_machine_state.specs.State.{applied, step, turn}
+use Rattle.apl_machine_state.specs.State.{applied}
 use Rattle.apl_machine_state.specs.Changes.{Change}
 use Rattle.apl_contexts.specs.Contexts.{lines_in}
 use Rattle.apl_contexts.specs.Typed.{IsTyped}
