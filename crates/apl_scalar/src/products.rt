@@ -39,12 +39,13 @@ pub(crate) fn begins_low<X: Line<i64>, Y: Line<i64>>(x: X, y: Y, count: usize) -
     requires x { (k : ℕ) → k < count → X.has x k }
     requires y { (k : ℕ) → k < count → Y.has y k }
 {
-    let mut far = 0u64;
     for i in 0..count.min(FIRST) {
         let (_, beyond) = low_product(x.at(i), y.at(i));
-        far = wider(far, beyond);
+        if LOW <= beyond {
+            return false;
+        }
     }
-    far < LOW
+    true
 }
 
 /// Writes the products of the low halves, each in one instruction, and says whether they are those of the numbers.
