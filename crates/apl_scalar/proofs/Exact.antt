@@ -93,7 +93,7 @@ fits_down (suc e) l = omega (arith, ints)
 both_parts : (e o D d : ℕ) → o * D ≡ d → e * D * o ≡ e * d
 both_parts e o D d h = mul_assoc e D o ∙ ap (λ q. e * q) (mul_comm D o ∙ h)
 
-at_least : (e d : ℕ) → 0 < d → e ≤ e * d
+pub at_least : (e d : ℕ) → 0 < d → e ≤ e * d
 at_least e d o = let l : e * 1 ≤ e * d = mul-le-mul_left e (omega arith) in omega arith
 
 exact_up : (x : ℤ) (r half p o D d : ℕ) → FitsSigned w64 x → 0 < D → 0 < d → o * D ≡ d → half * d < 2 ^ 63 → p * o % 2 ^ 64 ≡ of_z w64 x → r * D ≡ p + half * D → p < half * D →

@@ -39,7 +39,7 @@ pub quotient_close : (u m d : ℕ) → u < 2 ^ 64 → 0 < d → 2 ^ 64 ≤ m * d
 quotient_close u m d t o l = close u m (u * m / 2 ^ 64) (u * m % 2 ^ 64) d (halves (u * m)) (omega arith) t o l
 
 -- what is left after a multiple of the divisor
-rest_after : (u q d r : ℕ) → u ≡ r + q * d → r < d → r ≡ u % d
+pub rest_after : (u q d r : ℕ) → u ≡ r + q * d → r < d → r ≡ u % d
 rest_after u q d r h l = sym (mod-eq_of_lt l) ∙ sym (add-mul-mod_self_right r q d) ∙ ap (λ n. n % d) (sym h)
 
 pub rest_same : (u q d : ℕ) → q * d ≤ u → u - q * d < d → u - q * d ≡ u % d

@@ -18,4 +18,5 @@ pub mod Multiples
 pub mod Exact
 pub mod OfLanes
 pub mod Begun
+pub mod Bytes
 pub mod Parts

@@ -4,8 +4,10 @@ ghost use Rattle.apl_scalar.specs.declared.function.Monadic.TheVariants as one;
 ghost use Rattle.apl_scalar.specs.declared.function.Dyadic.TheVariants as two;
 ghost use Rattle.apl_scalar.specs.Functions.{monadic_of, dyadic_of, quotient, residue};
 
+use crate::divisible::Divisible;
 use crate::exact_quotients::fill_quotients;
 use crate::function::Scalar;
+use crate::in_narrow::InNarrow;
 use crate::in_wide::InWide;
 use crate::line::Line;
 use crate::reciprocals::fill_left;
@@ -96,6 +98,13 @@ impl InWide for Quotient {
     }
 }
 
+impl InNarrow for Quotient {
+    #[inline(always)]
+    fn divided<L: Divisible>(x: L, y: L) -> (L, L) {
+        L::tried_quotient(x, y)
+    }
+}
+
 /// What is left of the second number when it is divided by the first.
 pub struct Residue;
 
@@ -122,5 +131,12 @@ impl InWide for Residue {
             return true;
         }
         Self::fill_tried(x, y, out)
+    }
+}
+
+impl InNarrow for Residue {
+    #[inline(always)]
+    fn divided<L: Divisible>(x: L, y: L) -> (L, L) {
+        L::tried_residue(x, y)
     }
 }

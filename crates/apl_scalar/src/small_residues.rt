@@ -49,7 +49,7 @@ fn small_rest(number: u64, divisor: u64) -> u64
 
 /// What is left of the second number when it is divided by the first.
 #[inline(always)]
-fn small_left(x: i64, y: i64) -> i64
+pub(crate) fn small_left(x: i64, y: i64) -> i64
     requires { IsSmall x y }
     ensures { result ≡ residue x y }
 {

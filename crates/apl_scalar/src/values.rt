@@ -8,9 +8,11 @@ ghost use Rattle.apl_scalar.specs.inside.Rooms.{HasRoom};
 
 use crate::blocks::{BLOCK, push_by_room};
 use crate::computed::Computed;
+use crate::divisible::Divisible;
 use crate::finish::{Tested, Whole, finish};
 use crate::forms::push_values;
 use crate::in_lanes::{Beyond, InLanes, Within};
+use crate::in_narrow::{InNarrow, Narrowly};
 use crate::in_wide::{InWide, Throughout};
 use crate::narrow::Narrow;
 use crate::operand::Operand;
@@ -105,6 +107,39 @@ impl<'a> Places<'a> {
         let mut made = Vec::with_capacity(self.alloc, self.count)?;
         push_values::<i64, i64, Throughout<F>>(&mut made, self.a, self.b, self.count)?;
         self.completed::<i64, Whole<F>>(made)
+    }
+
+    /// The values of a function that divides. By one number of more than a byte it divides with 64 bits, since there a product will do.
+    pub(crate) fn divided<F: InNarrow>(&self) -> Result<NumberVec, Stop>
+        requires a { Covers (shown self.now.a) self.now.count }
+        requires b { Covers (shown self.now.b) self.now.count }
+        ensures { Answers kept_values (values_of F.meaning (number_at (shown self.now.a)) (number_at (shown self.now.b)) self.now.count) result }
+    {
+        if self.fit::<i8>() {
+            return self.narrowly::<F, i8>();
+        }
+        if !self.a.is_one() && !self.b.is_one() && self.fit::<i32>() {
+            return self.narrowly::<F, i32>();
+        }
+        self.in_wide::<F>()
+    }
+
+    /// The same in a narrow lane, as far as it holds the values, and from there on with 64 bits.
+    #[inline(always)]
+    fn narrowly<F: InNarrow, L: Divisible>(&self) -> Result<NumberVec, Stop>
+        requires memory { HasRoom L.row BLOCK }
+        requires a { Covers (shown self.now.a) self.now.count }
+        requires b { Covers (shown self.now.b) self.now.count }
+        ensures { Answers kept_values (values_of F.meaning (number_at (shown self.now.a)) (number_at (shown self.now.b)) self.now.count) result }
+    {
+        let mut made = Vec::with_capacity(self.alloc, self.count)?;
+        push_values::<L, L, Narrowly<F>>(&mut made, self.a, self.b, self.count)?;
+        if made.len() == self.count {
+            return Ok(L::kept(made));
+        }
+        let mut wide = L::slice(made.as_slice()).to_wide(self.alloc)?;
+        push_by_room::<i64, i64, Throughout<F>>(&mut wide, self.a, self.b, self.count)?;
+        self.completed::<i64, Whole<F>>(wide)
     }
 
     /// The values of a function that is computed in the lanes of its arguments.

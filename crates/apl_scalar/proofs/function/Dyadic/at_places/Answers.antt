@@ -7,7 +7,7 @@ pub returns-in-Times : goal.returns-in-Times
 returns-in-Times c = rw c.in-Times.is c.in_lanes-in-Times.ensures
 
 pub returns-in-Divide : goal.returns-in-Divide
-returns-in-Divide c = rw c.in-Divide.is c.in_wide.ensures
+returns-in-Divide c = rw c.in-Divide.is c.divided.ensures
 
 pub returns-in-Maximum : goal.returns-in-Maximum
 returns-in-Maximum c = rw c.in-Maximum.is c.in_lanes-in-Maximum.ensures
