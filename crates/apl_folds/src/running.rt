@@ -54,10 +54,9 @@ impl<C: Choice, L: Lane> Running<L, L> for Chosen<C> {
         C::of(fold, number)
     }
 
-    /// Numbers of 64 bits are compared no faster than they are chosen.
     #[inline(always)]
     fn stays(fold: L, numbers: &[L], from: usize, till: usize) -> bool {
-        let mut all = L::cut(i64::MAX).is_none();
+        let mut all = true;
         for at in from..till {
             all &= C::of(fold, numbers[at]).equals(fold);
         }
