@@ -1,4 +1,4 @@
-use Rattle.std.proofs.Common.{◌≡◌, ◌<◌, ◌-◌, ℕ, pos, length, get_or, Ok, ap, ◌∙◌, arith, refl}
+use Rattle.std.proofs.Common.{◌≡◌, ◌<◌, pos, length, get_or, Ok, ap, ◌∙◌, arith, refl}
 use Rattle.std.proofs.lemmas.List.{length-set}
 use Rattle.apl_folds.specs.inside.Prefixes.{prefix_fold}
 use Rattle.apl_scalar.proofs.OfLanes.{as_many}

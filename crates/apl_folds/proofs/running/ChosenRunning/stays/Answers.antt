@@ -1,4 +1,4 @@
-use Rattle.std.proofs.Common.{◌≡◌, ◌<◌, ◌≤◌, ◌∷◌, [], ℕ, ℤ, List, pos, get_or, true, Ok, ap, sym, ◌∙◌, subst, arith, refl}
+use Rattle.std.proofs.Common.{◌≡◌, ◌≤◌, ◌∷◌, [], ℤ, pos, get_or, Ok, ap, sym, ◌∙◌, subst, arith, refl}
 use Rattle.std.proofs.lemmas.Bool.{and_parts}
 use Rattle.apl_folds.specs.inside.Prefixes.{Stays}
 use Rattle.apl_scalar.proofs.OfLanes.{number_of_item}
