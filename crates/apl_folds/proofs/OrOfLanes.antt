@@ -1,5 +1,5 @@
 -- Both of two numbers in one, in the type that stores them.
-use Rattle.std.proofs.Common.{◌≡◌, ℕ, ℤ, pos, ◌<◌, ◌≤◌, ◌-◌, ◌^◌, FitsSigned, to_z, of_z, ◌+◌, w8, w16, w32, w64, nat_lt, Bool, true, false, subst, sym, ap, ◌∙◌, arith, refl}
+use Rattle.std.proofs.Common.{◌≡◌, ℕ, ℤ, pos, ◌<◌, ◌≤◌, ◌^◌, FitsSigned, to_z, of_z, ◌+◌, w8, w16, w32, w64, nat_lt, Bool, true, false, subst, sym, ap, ◌∙◌, arith, refl}
 use Rattle.std.specs.Prelude.{bit_or}
 use Rattle.std.specs.Int.{int_bit_or, w128, Width}
 use Rattle.std.proofs.lemmas.Int.{ints, of_z-to_z, to_z_pos}

@@ -1,8 +1,10 @@
 -- Prefixes that are made one after another.
-use Rattle.std.proofs.Common.{◌≡◌, ℕ, ℤ, pos, ◌+◌, ◌-◌, ◌*◌, ◌^◌, ◌<◌, ◌≤◌, FitsSigned, List, [], ◌∷◌, ◌++◌, map, length, take, get_or, set, Result, Ok, refl, ap, sym, subst, ◌∙◌, arith}
+use Rattle.std.proofs.Common.{◌≡◌, ℕ, ℤ, pos, ◌+◌, ◌-◌, ◌*◌, ◌^◌, ◌<◌, ◌≤◌, FitsSigned, List, [], ◌∷◌, ◌++◌, map, length, take, get_or, set, Result, Ok, refl, ap, sym, subst, ◌∙◌, arith, true, Ordering, Less, Equal, Greater}
 use Rattle.std.specs.Int.{Width, w64}
+use Rattle.std.specs.Ordering.{int_eq, int_cmp, is_eq}
 use Rattle.std.proofs.Math.Nat.{mul-le-mul_right}
 use Rattle.std.proofs.Math.Seq.{take-append_seam}
+use Rattle.std.proofs.lemmas.Cmp.{int_ranked}
 use Rattle.std.proofs.lemmas.Int.{ints}
 use Rattle.apl_faults.specs.declared.fault.Fault.{Fault}
 use Rattle.apl_arrays.specs.declared.axis.Axis.{Axis}
@@ -11,7 +13,7 @@ use Rattle.apl_folds.specs.inside.Prefixes.{before, index_along, prefix_fold, pr
 use Rattle.apl_folds.specs.inside.Sums.{total, magnitudes, HasRoom}
 use Rattle.apl_folds.specs.Lines.{fold_by, line_of, IsLine}
 use Rattle.apl_folds.specs.Rooms.{HaveRoom}
-use Rattle.apl_folds.proofs.ByPlaces.{before_first, line_of_place, one_longer, prefix_told, prefix_before, prefixes_whole}
+use Rattle.apl_folds.proofs.ByPlaces.{before_first, index_low, line_of_place, one_longer, prefix_told, prefix_before, prefixes_whole}
 use Rattle.apl_folds.proofs.InRooms.{line_magnitudes}
 use Rattle.apl_scalar.proofs.OfLanes.{as_many}
 use Rattle.apl_folds.proofs.Told.{filled_more}
@@ -40,6 +42,18 @@ gone f room zs axis p q x z v whole all l next later is e step =
     prefix_told f zs axis q v whole.forward
     (ap (fold_by f) line ∙ step (before zs axis q) (subst room line (all q l)) (sym (prefix_before f zs axis p q whole.long whole.apart whole.forward next later) ∙ e))
 
+-- the last place before the next one
+pub behind : (n : ℕ) → n + 1 - 1 ≡ n
+behind n = omega arith
+
+-- the next one of a line of numbers that lie side by side
+pub gone_on : (f : ℤ → ℤ → Result ℤ Fault) (room : List ℤ → Type 0) (zs : List ℤ) (axis : Axis) (q : ℕ) (x z v : ℤ) → AreWhole zs axis → AllHaveRoom room zs axis → q < length zs → axis.up ≡ 1 → 0 < index_along axis q →
+    get_or zs q (pos 0) ≡ x → prefix_fold f zs axis (q - 1) ≡ Ok z → ((xs : List ℤ) → room (xs ++ x ∷ []) → fold_by f xs ≡ Ok z → fold_by f (xs ++ x ∷ []) ≡ Ok v) → prefix_fold f zs axis q ≡ Ok v
+gone_on f room zs axis q x z v whole all l beside later is e step =
+    let low : 1 * axis.up ≤ index_along axis q * axis.up = mul-le-mul_right axis.up later in
+    let far : axis.up ≤ q = omega (arith, low, index_low axis q) in
+    gone f room zs axis (q - 1) q x z v whole all l (omega arith) later is e step
+
 -- there is room for the sum of each prefix
 pub prefixes_room : (w : Width) (zs : List ℤ) (axis : Axis) → ((z : ℤ) → FitsSigned w z → FitsSigned w64 z) → AreWhole zs axis → HaveRoom w zs axis.length → AllHaveRoom (HasRoom w) zs axis
 prefixes_room w zs axis bounded whole h q l =
@@ -60,3 +74,12 @@ all_written {A = A} value numbers each f zs axis n out rest count size written =
     let Written : ℕ → Type 0 = λ k. ArePrefixes f zs axis k (numbers out) in
     prefixes_whole f zs axis (numbers out) (as_many value numbers each out ∙ size ∙ sym count) (subst Written (sym count) written)
     ∙ ap (λ (l : List A). Ok (numbers l)) (sym (ap (λ (k : ℕ). take k (out ++ rest)) (sym size) ∙ take-append_seam out rest))
+
+-- what compares as the same number is the same
+pub same_number : (x y : ℤ) → int_eq x y ≡ true → x ≡ y
+same_number x y e = each (int_cmp x y) refl e
+  where
+    each : (o : Ordering) → int_cmp x y ≡ o → is_eq o ≡ true → x ≡ y
+    each Less f e = absurd (cc)
+    each Equal f e = int_ranked x y Equal (sym f)
+    each Greater f e = absurd (cc)

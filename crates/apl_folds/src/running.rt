@@ -1,11 +1,11 @@
 // Scans of numbers in row-major order, each prefix from the one before it, where all have values.
-ghost use Rattle.std.specs.Prelude.{◌≡◌, ◌<◌, ◌≤◌, ◌+◌, ◌*◌, ◌∷◌, ◌++◌, [], ℤ, List, Result, length, IfOk, Ok};
+ghost use Rattle.std.specs.Prelude.{◌≡◌, ◌<◌, ◌≤◌, ◌+◌, ◌-◌, ◌*◌, ◌∷◌, ◌++◌, [], ℕ, ℤ, List, Result, pos, length, slice_index_or, IfOk, IsTrue, Ok};
 ghost use Rattle.apl_faults.specs.declared.fault.Fault.{Fault};
 ghost use Rattle.apl_arrays.specs.Numbers.{kept_values};
 ghost use Rattle.apl_scalar.specs.declared.function.Dyadic.TheVariants as two;
 ghost use Rattle.apl_scalar.specs.Functions.{dyadic_of};
 ghost use Rattle.apl_folds.specs.Lines.{fold_by};
-ghost use Rattle.apl_folds.specs.inside.Prefixes.{index_along, prefix_fold, prefix_folds, AllHaveRoom, ArePrefixes, AreWhole};
+ghost use Rattle.apl_folds.specs.inside.Prefixes.{index_along, prefix_fold, prefix_folds, AllHaveRoom, AreLater, ArePrefixes, AreWhole, Stays};
 ghost use Rattle.apl_folds.specs.inside.Sums.{HasRoom};
 
 use crate::choice::Choice;
@@ -29,6 +29,11 @@ pub(crate) trait Running<L: Lane, M: Lane> {
     /// The fold with a number more.
     fn then(fold: M, number: L) -> M
         ensures { (numbers : List ℤ) → room (numbers ++ L.value number ∷ []) → fold_by meaning numbers ≡ Ok (M.value fold) → fold_by meaning (numbers ++ L.value number ∷ []) ≡ Ok (M.value result) };
+
+    /// Whether the fold is seen to stay the same with any of some numbers more.
+    fn stays(fold: M, numbers: &[L], from: usize, till: usize) -> bool
+        requires { till ≤ length numbers.now }
+        ensures { IsTrue result → (at : ℕ) → from ≤ at → at < till → Stays meaning (M.value fold) (slice_index_or (L.numbers numbers.now) at (pos 0)) };
 }
 
 /// A function that chooses one of two numbers.
@@ -47,6 +52,15 @@ impl<C: Choice, L: Lane> Running<L, L> for Chosen<C> {
     #[inline(always)]
     fn then(fold: L, number: L) -> L {
         C::of(fold, number)
+    }
+
+    #[inline(always)]
+    fn stays(fold: L, numbers: &[L], from: usize, till: usize) -> bool {
+        let mut all = true;
+        for at in from..till {
+            all &= C::of(fold, numbers[at]).equals(fold);
+        }
+        all
     }
 }
 
@@ -67,9 +81,105 @@ impl<L: Lane, M: Lane> Running<L, M> for Total {
     fn then(fold: M, number: L) -> M {
         plus(fold, number.wide())
     }
+
+    #[inline(always)]
+    fn stays(_fold: M, _numbers: &[L], _from: usize, _till: usize) -> bool {
+        false
+    }
 }
 
-/// Writes the prefixes of a line of numbers that lie side by side.
+/// How many prefixes are looked at together.
+const BLOCK: usize = 128;
+
+/// Writes the prefix before a place to those from there to another, all of which are the same.
+fn repeat<R: Running<L, M>, L: Lane, M: Lane>(
+    numbers: &[L],
+    axis: Axis,
+    from: usize,
+    till: usize,
+    fold: M,
+    out: &mut [M],
+)
+    requires whole { AreWhole (L.numbers numbers.now) axis }
+    requires room { AllHaveRoom R.room (L.numbers numbers.now) axis }
+    requires beside { axis.up ≡ 1 }
+    requires order { from ≤ till }
+    requires later { AreLater axis from till }
+    requires within { till ≤ length numbers.now }
+    requires size { length out.old ≡ length numbers.now }
+    requires told { prefix_fold R.meaning (L.numbers numbers.now) axis (from - 1) ≡ Ok (M.value fold) }
+    requires stays { (at : ℕ) → from ≤ at → at < till → Stays R.meaning (M.value fold) (slice_index_or (L.numbers numbers.now) at (pos 0)) }
+    requires so_far { ArePrefixes R.meaning (L.numbers numbers.now) axis from (M.numbers out.old) }
+    ensures size { length out.new ≡ length out.old }
+    ensures told { prefix_fold R.meaning (L.numbers numbers.now) axis (till - 1) ≡ Ok (M.value fold) }
+    ensures prefixes { ArePrefixes R.meaning (L.numbers numbers.now) axis till (M.numbers out.new) }
+{
+    for at in from..till {
+        out[at] = fold;
+    }
+}
+
+/// Writes the prefixes from one place to another, each from the one before it, and answers the last.
+fn run_on<R: Running<L, M>, L: Lane, M: Lane>(
+    numbers: &[L],
+    axis: Axis,
+    from: usize,
+    till: usize,
+    before: M,
+    out: &mut [M],
+) -> M
+    requires whole { AreWhole (L.numbers numbers.now) axis }
+    requires room { AllHaveRoom R.room (L.numbers numbers.now) axis }
+    requires beside { axis.up ≡ 1 }
+    requires order { from ≤ till }
+    requires later { AreLater axis from till }
+    requires within { till ≤ length numbers.now }
+    requires size { length out.old ≡ length numbers.now }
+    requires told { prefix_fold R.meaning (L.numbers numbers.now) axis (from - 1) ≡ Ok (M.value before) }
+    requires so_far { ArePrefixes R.meaning (L.numbers numbers.now) axis from (M.numbers out.old) }
+    ensures size { length out.new ≡ length out.old }
+    ensures told { prefix_fold R.meaning (L.numbers numbers.now) axis (till - 1) ≡ Ok (M.value result) }
+    ensures prefixes { ArePrefixes R.meaning (L.numbers numbers.now) axis till (M.numbers out.new) }
+{
+    let mut fold = before;
+    for at in from..till {
+        fold = R::then(fold, numbers[at]);
+        out[at] = fold;
+    }
+    fold
+}
+
+/// The same, at once where all are seen to be the one before.
+#[inline(always)]
+fn run_block<R: Running<L, M>, L: Lane, M: Lane>(
+    numbers: &[L],
+    axis: Axis,
+    from: usize,
+    till: usize,
+    before: M,
+    out: &mut [M],
+) -> M
+    requires whole { AreWhole (L.numbers numbers.now) axis }
+    requires room { AllHaveRoom R.room (L.numbers numbers.now) axis }
+    requires beside { axis.up ≡ 1 }
+    requires order { from ≤ till }
+    requires later { AreLater axis from till }
+    requires within { till ≤ length numbers.now }
+    requires size { length out.old ≡ length numbers.now }
+    requires told { prefix_fold R.meaning (L.numbers numbers.now) axis (from - 1) ≡ Ok (M.value before) }
+    requires so_far { ArePrefixes R.meaning (L.numbers numbers.now) axis from (M.numbers out.old) }
+    ensures size { length out.new ≡ length out.old }
+    ensures told { prefix_fold R.meaning (L.numbers numbers.now) axis (till - 1) ≡ Ok (M.value result) }
+    ensures prefixes { ArePrefixes R.meaning (L.numbers numbers.now) axis till (M.numbers out.new) }
+{
+    if R::stays(before, numbers, from, till) {
+        repeat::<R, L, M>(numbers, axis, from, till, before, out);
+        return before;
+    }
+    run_on::<R, L, M>(numbers, axis, from, till, before, out)
+}
+
+/// Writes the prefixes of a line of numbers that lie side by side, block by block.
 fn run_line<R: Running<L, M>, L: Lane, M: Lane>(
     numbers: &[L],
     axis: Axis,
@@ -88,9 +198,12 @@ fn run_line<R: Running<L, M>, L: Lane, M: Lane>(
 {
     let mut fold = R::first(numbers[from]);
     out[from] = fold;
-    for at in from + 1..from + axis.length {
-        fold = R::then(fold, numbers[at]);
-        out[at] = fold;
+    let end = from + axis.length;
+    let mut at = from + 1;
+    while at < end {
+        let next = at + (end - at).min(BLOCK);
+        fold = run_block::<R, L, M>(numbers, axis, at, next, fold, out);
+        at = next;
     }
 }
 

@@ -1,12 +1,12 @@
 -- Scans of numbers in row-major order, by their places.
 -- All prefixes together are the scan of `Scans`, which folds each prefix anew.
-use Rattle.std.specs.Prelude.{◌≡◌, ℕ, ℤ, pos, ◌+◌, ◌-◌, ◌*◌, ◌/◌, ◌%◌, ◌^◌, ◌<◌}
+use Rattle.std.specs.Prelude.{◌≡◌, ℕ, ℤ, pos, ◌+◌, ◌-◌, ◌*◌, ◌/◌, ◌%◌, ◌^◌, ◌<◌, ◌≤◌}
 use Rattle.std.specs.Prelude.{List, [], ◌∷◌, ◌++◌, length, slice_index_or, Result, Ok}
 use Rattle.std.specs.List.{range_with_len}
 use Rattle.apl_faults.specs.declared.fault.Fault.{Fault}
 use Rattle.apl_arrays.specs.declared.axis.Axis.{Axis}
 use Rattle.apl_arrays.specs.Results.{all_ok}
-use Rattle.apl_folds.specs.Lines.{line_of, line_fold}
+use Rattle.apl_folds.specs.Lines.{fold_by, line_of, line_fold}
 
 -- the numbers are whole lines along an axis
 pub record AreWhole (zs : List ℤ) (axis : Axis) : Type 0 where
@@ -40,3 +40,11 @@ ArePrefixes f zs axis count prefixes = (q : ℕ) → q < count → prefix_fold f
 -- there is room for each prefix
 abbrev pub AllHaveRoom : (List ℤ → Type 0) → List ℤ → Axis → Type 0
 AllHaveRoom room zs axis = (q : ℕ) → q < length zs → room (before zs axis q ++ slice_index_or zs q (pos 0) ∷ [])
+
+-- the places from one to another are not the first of their lines
+abbrev pub AreLater : Axis → ℕ → ℕ → Type 0
+AreLater axis from till = (q : ℕ) → from ≤ q → q < till → 0 < index_along axis q
+
+-- a fold stays the same with a number more
+abbrev pub Stays : (ℤ → ℤ → Result ℤ Fault) → ℤ → ℤ → Type 0
+Stays f fold z = (zs : List ℤ) → fold_by f zs ≡ Ok fold → fold_by f (zs ++ z ∷ []) ≡ Ok fold

@@ -1,4 +1,4 @@
-use Rattle.std.proofs.Common.{◌≡◌, ◌-◌, length, Ok}
+use Rattle.std.proofs.Common.{◌≡◌, ◌+◌, ◌-◌, ◌<◌, ◌≤◌, length, Ok}
 use Rattle.apl_folds.specs.inside.Prefixes.{prefix_fold, ArePrefixes}
 use Rattle.apl_folds.proofs.running.run_line.Given as goal
 
@@ -8,7 +8,12 @@ invariant-loop-at g l =
     let f = g.R.Running.meaning in
     let zs = g.L.Lane.numbers l.numbers in
     record {
+      begun : l.from < l.at;
+      within : l.at ≤ l.from + l.axis.length;
       size : length l.out ≡ length l.fn.out;
-      told : prefix_fold f zs l.fn.axis (l.at - 1) ≡ Ok (g.M.Lane.value l.fold);
-      prefixes : ArePrefixes f zs l.fn.axis l.at (g.M.Lane.numbers l.out);
+      told : prefix_fold f zs l.axis (l.at - 1) ≡ Ok (g.M.Lane.value l.fold);
+      prefixes : ArePrefixes f zs l.axis l.at (g.M.Lane.numbers l.out);
     }
+
+abbrev pub decreases-loop-at : goal.decreases-loop-at
+decreases-loop-at g l = l.from + l.axis.length - l.at

@@ -1,4 +1,4 @@
-use Rattle.std.proofs.Common.{ap, sym, ◌∙◌, refl, arith}
+use Rattle.std.proofs.Common.{ap, sym, ◌∙◌, arith}
 use Rattle.apl_scalar.specs.Functions.{dyadic_of}
 use Rattle.apl_folds.proofs.InRooms.{line_room}
 use Rattle.apl_scalar.proofs.OfLanes.{as_many}
