@@ -2,13 +2,14 @@
 #![tactic(auto)]
 
 mod attempt;
+mod bounds;
 mod inner_product;
 mod joint;
 mod line;
 mod narrow_products;
 mod outer_product;
+mod products;
 mod small;
-mod small_products;
 mod standing;
 mod sums_of_products;
 

@@ -8,7 +8,7 @@ use crate::joint::{Joint, row};
 use std::alloc::{AllocError, Global};
 
 /// How many columns are gathered at a time.
-pub(crate) const GROUP: usize = 4;
+const GROUP: usize = 4;
 
 /// Columns of a table.
 #[derive(Clone, Copy)]
@@ -30,16 +30,16 @@ struct Room {
 
 /// A sum for each column.
 #[derive(Clone, Copy)]
-pub(crate) struct Sums {
-    pub(crate) first: i64,
-    pub(crate) second: i64,
-    pub(crate) third: i64,
-    pub(crate) fourth: i64,
+struct Sums {
+    first: i64,
+    second: i64,
+    third: i64,
+    fourth: i64,
 }
 
 /// The product. Told that both numbers have 32 bits, the compiler multiplies two pairs at once.
 #[inline(always)]
-pub(crate) fn narrow_times(x: i64, y: i64) -> i64
+fn narrow_times(x: i64, y: i64) -> i64
     requires x { unsigned_abs x < 2 ^ 31 }
     requires y { unsigned_abs y < 2 ^ 31 }
     ensures { result ≡ x *ℤ y }
@@ -109,7 +109,7 @@ fn gather(
 
 /// Writes sums from a place on.
 #[inline(always)]
-pub(crate) fn put(sums: Sums, at: usize, out: &mut [i64])
+fn put(sums: Sums, at: usize, out: &mut [i64])
     requires { at + GROUP ≤ length out.old }
     ensures size { length out.new ≡ length out.old }
     ensures first { slice_index_or out.new at (pos 0) ≡ sums.first }

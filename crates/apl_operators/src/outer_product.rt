@@ -1,25 +1,27 @@
 // Outer products.
-ghost use Rattle.std.specs.Prelude.{◌<◌, ◌≤◌, ◌*◌, ◌^◌, ◌++◌, length};
+ghost use Rattle.std.specs.Prelude.{◌≡◌, ◌<◌, ◌*◌, ◌^◌, ◌++◌, length, IfOk, IfSome, Ok};
 ghost use Rattle.apl_arrays.specs.Answers.{Answers, Appends, FaultsFirst};
 ghost use Rattle.apl_arrays.specs.Cells.{cells_of, IsArray};
 ghost use Rattle.apl_arrays.specs.Index.{indices};
 ghost use Rattle.apl_arrays.specs.Left.{listed};
+ghost use Rattle.apl_arrays.specs.Numbers.{kept_values};
 ghost use Rattle.apl_arrays.specs.Results.{all_ok};
-ghost use Rattle.apl_scalar.specs.declared.function.Dyadic.TheVariants as two;
 ghost use Rattle.apl_scalar.specs.Functions.{dyadic_of};
 ghost use Rattle.apl_operators.specs.Products.{paired, outer_shape, outer_product};
 ghost use Rattle.apl_operators.specs.Places.{row_of, crossing, crossing_cells};
 
 use crate::attempt::{Attempt, Sure};
 use crate::line::{Each, Same, meet};
+use crate::products::products;
 use crate::small::SmallProduct;
-use crate::small_products::small_products;
 use crate::standing::{Few, standing};
-use apl_arrays::{Array, Cells, Elements, Ravel, Stop, View, joined_shape, within_limits};
+use apl_arrays::{
+    Array, Cells, Elements, NumberVec, Ravel, Stop, View, joined_shape, within_limits,
+};
 use apl_faults::Fault;
 use apl_folds::in_order;
 use apl_scalar::{ByFunction, Dyadic, Scalar, grow};
-use std::alloc::Global;
+use std::alloc::{AllocError, Global};
 
 /// How many values are made at a time.
 const BLOCK: usize = 512;
@@ -79,41 +81,50 @@ impl<'a> ByFunction for Crossing<'a> {
     }
 }
 
-/// The products of each number with each of others.
-fn cross_times(alloc: Global, xs: &[i64], ys: &[i64]) -> Result<Vec<i64>, Stop>
-    requires { length xs.now * length ys.now < 2 ^ 63 }
-    ensures { Answers (λ v. v.items) (crossing (dyadic_of two.Times) xs.now ys.now) result }
-{
-    match small_products(alloc, xs, ys)? {
-        Some(products) => Ok(products),
-        None => cross::<SmallProduct>(alloc, xs, ys),
-    }
-}
-
 /// The values of a function of each number with each of others.
 fn cross_by(alloc: Global, function: Dyadic, xs: &[i64], ys: &[i64]) -> Result<Vec<i64>, Stop>
     requires { length xs.now * length ys.now < 2 ^ 63 }
     ensures { Answers (λ v. v.items) (crossing (dyadic_of function) xs.now ys.now) result }
 {
     match function {
-        Dyadic::Times => cross_times(alloc, xs, ys),
+        Dyadic::Times => cross::<SmallProduct>(alloc, xs, ys),
         _ => function.apply(Crossing { alloc, xs, ys }),
     }
 }
 
-/// The values of a function of each element with each of another array.
-fn cross_elements(
+/// The products of each element with each of another array, where they are asked for, and known to fit.
+fn products_of(
+    alloc: Global,
+    function: Dyadic,
+    a: Elements<'_>,
+    b: Elements<'_>,
+) -> Result<Option<NumberVec>, AllocError>
+    requires { length (cells_of (listed a)) * length (cells_of (listed b)) < 2 ^ 63 }
+    ensures { IfOk result (λ found. IfSome found (λ v. crossing_cells function (listed a.entry) (listed b.entry) ≡ Ok (kept_values v))) }
+{
+    match function {
+        Dyadic::Times => match a {
+            Elements::Nums(a) => match b {
+                Elements::Nums(b) => products(alloc, a, b),
+                Elements::Chars(_) => Ok(None),
+            },
+            Elements::Chars(_) => Ok(None),
+        },
+        _ => Ok(None),
+    }
+}
+
+/// The values of a function of each number that stands for an element with each of another array's.
+fn cross_standing(
     alloc: Global,
     function: Dyadic,
     a: Elements<'_>,
     b: Elements<'_>,
 ) -> Result<Vec<i64>, Stop>
-    requires { length (cells_of (listed a)) * length (cells_of (listed b)) < 2 ^ 63 }
+    requires some { 0 < length (cells_of (listed a)) * length (cells_of (listed b)) }
+    requires small { length (cells_of (listed a)) * length (cells_of (listed b)) < 2 ^ 63 }
     ensures { Answers (λ v. v.items) (crossing_cells function (listed a.entry) (listed b.entry)) result }
 {
-    if a.is_empty() || b.is_empty() {
-        return Ok(Vec::new(alloc));
-    }
     let mut few = Few::new();
     match standing(alloc, function, a, b, &mut few)? {
         Some(found) => cross_by(
@@ -126,16 +137,35 @@ fn cross_elements(
     }
 }
 
+/// The values of a function of each element with each of another array.
+fn cross_elements(
+    alloc: Global,
+    function: Dyadic,
+    a: Elements<'_>,
+    b: Elements<'_>,
+) -> Result<NumberVec, Stop>
+    requires { length (cells_of (listed a)) * length (cells_of (listed b)) < 2 ^ 63 }
+    ensures { Answers kept_values (crossing_cells function (listed a.entry) (listed b.entry)) result }
+{
+    if a.is_empty() || b.is_empty() {
+        return Ok(NumberVec::I8(Vec::new(alloc)));
+    }
+    match products_of(alloc, function, a, b)? {
+        Some(products) => Ok(products),
+        None => Ok(NumberVec::I64(cross_standing(alloc, function, a, b)?)),
+    }
+}
+
 /// The values in the order of the result's index lists.
 fn outer_values(
     alloc: Global,
     function: Dyadic,
     a: &View<'_>,
     b: &View<'_>,
-) -> Result<Vec<i64>, Stop>
+) -> Result<NumberVec, Stop>
     requires a { IsArray a.now.shape a.now.items }
     requires b { IsArray b.now.shape b.now.items }
-    ensures { Answers (λ v. v.items) (all_ok (paired function a.now b.now) (indices (a.now.shape ++ b.now.shape))) result }
+    ensures { Answers kept_values (all_ok (paired function a.now b.now) (indices (a.now.shape ++ b.now.shape))) result }
 {
     let a = in_order(alloc, a)?;
     let b = in_order(alloc, b)?;
@@ -161,5 +191,5 @@ pub fn outer<A: Cells, B: Cells>(
     let shape = joined_shape(a.shape().as_slice(), b.shape().as_slice());
     within_limits(shape.as_slice())?;
     let values = outer_values(alloc, function, &a, &b)?;
-    Array::from_shape(alloc, shape.as_slice(), Ravel::wide(values))
+    Array::from_shape(alloc, shape.as_slice(), Ravel::Nums(values))
 }

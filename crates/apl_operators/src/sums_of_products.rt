@@ -30,7 +30,7 @@ const EXACT: u64 = 0x8000_0000_0000_0000;
 const NARROW: u64 = 0x8000_0000;
 
 /// Whether so many products of numbers within two bounds are known to have a sum that fits, in whatever order they are added.
-pub(crate) fn fit_together(left: u64, right: u64, count: usize) -> bool
+fn fit_together(left: u64, right: u64, count: usize) -> bool
     ensures { IsTrue result → (xs ys : List ℤ) → AreWithin left xs → AreWithin right ys → FitTogether xs ys count }
 {
     let most = left.saturating_mul(right);
@@ -38,7 +38,7 @@ pub(crate) fn fit_together(left: u64, right: u64, count: usize) -> bool
 }
 
 /// Whether numbers within two bounds have 32 bits.
-pub(crate) fn are_narrow(left: u64, right: u64) -> bool
+fn are_narrow(left: u64, right: u64) -> bool
     ensures { IsTrue result → (xs ys : List ℤ) → AreWithin left xs → AreWithin right ys → AreNarrow xs × AreNarrow ys }
 {
     wider(left, right) < NARROW
