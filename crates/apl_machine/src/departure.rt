@@ -8,10 +8,9 @@ ghost use Rattle.apl_machine_state.specs.Watching.{arrow, blank};
 ghost use Rattle.apl_operands.specs.Operands.{Offers, fetched_from};
 ghost use Rattle.apl_frames.specs.Ends.{HoldsValue, IsColumn, has_place, is_of_value};
 ghost use Rattle.apl_contexts.specs.Contexts.{AreStacked, Newest, line_in};
-ghost use Rattle.apl_machine.specs.Changes.{Departs};
 ghost use Rattle.apl_machine.specs.Executing.{executes};
 ghost use Rattle.apl_machine.specs.inside.Leaving.{Aims, EndsAt, FailsAt, Leaves, finished, leaving, left_by};
-ghost use Rattle.apl_machine.specs.inside.Next.{next_kind};
+ghost use Rattle.apl_machine.specs.inside.Next.{IsNextStep};
 ghost use Rattle.apl_machine.specs.inside.Traces.{trace_of};
 
 use crate::reports::context_fault;
@@ -25,7 +24,7 @@ use apl_format::display;
 use apl_frames::Stage;
 use apl_machine_state::{LineKind, OutLine};
 use apl_operands::{Operands, one_value};
-use apl_phrases::said;
+use apl_phrases::{PhraseKind, row_kind, said};
 use apl_vectors::Vectors;
 use std::alloc::{AllocError, Global};
 
@@ -227,30 +226,42 @@ fn leaving(
     }
 }
 
-/// How the next step leaves the newest line, which comes to no phrase. It changes nothing yet.
-pub fn departure_of(
+/// What the next step is.
+#[derive(Drop)]
+pub enum NextStep {
+    /// That of a phrase of this kind.
+    Reduces(PhraseKind),
+    /// The newest line, which comes to no phrase, is left so.
+    Leaves(Departure),
+}
+
+/// What the next step is. It changes nothing yet.
+pub fn next_step(
     alloc: Global,
     traces: &Vectors,
     contexts: &Contexts,
-) -> Result<Departure, AllocError>
+) -> Result<NextStep, AllocError>
     requires stacked { AreStacked Newest contexts.now }
     requires runs { IsSome (line_in contexts.now) }
-    requires ends { next_kind contexts.now ≡ None }
-    ensures { IfOk result (Departs traces.now contexts.now) }
+    ensures { IfOk result (IsNextStep traces.now contexts.now) }
 {
     let Some(line) = contexts.line() else {
         unreachable!()
     };
     if line.stage() == Stage::Emptied {
-        return finishing(alloc, traces, contexts);
+        let departure = finishing(alloc, traces, contexts)?;
+        return Ok(NextStep::Leaves(departure));
     }
     let instr = line.next();
-    let Action::End(ending) = instr.action else {
-        unreachable!()
+    let ending = match &instr.action {
+        Action::Box => return Ok(NextStep::Reduces(PhraseKind::Lists)),
+        Action::Phrase(row) => return Ok(NextStep::Reduces(row_kind(row))),
+        Action::End(ending) => *ending,
     };
     let operands = Operands {
         constants: line.constants(),
         stack: line.operands(),
     };
-    leaving(alloc, ending, instr, operands, traces, contexts)
+    let departure = leaving(alloc, ending, instr, operands, traces, contexts)?;
+    Ok(NextStep::Leaves(departure))
 }

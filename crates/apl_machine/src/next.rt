@@ -9,7 +9,7 @@ use apl_contexts::Contexts;
 use apl_frames::Stage;
 use apl_names::Names;
 use apl_operands::Operands;
-use apl_phrases::{Phrase, PhraseKind, Scene, phrase_kind};
+use apl_phrases::{Phrase, Scene};
 
 /// The next instruction of the newest line, as a phrase. There is none where nothing is left of the line.
 #[inline(always)]
@@ -49,12 +49,5 @@ impl Workspace {
         ensures none { IfNone result (next_kind self.now.contexts ≡ None) }
     {
         next(&self.contexts, &self.names, self.io)
-    }
-
-    /// The kind of the phrase to which the newest line comes, if it comes to one.
-    pub(crate) fn next_kind(&self) -> Option<PhraseKind>
-        ensures { result ≡ next_kind self.now.contexts }
-    {
-        phrase_kind(&self.next()?.instr.action)
     }
 }

@@ -1,5 +1,5 @@
 //! Phrases with system names, done in place.
-ghost use Rattle.std.specs.Prelude.{◌≡◌, ◌≤◌, IfOk, IfSome, OnErr, OnOk, Some, length, option_map};
+ghost use Rattle.std.specs.Prelude.{◌≡◌, ◌≤◌, IfOk, IfSome, OnErr, OnOk, length, option_map};
 ghost use Rattle.apl_arrays.specs.Cells.{Numbers};
 ghost use Rattle.apl_arrays.specs.Simple.{vector};
 ghost use Rattle.apl_contexts.specs.Contexts.{lines_in, standing};
@@ -8,11 +8,11 @@ ghost use Rattle.apl_machine_state.specs.declared.operand.Operand.TheVariants.{V
 ghost use Rattle.apl_operands.specs.declared.operands.Given.TheVariants.{New};
 ghost use Rattle.apl_order.specs.Kept.{IsKept};
 ghost use Rattle.apl_phrases.specs.declared.phrase.PhraseKind.{PhraseKind};
-ghost use Rattle.apl_phrases.specs.declared.phrase.PhraseKind.TheVariants as kinds;
+ghost use Rattle.apl_phrases.specs.declared.phrase.PhraseKind.TheVariants.{Systems};
 ghost use Rattle.apl_vectors.specs.Vectors.{after_asking, vector_of};
 ghost use Rattle.apl_machine.specs.Changes.{settings_asked, watched};
 ghost use Rattle.apl_machine.specs.Spaces.{IsSound, state_of};
-ghost use Rattle.apl_machine.specs.inside.Next.{GoesTo, HasMade, IsOfOthers, next_kind};
+ghost use Rattle.apl_machine.specs.inside.Next.{GoesTo, HasMade, IsOfOthers};
 ghost use Rattle.apl_machine.specs.inside.Traces.{AreFew};
 
 use crate::traces::lines_array;
@@ -91,15 +91,17 @@ impl Workspace {
     pub(crate) fn system_in_place(&mut self) -> Result<bool, AllocError>
         requires sound { IsSound self.old }
         requires kept { IsKept (state_of self.old) }
-        requires comes { next_kind self.old.contexts ≡ Some kinds.Systems }
         ensures made { HasMade result self.old self.new }
-        ensures other { (kind : PhraseKind) → IsOfOthers kind result self.old }
+        ensures other { IsOfOthers Systems result self.old }
     {
         let Some(phrase) = self.next() else {
-            unreachable!()
+            return Ok(false);
+        };
+        let Some(answer) = effect_of(self.alloc, phrase) else {
+            return Ok(false);
         };
         let (left, column) = (phrase.left(), phrase.instr.at);
-        let effect = match effect_of(self.alloc, phrase) {
+        let effect = match answer {
             Ok(effect) => effect,
             Err(stop) => return self.fail_by(stop, column),
         };

@@ -1,7 +1,10 @@
 -- Phrases that pass the value on that they take.
-use Rattle.std.proofs.Common.{◌≡◌, List, [], Option, Ok, false, true, sym, ap, ◌∙◌}
+use Rattle.std.proofs.Common.{◌≡◌, List, [], Option, Result, Ok, Err, false, true, sym, ap, ◌∙◌}
+use Rattle.std.specs.Prelude.{IfErr, IfOk}
 use Rattle.std.specs.Global.{Vec}
 use Rattle.apl_arrays.specs.Cells.{Arr}
+use Rattle.apl_arrays.specs.declared.stop.Stop.{Stop}
+use Rattle.apl_arrays.specs.declared.stop.Stop.TheVariants as stops
 use Rattle.apl_code.specs.declared.instr.Action.{Action}
 use Rattle.apl_code.specs.declared.instr.Action.TheVariants.{Phrase}
 use Rattle.apl_code.specs.declared.row.Row.{Row}
@@ -23,6 +26,8 @@ group_passes act row os b lines is of t h =
     (b, one_taken os b t, (false, h, λ s. ap (λ x. acted s x os) (is ∙ ap Phrase of) ∙ sym (ap (λ u. of_result (phrase_value Group u (index_origin s))) t)))
 
 -- and one that is shown writes its lines
-pub show_passes : (act : Action) (row : Row) (os : List (Option Operand)) (b : Arr) (lines : Vec OutLine) → act ≡ Phrase row → row ≡ Show → One b ≡ taken_of os → lines.items ≡ shown_lines b → PassesWriting (λ s. acted s act os) (last_value os) (Ok lines)
-show_passes act row os b lines is of t h =
+pub show_passes : (act : Action) (row : Row) (os : List (Option Operand)) (b : Arr) (written : Result (Vec OutLine) Stop) → act ≡ Phrase row → row ≡ Show → One b ≡ taken_of os → IfOk written (λ lines. lines.items ≡ shown_lines b) → IfErr written (λ stop. stop ≡ stops.Memory) → PassesWriting (λ s. acted s act os) (last_value os) written
+show_passes act row os b (Ok lines) is of t h e =
     (b, one_taken os b t, (true, h, λ s. ap (λ x. acted s x os) (is ∙ ap Phrase of) ∙ sym (ap shown t)))
+show_passes act row os b (Err stops.Memory) is of t h e = λ s. tt
+show_passes act row os b (Err (stops.Fault fault)) is of t h e = cc

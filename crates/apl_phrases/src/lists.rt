@@ -5,8 +5,8 @@ ghost use Rattle.apl_arrays.specs.Simple.{single};
 ghost use Rattle.apl_code.specs.declared.instr.Source.{Source};
 ghost use Rattle.apl_machine_state.specs.Outcomes.{operand_value};
 ghost use Rattle.apl_operands.specs.Operands.{Offers, fetched_from, one_value};
-ghost use Rattle.apl_phrases.specs.Effects.{FetchesSlot, MakesSlots, outcome_of};
-ghost use Rattle.apl_phrases.specs.Kinds.{phrase_kind};
+ghost use Rattle.apl_phrases.specs.Effects.{FetchesSlot, MakesSlot, MakesSlots, outcome_of};
+ghost use Rattle.apl_phrases.specs.Kinds.{IsForKind, phrase_kind};
 ghost use Rattle.apl_phrases.specs.declared.phrase.PhraseKind.TheVariants.{Lists};
 
 use crate::phrase::Phrase;
@@ -73,21 +73,23 @@ fn slots(
 
 /// Whether an instruction makes an index list.
 #[inline(always)]
-pub fn makes_list(action: &Action) -> bool
+fn makes_list(action: &Action) -> bool
     ensures yes { result ≡ true → phrase_kind action.now ≡ Some Lists }
     ensures no { result ≡ false → ¬ (phrase_kind action.now ≡ Some Lists) }
 {
     matches!(action, Action::Box | Action::Phrase(Row::Index(_)))
 }
 
-/// The slots of the index list that a phrase makes.
-pub fn slots_given(alloc: Global, phrase: Phrase<'_, '_>) -> Result<Slots, AllocError>
-    requires there { Offers phrase.operands phrase.sources.now }
-    requires kind { phrase_kind phrase.instr.now.action ≡ Some Lists }
-    ensures { IfOk result (MakesSlots (outcome_of phrase.entry)) }
+/// The slots of the index list that a phrase makes. A phrase of another kind has none.
+pub fn slots_given(alloc: Global, phrase: Phrase<'_, '_>) -> Option<Result<Slots, AllocError>>
+    requires { Offers phrase.operands phrase.sources.now }
+    ensures is { IfSome result (λ answer. IfOk answer (MakesSlots (outcome_of phrase.entry))) }
+    ensures kind { IsForKind Lists phrase.entry result }
 {
-    let slots = slots(alloc, phrase.sources, phrase.operands)?;
-    Ok(slots)
+    if !makes_list(&phrase.instr.action) {
+        return None;
+    }
+    Some(slots(alloc, phrase.sources, phrase.operands))
 }
 
 /// The number that an instruction takes, if it takes one value alone and that is a number.
@@ -103,13 +105,15 @@ fn lone_number(sources: &[Option<Source>], operands: Operands<'_>) -> Option<i64
     }
 }
 
-/// The number that is the one slot of the index list that a phrase makes. Of another list there is none.
+/// The number that is the one slot of the index list that a phrase makes. Another list has none, nor has a phrase of another kind.
 #[inline(always)]
 pub fn slot_given(phrase: Phrase<'_, '_>) -> Option<i64>
-    requires there { Offers phrase.operands phrase.sources.now }
-    requires kind { phrase_kind phrase.instr.now.action ≡ Some Lists }
-    ensures is { IfSome result (λ z. MakesSlots (outcome_of phrase.entry) (Some (single (Num z)) ∷ [])) }
-    ensures none { IfNone result ((z : ℤ) → ¬ MakesSlots (outcome_of phrase.entry) (Some (single (Num z)) ∷ [])) }
+    requires { Offers phrase.operands phrase.sources.now }
+    ensures is { IfSome result (MakesSlot phrase.entry) }
+    ensures none { IfNone result ((z : ℤ) → ¬ MakesSlot phrase.entry z) }
 {
+    if !makes_list(&phrase.instr.action) {
+        return None;
+    }
     lone_number(phrase.sources, phrase.operands)
 }

@@ -1,9 +1,10 @@
 //! Values that phrases pass on: `( B )`, and `⎕ ← B`.
-ghost use Rattle.std.specs.Prelude.{◌≡◌, IfOk, Some};
+ghost use Rattle.std.specs.Prelude.{◌≡◌, IfErr, IfOk, IfSome};
+ghost use Rattle.apl_arrays.specs.declared.stop.Stop.TheVariants.{Memory};
 ghost use Rattle.apl_machine_state.specs.Changes.{shown_lines};
 ghost use Rattle.apl_operands.specs.Operands.{Offers};
 ghost use Rattle.apl_phrases.specs.Effects.{PassesWriting, last_of, outcome_of};
-ghost use Rattle.apl_phrases.specs.Kinds.{phrase_kind};
+ghost use Rattle.apl_phrases.specs.Kinds.{IsForKind};
 ghost use Rattle.apl_phrases.specs.declared.phrase.PhraseKind.TheVariants.{Passes};
 
 use crate::lines::said;
@@ -15,30 +16,36 @@ use apl_format::display;
 use apl_machine_state::{LineKind, OutLine};
 use apl_operands::arguments;
 use apl_primitives::Arguments;
-use std::alloc::{AllocError, Global};
+use std::alloc::Global;
 
 /// The lines that show a value.
-fn shown(alloc: Global, b: &Array) -> Result<Vec<OutLine>, AllocError>
-    ensures { IfOk result (λ lines. lines.items ≡ shown_lines b.now) }
+fn shown(alloc: Global, b: &Array) -> Result<Vec<OutLine>, Stop>
+    ensures ok { IfOk result (λ lines. lines.items ≡ shown_lines b.now) }
+    ensures err { IfErr result (λ stop. stop ≡ Memory) }
 {
-    said(alloc, LineKind::Shown, display(alloc, b)?)
+    let texts = display(alloc, b)?;
+    Ok(said(alloc, LineKind::Shown, texts)?)
 }
 
 /// The lines that a phrase writes which passes the value on that it takes, or its fault: `( B )` writes none, and `⎕ ← B` those that show the value.
-pub fn written(alloc: Global, phrase: Phrase<'_, '_>) -> Result<Vec<OutLine>, Stop>
-    requires there { Offers phrase.operands phrase.sources.now }
-    requires kind { phrase_kind phrase.instr.now.action ≡ Some Passes }
-    ensures { PassesWriting (outcome_of phrase.entry) (last_of phrase.entry) result }
+/// A phrase of another kind has none.
+pub fn written(alloc: Global, phrase: Phrase<'_, '_>) -> Option<Result<Vec<OutLine>, Stop>>
+    requires { Offers phrase.operands phrase.sources.now }
+    ensures is { IfSome result (PassesWriting (outcome_of phrase.entry) (last_of phrase.entry)) }
+    ensures kind { IsForKind Passes phrase.entry result }
 {
     let Action::Phrase(row) = &phrase.instr.action else {
-        unreachable!()
-    };
-    let Arguments::One(b) = arguments(phrase.sources, phrase.operands) else {
-        return Err(Stop::Fault(Fault::Syntax));
+        return None;
     };
     match row {
-        Row::Group => Ok(Vec::new(alloc)),
-        Row::Show => Ok(shown(alloc, b)?),
-        _ => unreachable!(),
+        Row::Group => match arguments(phrase.sources, phrase.operands) {
+            Arguments::One(_) => Some(Ok(Vec::new(alloc))),
+            _ => Some(Err(Stop::Fault(Fault::Syntax))),
+        },
+        Row::Show => match arguments(phrase.sources, phrase.operands) {
+            Arguments::One(b) => Some(shown(alloc, b)),
+            _ => Some(Err(Stop::Fault(Fault::Syntax))),
+        },
+        _ => None,
     }
 }

@@ -1,10 +1,10 @@
 //! Phrases, and their kinds.
 ghost use Rattle.std.specs.Prelude.{◌≡◌, ◌≤◌, length, reverse, take};
 ghost use Rattle.apl_operands.specs.Operands.{unfetched};
-ghost use Rattle.apl_phrases.specs.Kinds.{kind_applying, kind_with, phrase_kind, row_kind};
+ghost use Rattle.apl_phrases.specs.Kinds.{kind_applying, kind_with, row_kind};
 
 use crate::scene::Scene;
-use apl_code::{Action, Function, Instr, Row, Source, Variable};
+use apl_code::{Function, Instr, Row, Source, Variable};
 use apl_operands::{Operands, left_of};
 use apl_symbols::Primitive;
 
@@ -78,7 +78,7 @@ fn kind_applying(function: &Function) -> PhraseKind
 
 /// The kind of a phrase of this row.
 #[inline(always)]
-fn row_kind(row: &Row) -> PhraseKind
+pub fn row_kind(row: &Row) -> PhraseKind
     ensures { result ≡ row_kind row.now }
 {
     match row {
@@ -91,17 +91,5 @@ fn row_kind(row: &Row) -> PhraseKind
         Row::Assign(variable) => kind_with(PhraseKind::Assigns, variable),
         Row::AssignIndexed(variable) => kind_with(PhraseKind::AssignsAt, variable),
         _ => PhraseKind::Gives,
-    }
-}
-
-/// The kind of the phrase that an instruction is of. The end of a line is no phrase.
-#[inline(always)]
-pub fn phrase_kind(action: &Action) -> Option<PhraseKind>
-    ensures { result ≡ phrase_kind action.now }
-{
-    match action {
-        Action::Box => Some(PhraseKind::Lists),
-        Action::Phrase(row) => Some(row_kind(row)),
-        Action::End(_) => None,
     }
 }

@@ -1,5 +1,5 @@
 //! Phrases with system names.
-ghost use Rattle.std.specs.Prelude.{◌≡◌, List, Option, Some};
+ghost use Rattle.std.specs.Prelude.{◌≡◌, IfSome, List, Option};
 ghost use Rattle.apl_arrays.specs.Cells.{Arr};
 ghost use Rattle.apl_code.specs.declared.row.Function.TheVariants as Function;
 ghost use Rattle.apl_code.specs.declared.row.Variable.TheVariants as Variable;
@@ -8,7 +8,7 @@ ghost use Rattle.apl_machine_state.specs.Outcomes.{called, dyadic, dyadic_with, 
 ghost use Rattle.apl_primitives.specs.Taken.{as_taken};
 ghost use Rattle.apl_operands.specs.Operands.{Offers};
 ghost use Rattle.apl_phrases.specs.Effects.{Does, last_of, outcome_of};
-ghost use Rattle.apl_phrases.specs.Kinds.{phrase_kind};
+ghost use Rattle.apl_phrases.specs.Kinds.{IsForKind};
 ghost use Rattle.apl_phrases.specs.declared.phrase.PhraseKind.TheVariants.{Systems};
 ghost use Rattle.apl_phrases.specs.declared.scene.Scene.{Scene as LentScene};
 
@@ -101,25 +101,25 @@ fn dyadic(
     }
 }
 
-/// What a phrase with a system name does, other than `V`, or its fault.
-pub fn effect_of(alloc: Global, phrase: Phrase<'_, '_>) -> Result<Effect, Stop>
-    requires there { Offers phrase.operands phrase.sources.now }
-    requires kind { phrase_kind phrase.instr.now.action ≡ Some Systems }
-    ensures { Does phrase.entry.scene (last_of phrase.entry) (outcome_of phrase.entry) result }
+/// What a phrase with a system name does, other than `V`, or its fault. A phrase of another kind does none of this.
+pub fn effect_of(alloc: Global, phrase: Phrase<'_, '_>) -> Option<Result<Effect, Stop>>
+    requires { Offers phrase.operands phrase.sources.now }
+    ensures is { IfSome result (Does phrase.entry.scene (last_of phrase.entry) (outcome_of phrase.entry)) }
+    ensures kind { IsForKind Systems phrase.entry result }
 {
     let Action::Phrase(row) = &phrase.instr.action else {
-        unreachable!()
+        return None;
     };
     let scene = phrase.scene;
     let arguments = arguments(phrase.sources, phrase.operands);
     match row {
-        Row::Call(Variable::System(system)) => call(*system),
-        Row::Monadic(Function::System(system)) => monadic(alloc, scene, *system, arguments),
-        Row::Dyadic(Function::System(system)) => dyadic(alloc, scene, *system, arguments),
-        Row::Assign(Variable::System(system)) => assign(scene, *system, arguments),
-        Row::AssignIndexed(Variable::System(system)) => assign_indexed(
-            alloc, scene, *system, arguments,
-        ),
-        _ => unreachable!(),
+        Row::Call(Variable::System(system)) => Some(call(*system)),
+        Row::Monadic(Function::System(system)) => Some(monadic(alloc, scene, *system, arguments)),
+        Row::Dyadic(Function::System(system)) => Some(dyadic(alloc, scene, *system, arguments)),
+        Row::Assign(Variable::System(system)) => Some(assign(scene, *system, arguments)),
+        Row::AssignIndexed(Variable::System(system)) => {
+            Some(assign_indexed(alloc, scene, *system, arguments))
+        }
+        _ => None,
     }
 }
