@@ -97,12 +97,7 @@ fn is_beside(start: Start, axis: &Axis, rest: &[Axis]) -> bool
 }
 
 /// Appends what a leaf makes of each line, in the order of the indices of the one axis that is left.
-fn walk_last<L: Leaf>(
-    leaf: &L,
-    start: Start,
-    axis: &Axis,
-    out: &mut Vec<i64>,
-) -> Result<(), Stop>
+fn walk_last<L: Leaf>(leaf: &L, start: Start, axis: &Axis, out: &mut Vec<i64>) -> Result<(), Stop>
     requires depth { IfSome start.depth (λ depth. depth < 1) }
     requires lines { OfEach (L.has leaf.now) start (axis.now ∷ []) }
     requires near { reach_of start.at (axis.now ∷ []) < 2 ^ 63 }

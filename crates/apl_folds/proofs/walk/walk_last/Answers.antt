@@ -38,7 +38,7 @@ loop-index-preserved g c =
     rows_step (λ is. gives (start_at start.at start.depth (axis ∷ []) is) (count_at start.count start.depth is)) [] c.loop-index.index axis.length c.loop-index.out.items c.push.new.self.items c.loop-index-test.true
     (ap (after c.loop-index.out.items) (sym (made_row gives start.at start.count start.depth line.at line.count line.depth axis [] c.loop-index.index c.stepped-line.ensures.at c.stepped-line.ensures.count))
     ∙ leaf_pushed gives line.at line.count line.depth [] c.loop-index.out.items c.push.new.self.items c.in-Ok.value refl (c.stepped-line.ensures.depth 0 c.requires.depth)
-    (sym c.value.ensures ∙ c.in-Ok.is) (simp to_z-of_z at c.in_ok-push.ensures.items))
+    (sym c.value.ensures ∙ c.in-Ok.is) (simp to_z-of_z at c.in_ok-push-in-Ok.ensures.items))
     ∙ c.loop-index.invariant
 
 pub returns-in-Err : goal.returns-in-Err
