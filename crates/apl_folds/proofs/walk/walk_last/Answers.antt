@@ -1,11 +1,9 @@
-use Rattle.std.proofs.Common.{rules, arith, ◌≡◌, ◌<◌, ◌∷◌, [], ◌++◌, ℕ, ℤ, List, Option, Result, Ok, Err, refl, ap, sym, subst, ◌∙◌, w64}
-use Rattle.std.specs.Option.{IfSome}
+use Rattle.std.proofs.Common.{rules, ◌≡◌, ◌∷◌, [], ℕ, ℤ, List, Result, Err, refl, ap, sym, subst, ◌∙◌, w64}
 use Rattle.std.proofs.lemmas.Int.{to_z-of_z}
 use mir.Val.{SFits}
 use Rattle.apl_faults.specs.declared.fault.Fault.{Fault}
 use Rattle.apl_arrays.specs.declared.axis.Axis.{Axis}
 use Rattle.apl_arrays.specs.declared.stop.Stop.TheVariants as stop
-use Rattle.apl_arrays.specs.Strides.{lengths}
 use Rattle.apl_arrays.proofs.InTurn.{after}
 use Rattle.apl_arrays.proofs.Order.{within_cons}
 use Rattle.apl_arrays.proofs.Steps.{near_axis}

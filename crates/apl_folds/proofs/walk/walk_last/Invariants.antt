@@ -2,7 +2,6 @@ use Rattle.std.proofs.Common.{◌∷◌, [], ◌≡◌, ℕ, ℤ, List, Result}
 use Rattle.apl_faults.specs.declared.fault.Fault.{Fault}
 use Rattle.apl_arrays.specs.Index.{indices}
 use Rattle.apl_arrays.specs.Results.{all_ok}
-use Rattle.apl_arrays.specs.Strides.{lengths}
 use Rattle.apl_arrays.proofs.Gathers.{rows_from}
 use Rattle.apl_arrays.proofs.InTurn.{after}
 use Rattle.apl_folds.specs.Lines.{start_at, count_at}
