@@ -96,6 +96,23 @@ fn is_beside(start: Start, axis: &Axis, rest: &[Axis]) -> bool
     }
 }
 
+/// Appends what a leaf makes of each line, in the order of the indices of the one axis that is left.
+fn walk_last<L: Leaf>(leaf: &L, start: Start, axis: &Axis, out: &mut Vec<i64>) -> Result<(), Stop>
+    requires depth { IfSome start.depth (λ depth. depth < 1) }
+    requires lines { OfEach (L.has leaf.now) start (axis.now ∷ []) }
+    requires near { reach_of start.at (axis.now ∷ []) < 2 ^ 63 }
+    ensures { Appends out.old.items out.new.items (made (L.gives leaf.now) start.at start.count start.depth (axis.now ∷ [])) result }
+{
+    for index in 0..axis.length {
+        let line = stepped(start, axis, index);
+        match leaf.value(line.at, line.count) {
+            Ok(value) => out.push(value)?,
+            Err(fault) => return Err(Stop::Fault(fault)),
+        }
+    }
+    Ok(())
+}
+
 /// Appends what a leaf makes of each line, in the order of the index lists.
 pub(crate) fn walk<L: Leaf>(
     leaf: &L,
@@ -120,6 +137,9 @@ pub(crate) fn walk<L: Leaf>(
             if is_beside(start, axis, rest) {
                 leaf.push_columns(start.at, start.at + axis.length, start.count, out)?;
                 return Ok(());
+            }
+            if rest.is_empty() {
+                return walk_last(leaf, start, axis, out);
             }
             for index in 0..axis.length {
                 match walk(leaf, stepped(start, axis, index), rest, out) {
