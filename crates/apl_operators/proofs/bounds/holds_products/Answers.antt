@@ -1,4 +1,4 @@
-use Rattle.std.proofs.Common.{◌≡◌, ◌<◌, ◌^◌, FitsSigned, pos, get_or, arith, w64}
+use Rattle.std.proofs.Common.{◌<◌, ◌^◌, FitsSigned, pos, get_or, arith, w64}
 use Rattle.std.proofs.lemmas.Int.{ints, to_z-of_z}
 use mir.Val.{SFits}
 use Rattle.apl_operators.proofs.SmallNumbers.{all_small}

@@ -1,7 +1,6 @@
-use Rattle.std.proofs.Common.{◌≡◌, ◌++◌, length, ap, sym, ◌∙◌}
+use Rattle.std.proofs.Common.{◌≡◌, ◌++◌, ap, sym, ◌∙◌}
 use Rattle.std.proofs.lemmas.List.{length-map}
 use Rattle.apl_arrays.specs.declared.cell.Cell.TheVariants.{Num}
-use Rattle.apl_arrays.specs.Cells.{cells_of}
 use Rattle.apl_arrays.specs.Numbers.{kept_values}
 use Rattle.apl_arrays.specs.Index.{size_of, indices}
 use Rattle.apl_arrays.proofs.InTurn.{length-all_ok}

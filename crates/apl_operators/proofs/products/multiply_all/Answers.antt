@@ -1,8 +1,8 @@
-use Rattle.std.proofs.Common.{ℕ, length, refl, sym, subst}
+use Rattle.std.proofs.Common.{ℕ, refl, sym, subst}
 use Rattle.std.specs.Int.{w8, w32}
 use Rattle.apl_arrays.specs.Widths.{more_than_w8, more_than_w32}
 use Rattle.apl_scalar.proofs.OfLanes.{as_many}
-use Rattle.apl_operators.specs.inside.SmallProducts.{AreProducts, HoldsProducts}
+use Rattle.apl_operators.specs.inside.SmallProducts.{AreProducts}
 use Rattle.apl_operators.proofs.SmallProducts.{products_cross, hold_wide}
 use Rattle.apl_operators.proofs.products.multiply_all.Goals as goal
 
