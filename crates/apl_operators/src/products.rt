@@ -6,7 +6,7 @@ ghost use Rattle.apl_scalar.specs.Functions.{dyadic_of};
 ghost use Rattle.apl_operators.specs.Places.{crossing};
 ghost use Rattle.apl_operators.specs.inside.SmallProducts.{AreProducts, HoldsProducts, IsMultiplied};
 
-use crate::bounds::{holds_products, largest};
+use crate::bounds::{fit_together, largest};
 use crate::small::times;
 use apl_arrays::{Both, Lane, NumberSlice, NumberVec};
 use apl_scalar::grow;
@@ -57,13 +57,13 @@ fn multiply_all<L: Lane>(alloc: Global, xs: &[L], ys: &[L]) -> Result<Option<Num
 {
     let left = largest(xs);
     let right = largest(ys);
-    if holds_products::<i8>(left, right) {
+    if fit_together::<i8>(left, right, 1) {
         return Ok(Some(NumberVec::I8(multiply_each(alloc, xs, ys)?)));
     }
-    if holds_products::<i32>(left, right) {
+    if fit_together::<i32>(left, right, 1) {
         return Ok(Some(NumberVec::I32(multiply_each(alloc, xs, ys)?)));
     }
-    if holds_products::<i64>(left, right) {
+    if fit_together::<i64>(left, right, 1) {
         return Ok(Some(NumberVec::I64(multiply_each(alloc, xs, ys)?)));
     }
     Ok(None)

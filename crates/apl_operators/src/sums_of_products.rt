@@ -1,155 +1,128 @@
-// Sums of products of small numbers, whole rows of the second table at a time where these are long.
-ghost use Rattle.std.specs.Prelude.{◌≡◌, ◌<◌, ◌≤◌, ◌+◌, ◌*◌, ◌^◌, ◌*ℤ◌, ◌+ℤ◌, ℕ, ℤ, List, FitsSigned, unsigned_abs};
+// Sums of products of numbers so small that none leaves a type, whole rows of the second table at a time where these are long.
+ghost use Rattle.std.specs.Prelude.{◌≡◌, ◌<◌, ◌≤◌, ◌+◌, ◌*◌, ◌^◌, ◌*ℤ◌, ◌+ℤ◌, ℕ, ℤ, List, FitsSigned};
 ghost use Rattle.std.specs.Prelude.{length, slice_index_or, pos, Ok, IsTrue, IfOk, IfSome};
-ghost use Rattle.std.specs.Int.{w64};
+ghost use Rattle.apl_arrays.specs.Numbers.{kept_values, values};
 ghost use Rattle.apl_scalar.specs.declared.function.Dyadic.TheVariants as two;
 ghost use Rattle.apl_scalar.specs.Functions.{dyadic_of};
 ghost use Rattle.apl_operators.specs.Joints.{met, folds_met, Joins};
-ghost use Rattle.apl_operators.specs.inside.SumsOfProducts.{product_of, sum_from, IsMore, AreWithin, FitTogether, AreSums};
-ghost use Rattle.apl_operators.specs.inside.NarrowProducts.{AreNarrow};
+ghost use Rattle.apl_operators.specs.inside.SumsOfProducts.{product_of, sum_from, IsMore, FitTogether, AreSums};
 
-use crate::joint::{Joint, row};
-use crate::narrow_products::sum_groups;
+use crate::bounds::{fit_together, largest};
+use crate::joint::Joint;
 use crate::small::times;
-use apl_scalar::{wider, widest};
+use apl_arrays::{Both, Lane, NumberSlice, NumberVec};
+use apl_scalar::grow;
 use std::alloc::{AllocError, Global};
 
 /// Below this many columns a row is so short that a sum of each place costs less.
-const FEW: usize = 8;
+const FEW: usize = 4;
 
-/// Below this many rows a column that is gathered serves too seldom.
-const SEVERAL: usize = 4;
+/// The same of 64 bits, of which a processor makes one product at a time.
+const MANY: usize = 32;
 
-/// How many sums more may be written for each number of a column.
-const WORTH: usize = 0x4000;
-
-/// No magnitude below this leaves the range.
-const EXACT: u64 = 0x8000_0000_0000_0000;
-
-/// A number whose magnitude is below this has 32 bits.
-const NARROW: u64 = 0x8000_0000;
-
-/// Whether so many products of numbers within two bounds are known to have a sum that fits, in whatever order they are added.
-fn fit_together(left: u64, right: u64, count: usize) -> bool
-    ensures { IsTrue result → (xs ys : List ℤ) → AreWithin left xs → AreWithin right ys → FitTogether xs ys count }
-{
-    let most = left.saturating_mul(right);
-    (count as u64).saturating_mul(most) < EXACT
-}
-
-/// Whether numbers within two bounds have 32 bits.
-fn are_narrow(left: u64, right: u64) -> bool
-    ensures { IsTrue result → (xs ys : List ℤ) → AreWithin left xs → AreWithin right ys → AreNarrow xs × AreNarrow ys }
-{
-    wider(left, right) < NARROW
-}
-
-/// Whether columns are so long and serve so often that gathering them, and writing the sums column by column, costs less than it saves.
-fn repays_gathering(joint: &Joint) -> bool
-    requires { joint.now.rows * joint.now.columns < 2 ^ 63 }
-{
-    if joint.rows < SEVERAL {
-        return false;
-    }
-    if joint.joined < FEW {
-        return false;
-    }
-    joint.rows * joint.columns / WORTH <= joint.joined
-}
+/// How many rows are added at a time.
+const GROUP: usize = 4;
 
 /// A sum and a product more where they fit, and some number elsewhere.
 #[inline(always)]
-fn more(sum: i64, x: i64, y: i64) -> i64
-    ensures { IsMore x y sum result }
+fn more<L: Lane, M: Lane>(sum: M, x: L, y: L) -> M
+    ensures { IsMore M.width (L.value x) (L.value y) (M.value sum) (M.value result) }
 {
-    times(x, y).wrapping_add(sum)
+    M::low(times(x.wide(), y.wide()).wrapping_add(sum.wide()))
 }
 
 /// Adds to each sum the product of a number with the one of a row beside it.
 #[inline(never)]
-fn add_row(x: i64, row: &[i64], sums: &mut [i64])
+fn add_row<L: Lane, M: Lane>(x: L, row: &[L], sums: &mut [M])
     requires { length row.now ≡ length sums.old }
-    ensures { (j : ℕ) → j < length sums.old →
-        IsMore x (slice_index_or row.now j (pos 0)) (slice_index_or sums.old j (pos 0)) (slice_index_or sums.new j (pos 0)) }
 {
     for j in 0..sums.len() {
         sums[j] = more(sums[j], x, row[j]);
     }
 }
 
-/// Makes each sum that of the products of so many numbers, from a place on, with those of a column of a table.
-fn sum_columns(xs: &[i64], from: usize, count: usize, ys: &[i64], none: &[i64], sums: &mut [i64])
-    requires within { from + count ≤ length xs.now }
-    requires whole { length ys.now ≡ count * length sums.old }
-    requires size { length none.now ≡ length sums.old }
-    requires none { (j : ℕ) → j < length sums.old → slice_index_or none.now j (pos 0) ≡ pos 0 }
-    requires small { FitTogether xs.now ys.now count }
-    ensures { (j : ℕ) → j < length sums.old → slice_index_or sums.new j (pos 0) ≡ sum_from (product_of xs.now from ys.now (length sums.old) j) 0 count }
+/// Adds to each sum the products of four numbers with those of four rows beside it, the last one first.
+#[inline(never)]
+fn add_rows<L: Lane, M: Lane>(xs: &[L], rows: &[L], sums: &mut [M])
+    requires xs { length xs.now ≡ GROUP }
+    requires rows { length rows.now ≡ GROUP * length sums.old }
 {
     let width = sums.len();
-    sums.copy_from_slice(none);
-    for k in (0..count).rev() {
-        add_row(xs[from + k], row(ys, k, width), sums);
+    for j in 0..width {
+        let below = more(sums[j], xs[3], rows[3 * width + j]);
+        let below = more(below, xs[2], rows[2 * width + j]);
+        let below = more(below, xs[1], rows[width + j]);
+        sums[j] = more(below, xs[0], rows[j]);
     }
 }
 
-/// The sums of the products along each row of one table and each column of another.
-fn sum_rows(alloc: Global, xs: &[i64], ys: &[i64], joint: &Joint) -> Result<Vec<i64>, AllocError>
-    requires left { length xs.now ≡ joint.now.rows * joint.now.joined }
-    requires right { length ys.now ≡ joint.now.joined * joint.now.columns }
-    requires some { 0 < joint.now.columns }
-    requires count { joint.now.rows * joint.now.columns < 2 ^ 63 }
-    requires small { FitTogether xs.now ys.now joint.now.joined }
-    ensures { IfOk result (λ v. AreSums xs.now ys.now joint.now (joint.now.rows * joint.now.columns) v.items) }
-{
-    let mut out = Vec::with_capacity(alloc, joint.rows * joint.columns)?;
-    let none = vec![in alloc; 0i64; joint.columns]?;
-    let mut sums = vec![in alloc; 0i64; joint.columns]?;
-    for r in 0..joint.rows {
-        let from = r * joint.joined;
-        sum_columns(
-            xs,
-            from,
-            joint.joined,
-            ys,
-            none.as_slice(),
-            sums.as_mut_slice(),
-        );
-        out.extend_from_slice(sums.as_slice())?;
+/// Adds to each sum the products of so many numbers with those of a column of a table, whole rows of this at a time.
+fn sum_columns<L: Lane, M: Lane>(xs: &[L], ys: &[L], sums: &mut [M]) {
+    let width = sums.len();
+    let mut k = xs.len();
+    while GROUP <= k {
+        k -= GROUP;
+        add_rows(&xs[k..k + GROUP], &ys[k * width..(k + GROUP) * width], sums);
     }
-    Ok(out)
+    for i in (0..k).rev() {
+        add_row(xs[i], &ys[i * width..i * width + width], sums);
+    }
 }
 
-/// The sum of the products of so many numbers, from a place on, with those of a column of a table that is so wide.
+/// The sum of the products of numbers with those of a column of a table that is so wide.
 #[inline(always)]
-fn sum_column(xs: &[i64], from: usize, count: usize, ys: &[i64], width: usize, column: usize) -> i64
-    requires within { from + count ≤ length xs.now }
-    requires whole { length ys.now ≡ count * width }
-    requires column { column < width }
-    requires small { FitTogether xs.now ys.now count }
-    ensures { result ≡ sum_from (product_of xs.now from ys.now width column) 0 count }
-{
-    let mut sum = 0i64;
-    for k in (0..count).rev() {
-        sum = more(sum, xs[from + k], ys[k * width + column]);
+fn sum_column<L: Lane, M: Lane>(xs: &[L], ys: &[L], width: usize, column: usize) -> M {
+    let mut sum = M::low(0);
+    for k in (0..xs.len()).rev() {
+        sum = more(sum, xs[k], ys[k * width + column]);
     }
     sum
 }
 
-/// The sums of the products along each row of one table and each column of another, one after another.
-fn sum_places(alloc: Global, xs: &[i64], ys: &[i64], joint: &Joint) -> Result<Vec<i64>, AllocError>
-    requires left { length xs.now ≡ joint.now.rows * joint.now.joined }
-    requires right { length ys.now ≡ joint.now.joined * joint.now.columns }
-    requires count { joint.now.rows * joint.now.columns < 2 ^ 63 }
-    requires small { FitTogether xs.now ys.now joint.now.joined }
-    ensures { IfOk result (λ v. AreSums xs.now ys.now joint.now (joint.now.rows * joint.now.columns) v.items) }
-{
-    let count = joint.rows * joint.columns;
-    let mut out = Vec::with_capacity(alloc, count)?;
-    for place in 0..count {
-        let from = place / joint.columns * joint.joined;
-        let column = place % joint.columns;
-        out.push(sum_column(xs, from, joint.joined, ys, joint.columns, column))?;
+/// Writes the sums of the products of numbers with each column of a table, one after another.
+fn sum_each<L: Lane, M: Lane>(xs: &[L], ys: &[L], sums: &mut [M]) {
+    let width = sums.len();
+    for column in 0..width {
+        sums[column] = sum_column(xs, ys, width, column);
+    }
+}
+
+/// Appends the sums of the products of a row with each column of a table.
+fn push_sums<L: Lane, M: Lane>(
+    out: &mut Vec<M>,
+    row: &[L],
+    ys: &[L],
+    columns: usize,
+    few: usize,
+) -> Result<(), AllocError> {
+    let before = grow(out, columns)?;
+    let sums = out.as_mut_slice().split_at_mut(before).1;
+    if columns < few {
+        sum_each(row, ys, sums);
+        return Ok(());
+    }
+    sum_columns(row, ys, sums);
+    Ok(())
+}
+
+/// The sums of the products along each row of one table and each column of another.
+fn sum_rows<L: Lane, M: Lane>(
+    alloc: Global,
+    xs: &[L],
+    ys: &[L],
+    joint: &Joint,
+    few: usize,
+) -> Result<Vec<M>, AllocError> {
+    let mut out = Vec::with_capacity(alloc, joint.rows * joint.columns)?;
+    for r in 0..joint.rows {
+        let from = r * joint.joined;
+        push_sums(
+            &mut out,
+            &xs[from..from + joint.joined],
+            ys,
+            joint.columns,
+            few,
+        )?;
     }
     Ok(out)
 }
@@ -165,53 +138,36 @@ fn is_table(joint: &Joint) -> bool
     joint.right == joint.joined
 }
 
-/// The sums of the products along each row of one table and each column of another, whose numbers are within two bounds.
-fn sum_all(
+fn sums_where_known<L: Lane>(
     alloc: Global,
-    xs: &[i64],
-    ys: &[i64],
-    left: u64,
-    right: u64,
+    xs: &[L],
+    ys: &[L],
     joint: &Joint,
-) -> Result<Vec<i64>, AllocError>
-    requires left { length xs.now ≡ joint.now.rows * joint.now.joined }
-    requires right { length ys.now ≡ joint.now.joined * joint.now.columns }
-    requires count { joint.now.rows * joint.now.columns < 2 ^ 63 }
-    requires within_left { AreWithin left xs.now }
-    requires within_right { AreWithin right ys.now }
-    requires small { FitTogether xs.now ys.now joint.now.joined }
-    ensures { IfOk result (λ v. AreSums xs.now ys.now joint.now (joint.now.rows * joint.now.columns) v.items) }
-{
-    if joint.columns < FEW {
-        return sum_places(alloc, xs, ys, joint);
+) -> Result<Option<NumberVec>, AllocError> {
+    let left = largest(xs);
+    let right = largest(ys);
+    if fit_together::<i32>(left, right, joint.joined) {
+        return Ok(Some(NumberVec::I32(sum_rows(alloc, xs, ys, joint, FEW)?)));
     }
-    if !are_narrow(left, right) {
-        return sum_rows(alloc, xs, ys, joint);
+    if fit_together::<i64>(left, right, joint.joined) {
+        return Ok(Some(NumberVec::I64(sum_rows(alloc, xs, ys, joint, MANY)?)));
     }
-    if !repays_gathering(joint) {
-        return sum_rows(alloc, xs, ys, joint);
-    }
-    sum_groups(alloc, xs, ys, joint)
+    Ok(None)
 }
 
 /// The sums of the products along rows and columns, where the numbers are known to be so small that their order is all one.
 pub(crate) fn sums_of_products(
     alloc: Global,
-    xs: &[i64],
-    ys: &[i64],
+    a: NumberSlice<'_>,
+    b: NumberSlice<'_>,
     joint: &Joint,
-) -> Result<Option<Vec<i64>>, AllocError>
-    requires joint { Joins joint.now (length xs.now) (length ys.now) }
-    requires small { joint.now.rows * joint.now.columns < 2 ^ 63 }
-    ensures { IfOk result (λ found. IfSome found (λ v. folds_met two.Plus (met (dyadic_of two.Times) xs.now ys.now joint.now) joint.now ≡ Ok v.items)) }
-{
+) -> Result<Option<NumberVec>, AllocError> {
     if !is_table(joint) {
         return Ok(None);
     }
-    let left = widest(xs);
-    let right = widest(ys);
-    if !fit_together(left, right, joint.joined) {
-        return Ok(None);
+    match Both::new(alloc, a, b)? {
+        Both::I8(xs, ys) => sums_where_known(alloc, xs.as_slice(), ys.as_slice(), joint),
+        Both::I32(xs, ys) => sums_where_known(alloc, xs.as_slice(), ys.as_slice(), joint),
+        Both::I64(xs, ys) => sums_where_known(alloc, xs.as_slice(), ys.as_slice(), joint),
     }
-    Ok(Some(sum_all(alloc, xs, ys, left, right, joint)?))
 }
