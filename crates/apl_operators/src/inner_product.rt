@@ -1,5 +1,5 @@
 // Inner products.
-ghost use Rattle.std.specs.Prelude.{◌≡◌, ◌<◌, ◌*◌, ◌^◌, [], length, Ok, IfOk};
+ghost use Rattle.std.specs.Prelude.{◌≡◌, ◌<◌, ◌*◌, ◌^◌, [], length, Ok, IfOk, IfSome};
 ghost use Rattle.std.specs.List.{range_with_len};
 ghost use Rattle.apl_arrays.specs.Answers.{Answers, FaultsFirst};
 ghost use Rattle.apl_arrays.specs.Cells.{cells_of};
@@ -219,7 +219,15 @@ fn fold_standing(
     a: Elements<'_>,
     b: Elements<'_>,
     joint: &Joint,
-) -> Result<Vec<i64>, Stop> {
+) -> Result<Vec<i64>, Stop>
+    requires joint { Joins joint.now (length (cells_of (listed a))) (length (cells_of (listed b))) }
+    requires small { joint.now.rows * joint.now.columns < 2 ^ 63 }
+    requires some { 0 < joint.now.rows * joint.now.columns }
+    ensures { Answers (λ v. v.items) (folds_met outer_function (met_cells inner_function (listed a.entry) (listed b.entry) joint.now) joint.now) result }
+{
+    if joint.joined == 0 {
+        return identities(alloc, outer_function, joint.rows * joint.columns);
+    }
     let mut few = Few::new();
     match standing(alloc, inner_function, a, b, &mut few)? {
         Some(found) => {
@@ -244,12 +252,8 @@ fn fold_elements(
     requires small { joint.now.rows * joint.now.columns < 2 ^ 63 }
     ensures { Answers kept_values (folds_met outer_function (met_cells inner_function (listed a.entry) (listed b.entry) joint.now) joint.now) result }
 {
-    let count = joint.rows * joint.columns;
-    if count == 0 {
+    if joint.rows * joint.columns == 0 {
         return Ok(NumberVec::I8(Vec::new(alloc)));
-    }
-    if joint.joined == 0 {
-        return Ok(NumberVec::I64(identities(alloc, outer_function, count)?));
     }
     match sums_of(alloc, outer_function, inner_function, a, b, joint)? {
         Some(sums) => Ok(sums),

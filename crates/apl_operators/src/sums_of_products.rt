@@ -1,17 +1,15 @@
 // Sums of products of numbers so small that none leaves a type, whole rows of the second table at a time where these are long.
-ghost use Rattle.std.specs.Prelude.{◌≡◌, ◌<◌, ◌≤◌, ◌+◌, ◌*◌, ◌^◌, ◌*ℤ◌, ◌+ℤ◌, ℕ, ℤ, List, FitsSigned};
-ghost use Rattle.std.specs.Prelude.{length, slice_index_or, pos, Ok, IsTrue, IfOk, IfSome};
+ghost use Rattle.std.specs.Prelude.{◌≡◌, ◌<◌, ◌≤◌, ◌+◌, ◌*◌, ◌^◌, ℕ, length, slice_index_or, pos, Ok, IsTrue, IfOk, IfSome};
 ghost use Rattle.apl_arrays.specs.Numbers.{kept_values, values};
 ghost use Rattle.apl_scalar.specs.declared.function.Dyadic.TheVariants as two;
 ghost use Rattle.apl_scalar.specs.Functions.{dyadic_of};
 ghost use Rattle.apl_operators.specs.Joints.{met, folds_met, Joins};
-ghost use Rattle.apl_operators.specs.inside.SumsOfProducts.{product_of, sum_from, IsMore, FitTogether, AreSums};
+ghost use Rattle.apl_operators.specs.inside.SumsOfProducts.{product_of, sum_from, IsMore, FitTogether, AreRowSums, AreSums};
 
 use crate::bounds::{fit_together, largest};
 use crate::joint::Joint;
 use crate::small::times;
 use apl_arrays::{Both, Lane, NumberSlice, NumberVec};
-use apl_scalar::grow;
 use std::alloc::{AllocError, Global};
 
 /// Below this many columns a row is so short that a sum of each place costs less.
@@ -31,100 +29,118 @@ fn more<L: Lane, M: Lane>(sum: M, x: L, y: L) -> M
     M::low(times(x.wide(), y.wide()).wrapping_add(sum.wide()))
 }
 
-/// Adds to each sum the product of a number with the one of a row beside it.
-#[inline(never)]
-fn add_row<L: Lane, M: Lane>(x: L, row: &[L], sums: &mut [M])
-    requires { length row.now ≡ length sums.old }
-{
-    for j in 0..sums.len() {
-        sums[j] = more(sums[j], x, row[j]);
-    }
-}
-
-/// Adds to each sum the products of four numbers with those of four rows beside it, the last one first.
-#[inline(never)]
-fn add_rows<L: Lane, M: Lane>(xs: &[L], rows: &[L], sums: &mut [M])
-    requires xs { length xs.now ≡ GROUP }
-    requires rows { length rows.now ≡ GROUP * length sums.old }
-{
-    let width = sums.len();
-    for j in 0..width {
-        let below = more(sums[j], xs[3], rows[3 * width + j]);
-        let below = more(below, xs[2], rows[2 * width + j]);
-        let below = more(below, xs[1], rows[width + j]);
-        sums[j] = more(below, xs[0], rows[j]);
-    }
-}
-
-/// Adds to each sum the products of so many numbers with those of a column of a table, whole rows of this at a time.
-fn sum_columns<L: Lane, M: Lane>(xs: &[L], ys: &[L], sums: &mut [M]) {
-    let width = sums.len();
-    let mut k = xs.len();
-    while GROUP <= k {
-        k -= GROUP;
-        add_rows(&xs[k..k + GROUP], &ys[k * width..(k + GROUP) * width], sums);
-    }
-    for i in (0..k).rev() {
-        add_row(xs[i], &ys[i * width..i * width + width], sums);
-    }
-}
-
-/// The sum of the products of numbers with those of a column of a table that is so wide.
+/// A sum with the products of so many numbers, from one on, and those of a column of a table that is so wide, the last one first.
 #[inline(always)]
-fn sum_column<L: Lane, M: Lane>(xs: &[L], ys: &[L], width: usize, column: usize) -> M {
-    let mut sum = M::low(0);
-    for k in (0..xs.len()).rev() {
+fn sum_column<L: Lane, M: Lane>(
+    xs: &[L],
+    ys: &[L],
+    from: usize,
+    count: usize,
+    width: usize,
+    column: usize,
+    last: M,
+) -> M
+    requires within { from + count ≤ length xs.now }
+    requires whole { length ys.now ≡ length xs.now * width }
+    requires column { column < width }
+    requires small { FitTogether M.width (L.numbers xs.now) (L.numbers ys.now) (length xs.now) }
+    requires last { M.value last ≡ sum_from (product_of (L.numbers xs.now) (L.numbers ys.now) width column) (from + count) (length xs.now) }
+    ensures { M.value result ≡ sum_from (product_of (L.numbers xs.now) (L.numbers ys.now) width column) from (length xs.now) }
+{
+    let mut sum = last;
+    for i in (0..count).rev() {
+        let k = from + i;
         sum = more(sum, xs[k], ys[k * width + column]);
     }
     sum
 }
 
-/// Writes the sums of the products of numbers with each column of a table, one after another.
-fn sum_each<L: Lane, M: Lane>(xs: &[L], ys: &[L], sums: &mut [M]) {
+/// Adds to each sum the products of so many numbers, from one on, with those of a column of a table.
+#[inline(always)]
+fn add_rows<L: Lane, M: Lane>(xs: &[L], ys: &[L], from: usize, count: usize, sums: &mut [M])
+    requires within { from + count ≤ length xs.now }
+    requires whole { length ys.now ≡ length xs.now * length sums.old }
+    requires small { FitTogether M.width (L.numbers xs.now) (L.numbers ys.now) (length xs.now) }
+    requires last { AreRowSums (L.numbers xs.now) (L.numbers ys.now) (length sums.old) (length xs.now) (from + count) (M.numbers sums.old) }
+    ensures { AreRowSums (L.numbers xs.now) (L.numbers ys.now) (length sums.old) (length xs.now) from (M.numbers sums.new) }
+{
     let width = sums.len();
     for column in 0..width {
-        sums[column] = sum_column(xs, ys, width, column);
+        sums[column] = sum_column(xs, ys, from, count, width, column, sums[column]);
     }
 }
 
-/// Appends the sums of the products of a row with each column of a table.
-fn push_sums<L: Lane, M: Lane>(
-    out: &mut Vec<M>,
-    row: &[L],
-    ys: &[L],
-    columns: usize,
-    few: usize,
-) -> Result<(), AllocError> {
-    let before = grow(out, columns)?;
-    let sums = out.as_mut_slice().split_at_mut(before).1;
-    if columns < few {
-        sum_each(row, ys, sums);
-        return Ok(());
+/// Makes each sum 0.
+#[inline(always)]
+fn clear<M: Lane>(sums: &mut [M])
+    ensures { (q : ℕ) → q < length sums.old → slice_index_or (M.numbers sums.new) q (pos 0) ≡ pos 0 }
+{
+    for q in 0..sums.len() {
+        sums[q] = M::low(0);
     }
-    sum_columns(row, ys, sums);
-    Ok(())
+}
+
+/// Makes each sum that of the products of numbers with those of a column of a table, whole rows of this at a time unless they are short.
+#[inline(never)]
+fn sum_row<L: Lane, M: Lane>(xs: &[L], ys: &[L], few: usize, sums: &mut [M])
+    requires whole { length ys.now ≡ length xs.now * length sums.old }
+    requires small { FitTogether M.width (L.numbers xs.now) (L.numbers ys.now) (length xs.now) }
+    ensures { AreRowSums (L.numbers xs.now) (L.numbers ys.now) (length sums.old) (length xs.now) 0 (M.numbers sums.new) }
+{
+    clear(sums);
+    let mut k = xs.len();
+    if sums.len() < few {
+        add_rows(xs, ys, 0, k, sums);
+        return;
+    }
+    while 0 < k {
+        if k < GROUP {
+            k -= 1;
+            add_rows(xs, ys, k, 1, sums);
+        } else {
+            k -= GROUP;
+            add_rows(xs, ys, k, GROUP, sums);
+        }
+    }
+}
+
+/// Makes each sum that of the products of a row of one table with those of a column of another.
+fn sum_table<L: Lane, M: Lane>(xs: &[L], ys: &[L], joint: &Joint, few: usize, sums: &mut [M])
+    requires left { length xs.now ≡ joint.now.rows * joint.now.joined }
+    requires right { length ys.now ≡ joint.now.joined * joint.now.columns }
+    requires size { length sums.old ≡ joint.now.rows * joint.now.columns }
+    requires small { FitTogether M.width (L.numbers xs.now) (L.numbers ys.now) joint.now.joined }
+    ensures { AreSums (L.numbers xs.now) (L.numbers ys.now) joint.now joint.now.rows (M.numbers sums.new) }
+{
+    for r in 0..joint.rows {
+        let from = r * joint.joined;
+        let at = r * joint.columns;
+        sum_row(
+            &xs[from..from + joint.joined],
+            ys,
+            few,
+            &mut sums[at..at + joint.columns],
+        );
+    }
 }
 
 /// The sums of the products along each row of one table and each column of another.
-fn sum_rows<L: Lane, M: Lane>(
+fn sums_in<L: Lane, M: Lane>(
     alloc: Global,
     xs: &[L],
     ys: &[L],
     joint: &Joint,
     few: usize,
-) -> Result<Vec<M>, AllocError> {
-    let mut out = Vec::with_capacity(alloc, joint.rows * joint.columns)?;
-    for r in 0..joint.rows {
-        let from = r * joint.joined;
-        push_sums(
-            &mut out,
-            &xs[from..from + joint.joined],
-            ys,
-            joint.columns,
-            few,
-        )?;
-    }
-    Ok(out)
+) -> Result<Vec<M>, AllocError>
+    requires left { length xs.now ≡ joint.now.rows * joint.now.joined }
+    requires right { length ys.now ≡ joint.now.joined * joint.now.columns }
+    requires count { joint.now.rows * joint.now.columns < 2 ^ 63 }
+    requires small { FitTogether M.width (L.numbers xs.now) (L.numbers ys.now) joint.now.joined }
+    ensures { IfOk result (λ v. AreSums (L.numbers xs.now) (L.numbers ys.now) joint.now joint.now.rows (M.numbers v.items)) }
+{
+    let mut sums = vec![in alloc; M::low(0); joint.rows * joint.columns]?;
+    sum_table(xs, ys, joint, few, sums.as_mut_slice());
+    Ok(sums)
 }
 
 /// Whether no axis extends.
@@ -138,19 +154,26 @@ fn is_table(joint: &Joint) -> bool
     joint.right == joint.joined
 }
 
+/// The sums of the products along rows and columns of tables, in the narrowest type that is known to hold them.
 fn sums_where_known<L: Lane>(
     alloc: Global,
     xs: &[L],
     ys: &[L],
     joint: &Joint,
-) -> Result<Option<NumberVec>, AllocError> {
+) -> Result<Option<NumberVec>, AllocError>
+    requires left { length xs.now ≡ joint.now.rows * joint.now.joined }
+    requires right { length ys.now ≡ joint.now.joined * joint.now.columns }
+    requires table { (joint.now.left ≡ joint.now.joined) × (joint.now.right ≡ joint.now.joined) }
+    requires count { joint.now.rows * joint.now.columns < 2 ^ 63 }
+    ensures { IfOk result (λ found. IfSome found (λ v. folds_met two.Plus (met (dyadic_of two.Times) (L.numbers xs.now) (L.numbers ys.now) joint.now) joint.now ≡ Ok (kept_values v))) }
+{
     let left = largest(xs);
     let right = largest(ys);
     if fit_together::<i32>(left, right, joint.joined) {
-        return Ok(Some(NumberVec::I32(sum_rows(alloc, xs, ys, joint, FEW)?)));
+        return Ok(Some(NumberVec::I32(sums_in(alloc, xs, ys, joint, FEW)?)));
     }
     if fit_together::<i64>(left, right, joint.joined) {
-        return Ok(Some(NumberVec::I64(sum_rows(alloc, xs, ys, joint, MANY)?)));
+        return Ok(Some(NumberVec::I64(sums_in(alloc, xs, ys, joint, MANY)?)));
     }
     Ok(None)
 }
@@ -161,7 +184,11 @@ pub(crate) fn sums_of_products(
     a: NumberSlice<'_>,
     b: NumberSlice<'_>,
     joint: &Joint,
-) -> Result<Option<NumberVec>, AllocError> {
+) -> Result<Option<NumberVec>, AllocError>
+    requires joint { Joins joint.now (length (values a)) (length (values b)) }
+    requires small { joint.now.rows * joint.now.columns < 2 ^ 63 }
+    ensures { IfOk result (λ found. IfSome found (λ v. folds_met two.Plus (met (dyadic_of two.Times) (values a.entry) (values b.entry) joint.now) joint.now ≡ Ok (kept_values v))) }
+{
     if !is_table(joint) {
         return Ok(None);
     }
