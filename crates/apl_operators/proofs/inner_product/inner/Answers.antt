@@ -1,4 +1,4 @@
-use Rattle.std.proofs.Common.{refl, ◌≡◌, ◌-◌, ◌++◌, List, ℕ, ℤ, Ok, map, length, get_or, sym, ap, ◌∙◌, arith}
+use Rattle.std.proofs.Common.{refl, ◌≡◌, ◌-◌, ◌++◌, List, ℕ, Ok, map, length, get_or, sym, ap, ◌∙◌, arith}
 use Rattle.std.proofs.lemmas.List.{length-map}
 use Rattle.std.proofs.lemmas.Result.{err_from_is_err_and}
 use Rattle.apl_arrays.specs.declared.cell.Cell.TheVariants.{Num}

@@ -1,4 +1,4 @@
-use Rattle.std.proofs.Common.{◌≡◌, ◌<◌, ◌+◌, ℕ, pos, get_or, length, sym, ◌∙◌, refl, rules, arith}
+use Rattle.std.proofs.Common.{◌≡◌, ◌<◌, length, sym, ◌∙◌, rules, arith}
 use Rattle.apl_scalar.proofs.Filling.{fill_step}
 use Rattle.apl_scalar.proofs.OfLanes.{number_of_item}
 use Rattle.apl_operators.specs.inside.SumsOfProducts.{product_of, sum_from}

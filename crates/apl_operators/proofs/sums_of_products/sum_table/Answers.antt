@@ -1,9 +1,7 @@
-use Rattle.std.proofs.Common.{◌≡◌, ◌<◌, ◌≤◌, ◌+◌, ◌-◌, ◌*◌, ℕ, List, ℤ, pos, get_or, length, take, drop, ap, sym, ◌∙◌, subst, rules, arith}
+use Rattle.std.proofs.Common.{◌≡◌, ◌≤◌, ◌+◌, ◌-◌, ◌*◌, ℕ, List, ℤ, length, ap, sym, ◌∙◌, subst, rules, arith}
 use Rattle.std.specs.List.{slice_range}
-use Rattle.std.proofs.Math.Nat.{mul-le-mul_right}
-use Rattle.std.proofs.lemmas.List.{length-take-le, length-drop}
 use borrow.Rule.Slice.PartMut.{put_mid}
-use Rattle.apl_scalar.proofs.OfLanes.{as_many, numbers-take, numbers-drop}
+use Rattle.apl_scalar.proofs.OfLanes.{as_many}
 use Rattle.apl_operators.specs.inside.SumsOfProducts.{FitTogether, AreRowSums, row_in, AreSums}
 use Rattle.apl_operators.proofs.SmallProducts.{row_within}
 use Rattle.apl_operators.proofs.SumsOfProducts.{fit_part, numbers_part, part_whole, row_made, numbers_put, table_more}

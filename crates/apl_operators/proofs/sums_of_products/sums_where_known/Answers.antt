@@ -1,5 +1,5 @@
 use Rattle.std.proofs.Common.{refl}
-use Rattle.std.specs.Int.{w32, w64}
+use Rattle.std.specs.Int.{w32}
 use Rattle.apl_arrays.specs.Widths.{more_than_w32}
 use Rattle.apl_operators.proofs.SumsOfProducts.{folds_are_sums, fit_wide}
 use Rattle.apl_operators.proofs.sums_of_products.sums_where_known.Goals as goal
