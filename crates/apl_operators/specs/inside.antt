@@ -1,4 +1,3 @@
 pub mod Standing
 pub mod SumsOfProducts
-pub mod NarrowProducts
 pub mod SmallProducts

@@ -1,7 +1,6 @@
 // Bounds of numbers, from which it is known that no product of theirs leaves a type.
 ghost use Rattle.std.specs.Prelude.{ℤ, List, IsTrue, FitsSigned};
-ghost use Rattle.apl_operators.specs.inside.SumsOfProducts.{AreWithin};
-ghost use Rattle.apl_operators.specs.inside.SmallProducts.{HoldsProducts};
+ghost use Rattle.apl_operators.specs.inside.SumsOfProducts.{AreWithin, FitTogether};
 
 use apl_arrays::Lane;
 
@@ -31,13 +30,14 @@ fn holds<M: Lane>(number: i64) -> bool
     M::cut(number).is_some()
 }
 
-/// Whether a type is known to hold the products of numbers within two bounds.
-pub(crate) fn holds_products<M: Lane>(left: u64, right: u64) -> bool
-    ensures { IsTrue result → (xs ys : List ℤ) → AreWithin left xs → AreWithin right ys → HoldsProducts M.width xs ys }
+/// Whether a type is known to hold the sum of so many products of numbers within two bounds, in whatever order they are added.
+pub(crate) fn fit_together<M: Lane>(left: u64, right: u64, count: usize) -> bool
+    ensures { IsTrue result → (xs ys : List ℤ) → AreWithin left xs → AreWithin right ys → FitTogether M.width xs ys count }
 {
     let most = left.saturating_mul(right);
-    if EXACT <= most {
+    let all = (count as u64).saturating_mul(most);
+    if EXACT <= all {
         return false;
     }
-    holds::<M>(most as i64)
+    holds::<M>(all as i64)
 }

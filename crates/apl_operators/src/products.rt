@@ -4,9 +4,10 @@ ghost use Rattle.apl_arrays.specs.Numbers.{kept_values, values};
 ghost use Rattle.apl_scalar.specs.declared.function.Dyadic.TheVariants as two;
 ghost use Rattle.apl_scalar.specs.Functions.{dyadic_of};
 ghost use Rattle.apl_operators.specs.Places.{crossing};
-ghost use Rattle.apl_operators.specs.inside.SmallProducts.{AreProducts, HoldsProducts, IsMultiplied};
+ghost use Rattle.apl_operators.specs.inside.SumsOfProducts.{FitTogether};
+ghost use Rattle.apl_operators.specs.inside.SmallProducts.{AreProducts, IsMultiplied};
 
-use crate::bounds::{holds_products, largest};
+use crate::bounds::{fit_together, largest};
 use crate::small::times;
 use apl_arrays::{Both, Lane, NumberSlice, NumberVec};
 use apl_scalar::grow;
@@ -40,7 +41,7 @@ fn push_products<L: Lane, M: Lane>(out: &mut Vec<M>, x: i64, ys: &[L]) -> Result
 /// The products of each number with each of others.
 fn multiply_each<L: Lane, M: Lane>(alloc: Global, xs: &[L], ys: &[L]) -> Result<Vec<M>, AllocError>
     requires count { length xs.now * length ys.now < 2 ^ 63 }
-    requires small { HoldsProducts M.width (L.numbers xs.now) (L.numbers ys.now) }
+    requires small { FitTogether M.width (L.numbers xs.now) (L.numbers ys.now) 1 }
     ensures { IfOk result (λ v. AreProducts (L.numbers xs.now) (L.numbers ys.now) (length xs.now) (M.numbers v.items)) }
 {
     let mut out = Vec::with_capacity(alloc, xs.len() * ys.len())?;
@@ -57,13 +58,13 @@ fn multiply_all<L: Lane>(alloc: Global, xs: &[L], ys: &[L]) -> Result<Option<Num
 {
     let left = largest(xs);
     let right = largest(ys);
-    if holds_products::<i8>(left, right) {
+    if fit_together::<i8>(left, right, 1) {
         return Ok(Some(NumberVec::I8(multiply_each(alloc, xs, ys)?)));
     }
-    if holds_products::<i32>(left, right) {
+    if fit_together::<i32>(left, right, 1) {
         return Ok(Some(NumberVec::I32(multiply_each(alloc, xs, ys)?)));
     }
-    if holds_products::<i64>(left, right) {
+    if fit_together::<i64>(left, right, 1) {
         return Ok(Some(NumberVec::I64(multiply_each(alloc, xs, ys)?)));
     }
     Ok(None)

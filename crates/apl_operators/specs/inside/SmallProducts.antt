@@ -1,6 +1,5 @@
 -- The products of each number with each of others, row by row.
-use Rattle.std.specs.Prelude.{◌≡◌, ◌<◌, ◌+◌, ◌*◌, ◌*ℤ◌, ◌++◌, ℕ, ℤ, pos, FitsSigned, List, length, slice_index_or}
-use Rattle.std.specs.Int.{Width}
+use Rattle.std.specs.Prelude.{◌≡◌, ◌<◌, ◌+◌, ◌*◌, ◌*ℤ◌, ◌++◌, ℕ, ℤ, pos, List, length, slice_index_or}
 
 -- those of so many numbers are known
 pub record AreProducts (xs ys : List ℤ) (count : ℕ) (zs : List ℤ) : Type 0 where
@@ -13,7 +12,3 @@ pub record IsMultiplied (x : ℤ) (ys old new : List ℤ) : Type 0 where
   pub size : length row ≡ length ys
   pub is : new ≡ old ++ row
   pub each : (k : ℕ) → k < length ys → slice_index_or row k (pos 0) ≡ x *ℤ slice_index_or ys k (pos 0)
-
--- numbers of so many bits hold each product of a number of each list
-abbrev pub HoldsProducts : Width → List ℤ → List ℤ → Type 0
-HoldsProducts w xs ys = (i k : ℕ) → FitsSigned w (slice_index_or xs i (pos 0) *ℤ slice_index_or ys k (pos 0))

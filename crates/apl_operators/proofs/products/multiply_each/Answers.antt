@@ -2,6 +2,7 @@ use Rattle.std.proofs.Common.{◌≡◌, ◌*ℤ◌, ℤ, pos, FitsSigned, to_z,
 use Rattle.std.proofs.lemmas.Int.{to_z-of_z}
 use mir.Val.{SFits}
 use Rattle.apl_scalar.proofs.OfLanes.{number_of_item}
+use Rattle.apl_operators.proofs.SumsOfProducts.{product_held}
 use Rattle.apl_operators.proofs.SmallProducts.{products_more}
 use Rattle.apl_operators.proofs.products.multiply_each.Goals as goal
 
@@ -12,7 +13,7 @@ push_products-requires g c = λ k h.
     to_z-of_z w64 c.wide.result fits ∙ c.wide.ensures.value ∙ sym (number_of_item g.L.Lane.value g.L.Lane.numbers g.met.L.Lane.each c.args.xs.now c.loop-r.r c.index-xs-r.result c.loop-r-test.true c.index-xs-r.is)
     in
     let P : ℤ → Type 0 = λ z. FitsSigned g.M.Lane.width (z *ℤ get_or (g.L.Lane.numbers c.args.ys.now) k (pos 0)) in
-    subst P (sym head) (c.requires.small c.loop-r.r k)
+    subst P (sym head) (product_held g.M.Lane.width (g.L.Lane.numbers c.args.xs.now) (g.L.Lane.numbers c.args.ys.now) c.loop-r.r k c.requires.small)
 
 pub loop-r-preserved : goal.loop-r-preserved
 loop-r-preserved g c =

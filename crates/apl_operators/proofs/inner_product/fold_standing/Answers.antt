@@ -6,7 +6,7 @@ use Rattle.apl_arrays.specs.Numbers.{typed_items}
 use Rattle.apl_operators.specs.Joints.{met_cells}
 use Rattle.apl_operators.proofs.Folding.{nothing_met}
 use Rattle.apl_operators.proofs.Meeting.{folds_by_numbers, folds_of_failures, joins_along, nothing_along}
-use Rattle.apl_operators.proofs.inner_product.fold_elements.Goals as goal
+use Rattle.apl_operators.proofs.inner_product.fold_standing.Goals as goal
 
 pub returns-then-joint-eq0 : goal.returns-then-joint-eq0
 returns-then-joint-eq0 c =
@@ -25,4 +25,4 @@ returns-in-Some c =
 
 pub returns-in-None : goal.returns-in-None
 returns-in-None c =
-    folds_of_failures c.args.outer_function c.args.inner_function (listed c.args.a) (listed c.args.b) c.args.joint.now (rw c.in-None.is at c.in_ok-found.ensures) c.requires.joint (omega arith) (omega arith)
+    folds_of_failures c.args.outer_function c.args.inner_function (listed c.args.a) (listed c.args.b) c.args.joint.now (rw c.in-None.is at c.in_ok-found.ensures) c.requires.joint c.requires.some (omega arith)
