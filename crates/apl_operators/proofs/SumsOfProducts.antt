@@ -1,5 +1,5 @@
 -- Sums of products that are so small that their order is all one.
-use Rattle.std.proofs.Common.{zero, suc, ◌≡◌, Bool, true, false, cond, ℕ, ℤ, pos, ◌+ℤ◌, ◌*ℤ◌, ◌+◌, ◌-◌, ◌*◌, ◌/◌, ◌%◌, ◌<◌, ◌≤◌, ◌^◌, ◌⊎◌, min, List, [], ◌∷◌, ◌++◌, map, length, take, drop, get_or, set, get_or-set_other, Result, Ok, FitsSigned, refl, ap, sym, ◌∙◌, subst, arith, ⊎_elim, w64}
+use Rattle.std.proofs.Common.{zero, suc, ◌≡◌, Bool, true, false, cond, ℕ, ℤ, pos, ◌+ℤ◌, ◌*ℤ◌, ◌+◌, ◌-◌, ◌*◌, ◌/◌, ◌%◌, ◌<◌, ◌≤◌, ◌^◌, ◌⊎◌, min, List, [], ◌∷◌, map, length, get_or, set, get_or-set_other, Result, Ok, FitsSigned, refl, ap, sym, ◌∙◌, subst, arith, ⊎_elim, w64}
 use Rattle.std.specs.Prelude.{unsigned_abs, ◌==◌}
 use Rattle.std.specs.Int.{Width}
 use Rattle.std.specs.List.{range_with_len, slice_range}

@@ -1,9 +1,9 @@
-use Rattle.std.proofs.Common.{◌≡◌, ◌≤◌, ◌+◌, ◌*◌, ◌*ℤ◌, ℕ, ℤ, pos, FitsSigned, to_z, of_z, get_or, length, ap, sym, ◌∙◌, subst, rules, w64}
+use Rattle.std.proofs.Common.{◌≡◌, ◌*ℤ◌, ℤ, pos, FitsSigned, to_z, of_z, get_or, length, ap, sym, ◌∙◌, subst, rules, w64}
 use Rattle.std.proofs.lemmas.Int.{to_z-of_z}
 use mir.Val.{SFits}
-use Rattle.apl_scalar.proofs.OfLanes.{as_many, number_of_item}
+use Rattle.apl_scalar.proofs.OfLanes.{number_of_item}
 use Rattle.apl_operators.proofs.SumsOfProducts.{product_held}
-use Rattle.apl_operators.proofs.Tables.{row_within, part_whole, row_written}
+use Rattle.apl_operators.proofs.Tables.{row_written}
 use Rattle.apl_operators.proofs.products.multiply_rows.Goals as goal
 
 pub multiply-requires-clause-fits : goal.multiply-requires-clause-fits
