@@ -7,3 +7,4 @@ pub mod Others
 pub mod SmallNumbers
 pub mod SumsOfProducts
 pub mod SmallProducts
+pub mod Tables

@@ -1,14 +1,13 @@
 -- Sums of products that are so small that their order is all one.
-use Rattle.std.proofs.Common.{zero, suc, ◌≡◌, Bool, true, false, cond, ℕ, ℤ, pos, ◌+ℤ◌, ◌*ℤ◌, ◌+◌, ◌-◌, ◌*◌, ◌/◌, ◌%◌, ◌<◌, ◌≤◌, ◌^◌, ◌⊎◌, min, List, [], ◌∷◌, ◌++◌, map, length, take, drop, get_or, set, get_or-set_other, Result, Ok, FitsSigned, refl, ap, sym, ◌∙◌, subst, arith, ⊎_elim, w64}
+use Rattle.std.proofs.Common.{zero, suc, ◌≡◌, Bool, true, false, cond, ℕ, ℤ, pos, ◌+ℤ◌, ◌*ℤ◌, ◌+◌, ◌-◌, ◌*◌, ◌/◌, ◌%◌, ◌<◌, ◌≤◌, ◌^◌, ◌⊎◌, min, List, [], ◌∷◌, map, length, get_or, set, get_or-set_other, Result, Ok, FitsSigned, refl, ap, sym, ◌∙◌, subst, arith, ⊎_elim, w64}
 use Rattle.std.specs.Prelude.{unsigned_abs, ◌==◌}
 use Rattle.std.specs.Int.{Width}
 use Rattle.std.specs.List.{range_with_len, slice_range}
 use Rattle.std.proofs.lemmas.Bool.{cases_lt, eqb-true}
 use Rattle.std.proofs.lemmas.Int.{ints, unsigned_abs-mul}
-use Rattle.std.proofs.lemmas.List.{get_or-take, get_or-drop, get_or_past, get_or_append_left, get_or-append_right, length-take, length-take-le, length-drop}
-use Rattle.std.proofs.lemmas.Nat.{mul-le, mul-add-lt}
+use Rattle.std.proofs.lemmas.List.{get_or_past}
+use Rattle.std.proofs.lemmas.Nat.{mul-le}
 use Rattle.std.proofs.Math.Nat.{div-add-mod, mul-le-mul_right}
-use borrow.Rule.Slice.PartMut.{mid_of, post_of, put_mid, same_len_mid}
 use Rattle.apl_faults.specs.declared.fault.Fault.{Fault}
 use Rattle.apl_arrays.specs.declared.cell.Cell.TheVariants.{Num}
 use Rattle.apl_arrays.specs.Results.{and_then, ok_map, all_ok}
@@ -19,7 +18,6 @@ use Rattle.apl_scalar.specs.declared.function.Dyadic.TheVariants as two
 use Rattle.apl_scalar.specs.Functions.{dyadic_of}
 use Rattle.apl_scalar.proofs.Signs.{in_range-fits}
 use Rattle.apl_scalar.proofs.Whole.{all_values}
-use Rattle.apl_scalar.proofs.OfLanes.{numbers-append, numbers-take, numbers-drop}
 use Rattle.apl_folds.specs.Folds.{folded}
 use Rattle.apl_folds.specs.inside.Sums.{total, magnitudes}
 use Rattle.apl_folds.proofs.Rights.{folded_numbers}
@@ -29,24 +27,7 @@ use Rattle.apl_operators.specs.Products.{extended_index}
 use Rattle.apl_operators.specs.Joints.{met, folds_met, row_place, column_place}
 use Rattle.apl_operators.specs.inside.SumsOfProducts.{product_of, sum_from, IsMore, FitTogether, AreRowSums, row_in, AreSums}
 use Rattle.apl_operators.proofs.SmallNumbers.{all_small}
-
--- a part of a list
-pub part_at : (xs : List ℤ) (from till k : ℕ) → k < till - from → get_or (slice_range xs from till) k (pos 0) ≡ get_or xs (from + k) (pos 0)
-part_at xs from till k h = get_or-take (till - from) (drop from xs) k (pos 0) h ∙ get_or-drop from xs k (pos 0)
-
--- its numbers
-pub numbers_part : {A : Type 0} (value : A → ℤ) (numbers : List A → List ℤ) → ((xs : List A) → numbers xs ≡ map value xs) → (xs : List A) (from till : ℕ) → numbers (slice_range xs from till) ≡ slice_range (numbers xs) from till
-numbers_part value numbers each xs from till = numbers-take value numbers each (till - from) (drop from xs) ∙ ap (take (till - from)) (numbers-drop value numbers each from xs)
-
--- and how long it is
-pub part_whole : {A : Type 0} (xs : List A) (from n : ℕ) → from + n ≤ length xs → length (slice_range xs from (from + n)) ≡ n
-part_whole xs from n h = length-take-le (from + n - from) (drop from xs) (omega (arith, length-drop from xs)) ∙ same from n
-  where
-    same : (a n : ℕ) → a + n - a ≡ n
-    same a n = omega arith
-
-part_length : (xs : List ℤ) (from till : ℕ) → length (slice_range xs from till) ≤ till - from
-part_length xs from till = omega (arith, length-take (till - from) (drop from xs))
+use Rattle.apl_operators.proofs.Tables.{part_at, part_length}
 
 -- a bound of products from bounds of their factors, as the code tests it
 bound_fits : (n p q : ℕ) → q ≡ min (n * p) (2 ^ 64 - 1) → q < 2 ^ 63 → q ≡ n * p
@@ -146,59 +127,7 @@ others_stay value numbers each old now i v same q h =
     ∙ get_or-set_other (numbers now) i q (value v) (pos 0) (λ e. absurd (omega arith))
     ∙ same q (omega arith)
 
--- the numbers of a list of which a part is written
-pub numbers_put : {A : Type 0} (value : A → ℤ) (numbers : List A → List ℤ) → ((xs : List A) → numbers xs ≡ map value xs) → (a k : ℕ) (xs ys : List A) → numbers (put_mid a k xs ys) ≡ put_mid a k (numbers xs) (numbers ys)
-numbers_put value numbers each a k xs ys =
-    numbers-append value numbers each (take a xs) (ys ++ drop k (drop a xs))
-    ∙ ap (λ (zs : List ℤ). numbers (take a xs) ++ zs) (numbers-append value numbers each ys (drop k (drop a xs)))
-    ∙ ap (λ (zs : List ℤ). zs ++ (numbers ys ++ numbers (drop k (drop a xs)))) (numbers-take value numbers each a xs)
-    ∙ ap (λ (zs : List ℤ). take a (numbers xs) ++ (numbers ys ++ zs)) (numbers-drop value numbers each k (drop a xs) ∙ ap (drop k) (numbers-drop value numbers each a xs))
-
--- a row more is written
-pub table_more : (xs ys old row : List ℤ) (j : Joint) (r : ℕ) → r < j.rows → AreSums xs ys j r old → length row ≡ j.columns → AreRowSums (row_in xs j r) ys j.columns j.joined 0 row →
-    AreSums xs ys j (r + 1) (put_mid (r * j.columns) j.columns old row)
-table_more xs ys old row j r h before size made = record {
-  size = same_len_mid a j.columns old row (size ∙ sym part) ∙ before.size;
-  each = λ s l q m. ⊎_elim (early s q m) (late s l q m) (cases_lt s r);
-}
-  where
-    a : ℕ
-    a = r * j.columns
-
-    above : r + 1 ≤ j.rows
-    above = omega arith
-
-    long : a + j.columns ≤ length old
-    long = omega (arith, before.size, mul-le-mul_right j.columns above)
-
-    part : length (mid_of a j.columns old) ≡ j.columns
-    part = length-take-le j.columns (drop a old) (omega (arith, long, length-drop a old))
-
-    front : length (take a old) ≡ a
-    front = length-take-le a old (omega (arith, long))
-
-    early : (s q : ℕ) → q < j.columns → s < r → get_or (put_mid a j.columns old row) (s * j.columns + q) (pos 0) ≡ sum_from (product_of (row_in xs j s) ys j.columns q) 0 j.joined
-    early s q m l =
-        let within : s * j.columns + q < a = omega (arith, mul-add-lt s j.columns q r l m) in
-        get_or_append_left (take a old) (row ++ post_of a j.columns old) (pos 0) (s * j.columns + q) (omega (arith, front, within))
-        ∙ get_or-take a old (s * j.columns + q) (pos 0) within
-        ∙ before.each s l q m
-
-    level : (s q : ℕ) → s ≡ r → a ≤ s * j.columns + q
-    level s q e = rw e (omega arith)
-
-    rest : (s q : ℕ) → s ≡ r → s * j.columns + q - a ≡ q
-    rest s q e = rw e (omega arith)
-
-    late : (s : ℕ) → s < r + 1 → (q : ℕ) → q < j.columns → r ≤ s → get_or (put_mid a j.columns old row) (s * j.columns + q) (pos 0) ≡ sum_from (product_of (row_in xs j s) ys j.columns q) 0 j.joined
-    late s l q m k =
-        let same : s ≡ r = omega arith in
-        get_or-append_right (take a old) (row ++ post_of a j.columns old) a (s * j.columns + q) (pos 0) front (level s q same)
-        ∙ ap (λ (n : ℕ). get_or (row ++ post_of a j.columns old) n (pos 0)) (rest s q same)
-        ∙ get_or_append_left row (post_of a j.columns old) (pos 0) q (omega (arith, size))
-        ∙ made q m
-        ∙ ap (λ (n : ℕ). sum_from (product_of (row_in xs j n) ys j.columns q) 0 j.joined) (sym same)
-
+-- the sums of a row, by which row it is, how wide and how long
 pub row_made : (zs row ys sums : List ℤ) (v w m n : ℕ) → zs ≡ row → v ≡ w → m ≡ n → AreRowSums zs ys v m 0 sums → AreRowSums row ys w n 0 sums
 row_made zs row ys sums v w m n e d f made =
     let P : List ℤ → Type 0 = λ l. AreRowSums l ys w n 0 sums in

@@ -1,3 +1,4 @@
 pub mod Standing
 pub mod SumsOfProducts
 pub mod SmallProducts
+pub mod Tables

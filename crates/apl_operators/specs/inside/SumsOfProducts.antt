@@ -5,6 +5,7 @@ use Rattle.std.specs.Int.{Width, w64}
 use Rattle.std.specs.List.{range_with_len, slice_range}
 use Rattle.apl_folds.specs.inside.Sums.{total}
 use Rattle.apl_operators.specs.declared.joint.Joint.{Joint}
+use Rattle.apl_operators.specs.inside.Tables.{AreRows}
 
 -- the product of the k-th number and the k-th one of a column of a table that is so wide
 abbrev pub product_of : List ℤ → List ℤ → ℕ → ℕ → ℕ → ℤ
@@ -38,6 +39,5 @@ abbrev pub row_in : List ℤ → Joint → ℕ → List ℤ
 row_in xs j r = slice_range xs (r * j.joined) (r * j.joined + j.joined)
 
 -- the sums of so many rows of one table and each column of another are known
-pub record AreSums (xs ys : List ℤ) (j : Joint) (rows : ℕ) (sums : List ℤ) : Type 0 where
-  pub size : length sums ≡ j.rows * j.columns
-  pub each : (r : ℕ) → r < rows → (q : ℕ) → q < j.columns → slice_index_or sums (r * j.columns + q) (pos 0) ≡ sum_from (product_of (row_in xs j r) ys j.columns q) 0 j.joined
+abbrev pub AreSums : List ℤ → List ℤ → Joint → ℕ → List ℤ → Type 0
+AreSums xs ys j done sums = AreRows (λ r q z. z ≡ sum_from (product_of (row_in xs j r) ys j.columns q) 0 j.joined) j.rows j.columns done sums
