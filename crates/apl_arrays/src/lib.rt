@@ -41,7 +41,7 @@ pub use laws::views_by_index_list;
 pub use numbers::{NumberSlice, NumberVec};
 pub use origin::Origin;
 pub use shape::{BOTH_RANKS, MAX_ELEMENTS, MAX_RANK, is_in_bounds, joined_shape, place_of, size};
-pub use squeeze::convert;
+pub use squeeze::{convert, holds, range_of};
 pub use stop::Stop;
 pub use strided::Strided;
 pub use structural::Structural;

@@ -9,7 +9,7 @@ use crate::numbers::NumberVec;
 use std::alloc::{AllocError, Global};
 
 /// Two numbers between which all of these lie, and 0: the least and the greatest.
-pub(crate) fn range_of<L: Lane>(items: &[L]) -> (i64, i64)
+pub fn range_of<L: Lane>(items: &[L]) -> (i64, i64)
     ensures { All (λ z. (result.0 ≤ℤ z) × (z ≤ℤ result.1)) (L.numbers items.now) }
 {
     let mut least = L::low(0);
@@ -23,7 +23,7 @@ pub(crate) fn range_of<L: Lane>(items: &[L]) -> (i64, i64)
 
 /// Whether a type holds each number between two.
 #[tactic(auto, using(crate::proofs::Lanes::fits_between))]
-pub(crate) fn holds<L: Lane>(least: i64, greatest: i64) -> bool
+pub fn holds<L: Lane>(least: i64, greatest: i64) -> bool
     ensures { IsTrue result → (z : ℤ) → least ≤ℤ z → z ≤ℤ greatest → FitsSigned L.width z }
 {
     L::cut(least).is_some() && L::cut(greatest).is_some()

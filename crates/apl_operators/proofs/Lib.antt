@@ -6,5 +6,5 @@ pub mod Meeting
 pub mod Others
 pub mod SmallNumbers
 pub mod SumsOfProducts
-pub mod NarrowProducts
 pub mod SmallProducts
+pub mod Tables

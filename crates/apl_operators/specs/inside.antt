@@ -1,4 +1,4 @@
 pub mod Standing
 pub mod SumsOfProducts
-pub mod NarrowProducts
 pub mod SmallProducts
+pub mod Tables

@@ -1,9 +1,10 @@
 // Inner products.
-ghost use Rattle.std.specs.Prelude.{◌≡◌, ◌<◌, ◌*◌, ◌^◌, [], length, Ok, IfOk};
+ghost use Rattle.std.specs.Prelude.{◌≡◌, ◌<◌, ◌*◌, ◌^◌, [], length, Ok, IfOk, IfSome};
 ghost use Rattle.std.specs.List.{range_with_len};
 ghost use Rattle.apl_arrays.specs.Answers.{Answers, FaultsFirst};
 ghost use Rattle.apl_arrays.specs.Cells.{cells_of};
 ghost use Rattle.apl_arrays.specs.Left.{listed};
+ghost use Rattle.apl_arrays.specs.Numbers.{kept_values};
 ghost use Rattle.apl_arrays.specs.Results.{all_ok, ok_map, and_then};
 ghost use Rattle.apl_scalar.specs.declared.function.Dyadic.TheVariants as two;
 ghost use Rattle.apl_scalar.specs.Functions.{dyadic_of};
@@ -17,7 +18,9 @@ use crate::line::{Stepped, meet};
 use crate::small::SmallProduct;
 use crate::standing::{FEW, Few, standing};
 use crate::sums_of_products::sums_of_products;
-use apl_arrays::{Array, Cells, Elements, Ravel, Stop, View, joined_shape, size, within_limits};
+use apl_arrays::{
+    Array, Cells, Elements, NumberVec, Ravel, Stop, View, joined_shape, size, within_limits,
+};
 use apl_faults::Fault;
 use apl_folds::{fold_numbers, in_order};
 use apl_scalar::{ByFunction, Dyadic, Scalar};
@@ -146,27 +149,6 @@ impl<'a> ByFunction for Meeting<'a> {
     }
 }
 
-/// The folds of the products of rows and columns. Sums of small numbers need no row of what meets.
-fn fold_products(
-    alloc: Global,
-    function: Dyadic,
-    xs: &[i64],
-    ys: &[i64],
-    joint: &Joint,
-) -> Result<Vec<i64>, Stop>
-    requires joint { Joins joint.now (length xs.now) (length ys.now) }
-    requires small { joint.now.rows * joint.now.columns < 2 ^ 63 }
-    ensures { Answers (λ v. v.items) (folds_met function (met (dyadic_of two.Times) xs.now ys.now joint.now) joint.now) result }
-{
-    match function {
-        Dyadic::Plus => match sums_of_products(alloc, xs, ys, joint)? {
-            Some(sums) => Ok(sums),
-            None => fold_met::<SmallProduct>(alloc, function, xs, ys, joint),
-        },
-        _ => fold_met::<SmallProduct>(alloc, function, xs, ys, joint),
-    }
-}
-
 /// The folds of what a function makes of rows and columns.
 fn fold_met_by(
     alloc: Global,
@@ -181,7 +163,7 @@ fn fold_met_by(
     ensures { Answers (λ v. v.items) (folds_met outer_function (met (dyadic_of inner_function) xs.now ys.now joint.now) joint.now) result }
 {
     match inner_function {
-        Dyadic::Times => fold_products(alloc, outer_function, xs, ys, joint),
+        Dyadic::Times => fold_met::<SmallProduct>(alloc, outer_function, xs, ys, joint),
         _ => inner_function.apply(Meeting {
             alloc,
             function: outer_function,
@@ -201,8 +183,36 @@ fn identities(alloc: Global, function: Dyadic, count: usize) -> Result<Vec<i64>,
     Ok(vec![in alloc; identity; count]?)
 }
 
-/// The folds of what a function makes of the elements of rows and columns.
-fn fold_elements(
+/// The sums of the products of the elements of rows and columns, where they are asked for, and known to fit.
+fn sums_of(
+    alloc: Global,
+    outer_function: Dyadic,
+    inner_function: Dyadic,
+    a: Elements<'_>,
+    b: Elements<'_>,
+    joint: &Joint,
+) -> Result<Option<NumberVec>, AllocError>
+    requires joint { Joins joint.now (length (cells_of (listed a))) (length (cells_of (listed b))) }
+    requires small { joint.now.rows * joint.now.columns < 2 ^ 63 }
+    ensures { IfOk result (λ found. IfSome found (λ v. folds_met outer_function (met_cells inner_function (listed a.entry) (listed b.entry) joint.now) joint.now ≡ Ok (kept_values v))) }
+{
+    let Dyadic::Plus = outer_function else {
+        return Ok(None);
+    };
+    let Dyadic::Times = inner_function else {
+        return Ok(None);
+    };
+    let Elements::Nums(a) = a else {
+        return Ok(None);
+    };
+    let Elements::Nums(b) = b else {
+        return Ok(None);
+    };
+    sums_of_products(alloc, a, b, joint)
+}
+
+/// The folds of what a function makes of the numbers that stand for the elements of rows and columns.
+fn fold_standing(
     alloc: Global,
     outer_function: Dyadic,
     inner_function: Dyadic,
@@ -212,14 +222,11 @@ fn fold_elements(
 ) -> Result<Vec<i64>, Stop>
     requires joint { Joins joint.now (length (cells_of (listed a))) (length (cells_of (listed b))) }
     requires small { joint.now.rows * joint.now.columns < 2 ^ 63 }
+    requires some { 0 < joint.now.rows * joint.now.columns }
     ensures { Answers (λ v. v.items) (folds_met outer_function (met_cells inner_function (listed a.entry) (listed b.entry) joint.now) joint.now) result }
 {
-    let count = joint.rows * joint.columns;
-    if count == 0 {
-        return Ok(Vec::new(alloc));
-    }
     if joint.joined == 0 {
-        return identities(alloc, outer_function, count);
+        return identities(alloc, outer_function, joint.rows * joint.columns);
     }
     let mut few = Few::new();
     match standing(alloc, inner_function, a, b, &mut few)? {
@@ -232,6 +239,35 @@ fn fold_elements(
     }
 }
 
+/// The folds of what a function makes of the elements of rows and columns.
+fn fold_elements(
+    alloc: Global,
+    outer_function: Dyadic,
+    inner_function: Dyadic,
+    a: Elements<'_>,
+    b: Elements<'_>,
+    joint: &Joint,
+) -> Result<NumberVec, Stop>
+    requires joint { Joins joint.now (length (cells_of (listed a))) (length (cells_of (listed b))) }
+    requires small { joint.now.rows * joint.now.columns < 2 ^ 63 }
+    ensures { Answers kept_values (folds_met outer_function (met_cells inner_function (listed a.entry) (listed b.entry) joint.now) joint.now) result }
+{
+    if joint.rows * joint.columns == 0 {
+        return Ok(NumberVec::I8(Vec::new(alloc)));
+    }
+    match sums_of(alloc, outer_function, inner_function, a, b, joint)? {
+        Some(sums) => Ok(sums),
+        None => Ok(NumberVec::I64(fold_standing(
+            alloc,
+            outer_function,
+            inner_function,
+            a,
+            b,
+            joint,
+        )?)),
+    }
+}
+
 /// The values in the order of the result's index lists.
 fn inner_values(
     alloc: Global,
@@ -240,9 +276,9 @@ fn inner_values(
     a: &View<'_>,
     b: &View<'_>,
     joined: usize,
-) -> Result<Vec<i64>, Stop>
+) -> Result<NumberVec, Stop>
     requires { axes_joined a.now b.now ≡ Ok joined }
-    ensures { Answers (λ v. v.items) (inner_folds outer_function inner_function a.now b.now joined (other_axes a.now b.now)) result }
+    ensures { Answers kept_values (inner_folds outer_function inner_function a.now b.now joined (other_axes a.now b.now)) result }
 {
     let a_shape = a.shape();
     let b_shape = b.shape();
@@ -293,5 +329,5 @@ pub fn inner<A: Cells, B: Cells>(
     let shape = joined_shape(a_others, b_others);
     within_limits(shape.as_slice())?;
     let values = inner_values(alloc, outer_function, inner_function, &a, &b, length)?;
-    Array::from_shape(alloc, shape.as_slice(), Ravel::wide(values))
+    Array::from_shape(alloc, shape.as_slice(), Ravel::Nums(values))
 }

@@ -52,14 +52,3 @@ pub(crate) fn without_first(shape: &[usize]) -> (&[usize], usize)
         [first, others @ ..] => (others, *first),
     }
 }
-
-/// The row of a table after so many others.
-#[inline(always)]
-pub(crate) fn row(numbers: &[i64], number: usize, width: usize) -> &[i64]
-    requires { number * width + width ≤ length numbers.now }
-    ensures size { length result.now ≡ width }
-    ensures numbers { (j : ℕ) → j < width → slice_index_or result.now j (pos 0) ≡ slice_index_or numbers.now (number * width + j) (pos 0) }
-{
-    let from = number * width;
-    &numbers[from..from + width]
-}

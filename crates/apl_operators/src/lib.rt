@@ -6,7 +6,6 @@ mod bounds;
 mod inner_product;
 mod joint;
 mod line;
-mod narrow_products;
 mod outer_product;
 mod products;
 mod small;

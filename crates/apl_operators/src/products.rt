@@ -1,15 +1,15 @@
 // Outer products of numbers so small that no product leaves a type, in the narrowest type of which this is known.
-ghost use Rattle.std.specs.Prelude.{◌≡◌, ◌<◌, ◌*◌, ◌^◌, ◌*ℤ◌, ℕ, FitsSigned, length, slice_index_or, pos, Ok, IfOk, IfSome, OnOk};
+ghost use Rattle.std.specs.Prelude.{◌≡◌, ◌<◌, ◌*◌, ◌^◌, ◌*ℤ◌, ℕ, FitsSigned, length, slice_index_or, pos, Ok, IfOk, IfSome};
 ghost use Rattle.apl_arrays.specs.Numbers.{kept_values, values};
 ghost use Rattle.apl_scalar.specs.declared.function.Dyadic.TheVariants as two;
 ghost use Rattle.apl_scalar.specs.Functions.{dyadic_of};
 ghost use Rattle.apl_operators.specs.Places.{crossing};
-ghost use Rattle.apl_operators.specs.inside.SmallProducts.{AreProducts, HoldsProducts, IsMultiplied};
+ghost use Rattle.apl_operators.specs.inside.SumsOfProducts.{FitTogether};
+ghost use Rattle.apl_operators.specs.inside.SmallProducts.{AreProducts};
 
-use crate::bounds::{holds_products, largest};
+use crate::bounds::{fit_together, largest};
 use crate::small::times;
 use apl_arrays::{Both, Lane, NumberSlice, NumberVec};
-use apl_scalar::grow;
 use std::alloc::{AllocError, Global};
 
 /// A row of more numbers than this is not made at once, since it would not stay in the nearest memory until it is multiplied.
@@ -27,26 +27,27 @@ fn multiply<L: Lane, M: Lane>(x: i64, ys: &[L], out: &mut [M])
     }
 }
 
-/// Appends the products of a number with others.
-fn push_products<L: Lane, M: Lane>(out: &mut Vec<M>, x: i64, ys: &[L]) -> Result<(), AllocError>
-    requires { (k : ℕ) → k < length ys.now → FitsSigned M.width (x *ℤ slice_index_or (L.numbers ys.now) k (pos 0)) }
-    ensures { OnOk result (IsMultiplied x (L.numbers ys.now) (M.numbers out.old.items) (M.numbers out.new.items)) }
+/// Writes the products of each number with each of others.
+fn multiply_rows<L: Lane, M: Lane>(xs: &[L], ys: &[L], out: &mut [M])
+    requires size { length out.old ≡ length xs.now * length ys.now }
+    requires small { FitTogether M.width (L.numbers xs.now) (L.numbers ys.now) 1 }
+    ensures { AreProducts (L.numbers xs.now) (L.numbers ys.now) (length xs.now) (length ys.now) (length xs.now) (M.numbers out.new) }
 {
-    let before = grow(out, ys.len())?;
-    multiply(x, ys, out.as_mut_slice().split_at_mut(before).1);
-    Ok(())
+    let width = ys.len();
+    for r in 0..xs.len() {
+        let at = r * width;
+        multiply(xs[r].wide(), ys, &mut out[at..at + width]);
+    }
 }
 
 /// The products of each number with each of others.
 fn multiply_each<L: Lane, M: Lane>(alloc: Global, xs: &[L], ys: &[L]) -> Result<Vec<M>, AllocError>
     requires count { length xs.now * length ys.now < 2 ^ 63 }
-    requires small { HoldsProducts M.width (L.numbers xs.now) (L.numbers ys.now) }
-    ensures { IfOk result (λ v. AreProducts (L.numbers xs.now) (L.numbers ys.now) (length xs.now) (M.numbers v.items)) }
+    requires small { FitTogether M.width (L.numbers xs.now) (L.numbers ys.now) 1 }
+    ensures { IfOk result (λ v. AreProducts (L.numbers xs.now) (L.numbers ys.now) (length xs.now) (length ys.now) (length xs.now) (M.numbers v.items)) }
 {
-    let mut out = Vec::with_capacity(alloc, xs.len() * ys.len())?;
-    for r in 0..xs.len() {
-        push_products(&mut out, xs[r].wide(), ys)?;
-    }
+    let mut out = vec![in alloc; M::low(0); xs.len() * ys.len()]?;
+    multiply_rows(xs, ys, out.as_mut_slice());
     Ok(out)
 }
 
@@ -57,13 +58,13 @@ fn multiply_all<L: Lane>(alloc: Global, xs: &[L], ys: &[L]) -> Result<Option<Num
 {
     let left = largest(xs);
     let right = largest(ys);
-    if holds_products::<i8>(left, right) {
+    if fit_together::<i8>(left, right, 1) {
         return Ok(Some(NumberVec::I8(multiply_each(alloc, xs, ys)?)));
     }
-    if holds_products::<i32>(left, right) {
+    if fit_together::<i32>(left, right, 1) {
         return Ok(Some(NumberVec::I32(multiply_each(alloc, xs, ys)?)));
     }
-    if holds_products::<i64>(left, right) {
+    if fit_together::<i64>(left, right, 1) {
         return Ok(Some(NumberVec::I64(multiply_each(alloc, xs, ys)?)));
     }
     Ok(None)

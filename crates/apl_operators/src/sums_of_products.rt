@@ -1,157 +1,146 @@
-// Sums of products of small numbers, whole rows of the second table at a time where these are long.
-ghost use Rattle.std.specs.Prelude.{◌≡◌, ◌<◌, ◌≤◌, ◌+◌, ◌*◌, ◌^◌, ◌*ℤ◌, ◌+ℤ◌, ℕ, ℤ, List, FitsSigned, unsigned_abs};
-ghost use Rattle.std.specs.Prelude.{length, slice_index_or, pos, Ok, IsTrue, IfOk, IfSome};
-ghost use Rattle.std.specs.Int.{w64};
+// Sums of products of numbers so small that none leaves a type, whole rows of the second table at a time where these are long.
+ghost use Rattle.std.specs.Prelude.{◌≡◌, ◌<◌, ◌≤◌, ◌+◌, ◌*◌, ◌^◌, ℕ, length, slice_index_or, pos, Ok, IsTrue, IfOk, IfSome};
+ghost use Rattle.apl_arrays.specs.Numbers.{kept_values, values};
 ghost use Rattle.apl_scalar.specs.declared.function.Dyadic.TheVariants as two;
 ghost use Rattle.apl_scalar.specs.Functions.{dyadic_of};
 ghost use Rattle.apl_operators.specs.Joints.{met, folds_met, Joins};
-ghost use Rattle.apl_operators.specs.inside.SumsOfProducts.{product_of, sum_from, IsMore, AreWithin, FitTogether, AreSums};
-ghost use Rattle.apl_operators.specs.inside.NarrowProducts.{AreNarrow};
+ghost use Rattle.apl_operators.specs.inside.SumsOfProducts.{product_of, sum_from, IsMore, FitTogether, AreRowSums, AreSums};
 
-use crate::joint::{Joint, row};
-use crate::narrow_products::sum_groups;
+use crate::bounds::{fit_together, largest};
+use crate::joint::Joint;
 use crate::small::times;
-use apl_scalar::{wider, widest};
+use apl_arrays::{Both, Lane, NumberSlice, NumberVec};
 use std::alloc::{AllocError, Global};
 
 /// Below this many columns a row is so short that a sum of each place costs less.
-const FEW: usize = 8;
+const FEW: usize = 4;
 
-/// Below this many rows a column that is gathered serves too seldom.
-const SEVERAL: usize = 4;
+/// The same of 64 bits, of which a processor makes one product at a time.
+const MANY: usize = 32;
 
-/// How many sums more may be written for each number of a column.
-const WORTH: usize = 0x4000;
-
-/// No magnitude below this leaves the range.
-const EXACT: u64 = 0x8000_0000_0000_0000;
-
-/// A number whose magnitude is below this has 32 bits.
-const NARROW: u64 = 0x8000_0000;
-
-/// Whether so many products of numbers within two bounds are known to have a sum that fits, in whatever order they are added.
-fn fit_together(left: u64, right: u64, count: usize) -> bool
-    ensures { IsTrue result → (xs ys : List ℤ) → AreWithin left xs → AreWithin right ys → FitTogether xs ys count }
-{
-    let most = left.saturating_mul(right);
-    (count as u64).saturating_mul(most) < EXACT
-}
-
-/// Whether numbers within two bounds have 32 bits.
-fn are_narrow(left: u64, right: u64) -> bool
-    ensures { IsTrue result → (xs ys : List ℤ) → AreWithin left xs → AreWithin right ys → AreNarrow xs × AreNarrow ys }
-{
-    wider(left, right) < NARROW
-}
-
-/// Whether columns are so long and serve so often that gathering them, and writing the sums column by column, costs less than it saves.
-fn repays_gathering(joint: &Joint) -> bool
-    requires { joint.now.rows * joint.now.columns < 2 ^ 63 }
-{
-    if joint.rows < SEVERAL {
-        return false;
-    }
-    if joint.joined < FEW {
-        return false;
-    }
-    joint.rows * joint.columns / WORTH <= joint.joined
-}
+/// How many rows are added at a time.
+const GROUP: usize = 4;
 
 /// A sum and a product more where they fit, and some number elsewhere.
 #[inline(always)]
-fn more(sum: i64, x: i64, y: i64) -> i64
-    ensures { IsMore x y sum result }
+fn more<L: Lane, M: Lane>(sum: M, x: L, y: L) -> M
+    ensures { IsMore M.width (L.value x) (L.value y) (M.value sum) (M.value result) }
 {
-    times(x, y).wrapping_add(sum)
+    M::low(times(x.wide(), y.wide()).wrapping_add(sum.wide()))
 }
 
-/// Adds to each sum the product of a number with the one of a row beside it.
-#[inline(never)]
-fn add_row(x: i64, row: &[i64], sums: &mut [i64])
-    requires { length row.now ≡ length sums.old }
-    ensures { (j : ℕ) → j < length sums.old →
-        IsMore x (slice_index_or row.now j (pos 0)) (slice_index_or sums.old j (pos 0)) (slice_index_or sums.new j (pos 0)) }
-{
-    for j in 0..sums.len() {
-        sums[j] = more(sums[j], x, row[j]);
-    }
-}
-
-/// Makes each sum that of the products of so many numbers, from a place on, with those of a column of a table.
-fn sum_columns(xs: &[i64], from: usize, count: usize, ys: &[i64], none: &[i64], sums: &mut [i64])
-    requires within { from + count ≤ length xs.now }
-    requires whole { length ys.now ≡ count * length sums.old }
-    requires size { length none.now ≡ length sums.old }
-    requires none { (j : ℕ) → j < length sums.old → slice_index_or none.now j (pos 0) ≡ pos 0 }
-    requires small { FitTogether xs.now ys.now count }
-    ensures { (j : ℕ) → j < length sums.old → slice_index_or sums.new j (pos 0) ≡ sum_from (product_of xs.now from ys.now (length sums.old) j) 0 count }
-{
-    let width = sums.len();
-    sums.copy_from_slice(none);
-    for k in (0..count).rev() {
-        add_row(xs[from + k], row(ys, k, width), sums);
-    }
-}
-
-/// The sums of the products along each row of one table and each column of another.
-fn sum_rows(alloc: Global, xs: &[i64], ys: &[i64], joint: &Joint) -> Result<Vec<i64>, AllocError>
-    requires left { length xs.now ≡ joint.now.rows * joint.now.joined }
-    requires right { length ys.now ≡ joint.now.joined * joint.now.columns }
-    requires some { 0 < joint.now.columns }
-    requires count { joint.now.rows * joint.now.columns < 2 ^ 63 }
-    requires small { FitTogether xs.now ys.now joint.now.joined }
-    ensures { IfOk result (λ v. AreSums xs.now ys.now joint.now (joint.now.rows * joint.now.columns) v.items) }
-{
-    let mut out = Vec::with_capacity(alloc, joint.rows * joint.columns)?;
-    let none = vec![in alloc; 0i64; joint.columns]?;
-    let mut sums = vec![in alloc; 0i64; joint.columns]?;
-    for r in 0..joint.rows {
-        let from = r * joint.joined;
-        sum_columns(
-            xs,
-            from,
-            joint.joined,
-            ys,
-            none.as_slice(),
-            sums.as_mut_slice(),
-        );
-        out.extend_from_slice(sums.as_slice())?;
-    }
-    Ok(out)
-}
-
-/// The sum of the products of so many numbers, from a place on, with those of a column of a table that is so wide.
+/// A sum with the products of so many numbers, from one on, and those of a column of a table that is so wide, the last one first.
 #[inline(always)]
-fn sum_column(xs: &[i64], from: usize, count: usize, ys: &[i64], width: usize, column: usize) -> i64
+fn sum_column<L: Lane, M: Lane>(
+    xs: &[L],
+    ys: &[L],
+    from: usize,
+    count: usize,
+    width: usize,
+    column: usize,
+    last: M,
+) -> M
     requires within { from + count ≤ length xs.now }
-    requires whole { length ys.now ≡ count * width }
+    requires whole { length ys.now ≡ length xs.now * width }
     requires column { column < width }
-    requires small { FitTogether xs.now ys.now count }
-    ensures { result ≡ sum_from (product_of xs.now from ys.now width column) 0 count }
+    requires small { FitTogether M.width (L.numbers xs.now) (L.numbers ys.now) (length xs.now) }
+    requires last { M.value last ≡ sum_from (product_of (L.numbers xs.now) (L.numbers ys.now) width column) (from + count) (length xs.now) }
+    ensures { M.value result ≡ sum_from (product_of (L.numbers xs.now) (L.numbers ys.now) width column) from (length xs.now) }
 {
-    let mut sum = 0i64;
-    for k in (0..count).rev() {
-        sum = more(sum, xs[from + k], ys[k * width + column]);
+    let mut sum = last;
+    for i in (0..count).rev() {
+        let k = from + i;
+        sum = more(sum, xs[k], ys[k * width + column]);
     }
     sum
 }
 
-/// The sums of the products along each row of one table and each column of another, one after another.
-fn sum_places(alloc: Global, xs: &[i64], ys: &[i64], joint: &Joint) -> Result<Vec<i64>, AllocError>
+/// Adds to each sum the products of so many numbers, from one on, with those of a column of a table.
+#[inline(always)]
+fn add_rows<L: Lane, M: Lane>(xs: &[L], ys: &[L], from: usize, count: usize, sums: &mut [M])
+    requires within { from + count ≤ length xs.now }
+    requires whole { length ys.now ≡ length xs.now * length sums.old }
+    requires small { FitTogether M.width (L.numbers xs.now) (L.numbers ys.now) (length xs.now) }
+    requires last { AreRowSums (L.numbers xs.now) (L.numbers ys.now) (length sums.old) (length xs.now) (from + count) (M.numbers sums.old) }
+    ensures { AreRowSums (L.numbers xs.now) (L.numbers ys.now) (length sums.old) (length xs.now) from (M.numbers sums.new) }
+{
+    let width = sums.len();
+    for column in 0..width {
+        sums[column] = sum_column(xs, ys, from, count, width, column, sums[column]);
+    }
+}
+
+/// Makes each sum 0.
+#[inline(always)]
+fn clear<M: Lane>(sums: &mut [M])
+    ensures { (q : ℕ) → q < length sums.old → slice_index_or (M.numbers sums.new) q (pos 0) ≡ pos 0 }
+{
+    for q in 0..sums.len() {
+        sums[q] = M::low(0);
+    }
+}
+
+/// Makes each sum that of the products of numbers with those of a column of a table, whole rows of this at a time unless they are short.
+#[inline(never)]
+fn sum_row<L: Lane, M: Lane>(xs: &[L], ys: &[L], few: usize, sums: &mut [M])
+    requires whole { length ys.now ≡ length xs.now * length sums.old }
+    requires small { FitTogether M.width (L.numbers xs.now) (L.numbers ys.now) (length xs.now) }
+    ensures { AreRowSums (L.numbers xs.now) (L.numbers ys.now) (length sums.old) (length xs.now) 0 (M.numbers sums.new) }
+{
+    clear(sums);
+    let mut k = xs.len();
+    if sums.len() < few {
+        add_rows(xs, ys, 0, k, sums);
+        return;
+    }
+    while 0 < k {
+        if k < GROUP {
+            k -= 1;
+            add_rows(xs, ys, k, 1, sums);
+        } else {
+            k -= GROUP;
+            add_rows(xs, ys, k, GROUP, sums);
+        }
+    }
+}
+
+/// Makes each sum that of the products of a row of one table with those of a column of another.
+fn sum_table<L: Lane, M: Lane>(xs: &[L], ys: &[L], joint: &Joint, few: usize, sums: &mut [M])
+    requires left { length xs.now ≡ joint.now.rows * joint.now.joined }
+    requires right { length ys.now ≡ joint.now.joined * joint.now.columns }
+    requires size { length sums.old ≡ joint.now.rows * joint.now.columns }
+    requires small { FitTogether M.width (L.numbers xs.now) (L.numbers ys.now) joint.now.joined }
+    ensures { AreSums (L.numbers xs.now) (L.numbers ys.now) joint.now joint.now.rows (M.numbers sums.new) }
+{
+    for r in 0..joint.rows {
+        let from = r * joint.joined;
+        let at = r * joint.columns;
+        sum_row(
+            &xs[from..from + joint.joined],
+            ys,
+            few,
+            &mut sums[at..at + joint.columns],
+        );
+    }
+}
+
+/// The sums of the products along each row of one table and each column of another.
+fn sums_in<L: Lane, M: Lane>(
+    alloc: Global,
+    xs: &[L],
+    ys: &[L],
+    joint: &Joint,
+    few: usize,
+) -> Result<Vec<M>, AllocError>
     requires left { length xs.now ≡ joint.now.rows * joint.now.joined }
     requires right { length ys.now ≡ joint.now.joined * joint.now.columns }
     requires count { joint.now.rows * joint.now.columns < 2 ^ 63 }
-    requires small { FitTogether xs.now ys.now joint.now.joined }
-    ensures { IfOk result (λ v. AreSums xs.now ys.now joint.now (joint.now.rows * joint.now.columns) v.items) }
+    requires small { FitTogether M.width (L.numbers xs.now) (L.numbers ys.now) joint.now.joined }
+    ensures { IfOk result (λ v. AreSums (L.numbers xs.now) (L.numbers ys.now) joint.now joint.now.rows (M.numbers v.items)) }
 {
-    let count = joint.rows * joint.columns;
-    let mut out = Vec::with_capacity(alloc, count)?;
-    for place in 0..count {
-        let from = place / joint.columns * joint.joined;
-        let column = place % joint.columns;
-        out.push(sum_column(xs, from, joint.joined, ys, joint.columns, column))?;
-    }
-    Ok(out)
+    let mut sums = vec![in alloc; M::low(0); joint.rows * joint.columns]?;
+    sum_table(xs, ys, joint, few, sums.as_mut_slice());
+    Ok(sums)
 }
 
 /// Whether no axis extends.
@@ -165,53 +154,47 @@ fn is_table(joint: &Joint) -> bool
     joint.right == joint.joined
 }
 
-/// The sums of the products along each row of one table and each column of another, whose numbers are within two bounds.
-fn sum_all(
+/// The sums of the products along rows and columns of tables, in the narrowest type that is known to hold them.
+fn sums_where_known<L: Lane>(
     alloc: Global,
-    xs: &[i64],
-    ys: &[i64],
-    left: u64,
-    right: u64,
+    xs: &[L],
+    ys: &[L],
     joint: &Joint,
-) -> Result<Vec<i64>, AllocError>
+) -> Result<Option<NumberVec>, AllocError>
     requires left { length xs.now ≡ joint.now.rows * joint.now.joined }
     requires right { length ys.now ≡ joint.now.joined * joint.now.columns }
+    requires table { (joint.now.left ≡ joint.now.joined) × (joint.now.right ≡ joint.now.joined) }
     requires count { joint.now.rows * joint.now.columns < 2 ^ 63 }
-    requires within_left { AreWithin left xs.now }
-    requires within_right { AreWithin right ys.now }
-    requires small { FitTogether xs.now ys.now joint.now.joined }
-    ensures { IfOk result (λ v. AreSums xs.now ys.now joint.now (joint.now.rows * joint.now.columns) v.items) }
+    ensures { IfOk result (λ found. IfSome found (λ v. folds_met two.Plus (met (dyadic_of two.Times) (L.numbers xs.now) (L.numbers ys.now) joint.now) joint.now ≡ Ok (kept_values v))) }
 {
-    if joint.columns < FEW {
-        return sum_places(alloc, xs, ys, joint);
+    let left = largest(xs);
+    let right = largest(ys);
+    if fit_together::<i32>(left, right, joint.joined) {
+        return Ok(Some(NumberVec::I32(sums_in(alloc, xs, ys, joint, FEW)?)));
     }
-    if !are_narrow(left, right) {
-        return sum_rows(alloc, xs, ys, joint);
+    if fit_together::<i64>(left, right, joint.joined) {
+        return Ok(Some(NumberVec::I64(sums_in(alloc, xs, ys, joint, MANY)?)));
     }
-    if !repays_gathering(joint) {
-        return sum_rows(alloc, xs, ys, joint);
-    }
-    sum_groups(alloc, xs, ys, joint)
+    Ok(None)
 }
 
 /// The sums of the products along rows and columns, where the numbers are known to be so small that their order is all one.
 pub(crate) fn sums_of_products(
     alloc: Global,
-    xs: &[i64],
-    ys: &[i64],
+    a: NumberSlice<'_>,
+    b: NumberSlice<'_>,
     joint: &Joint,
-) -> Result<Option<Vec<i64>>, AllocError>
-    requires joint { Joins joint.now (length xs.now) (length ys.now) }
+) -> Result<Option<NumberVec>, AllocError>
+    requires joint { Joins joint.now (length (values a)) (length (values b)) }
     requires small { joint.now.rows * joint.now.columns < 2 ^ 63 }
-    ensures { IfOk result (λ found. IfSome found (λ v. folds_met two.Plus (met (dyadic_of two.Times) xs.now ys.now joint.now) joint.now ≡ Ok v.items)) }
+    ensures { IfOk result (λ found. IfSome found (λ v. folds_met two.Plus (met (dyadic_of two.Times) (values a.entry) (values b.entry) joint.now) joint.now ≡ Ok (kept_values v))) }
 {
     if !is_table(joint) {
         return Ok(None);
     }
-    let left = widest(xs);
-    let right = widest(ys);
-    if !fit_together(left, right, joint.joined) {
-        return Ok(None);
+    match Both::new(alloc, a, b)? {
+        Both::I8(xs, ys) => sums_where_known(alloc, xs.as_slice(), ys.as_slice(), joint),
+        Both::I32(xs, ys) => sums_where_known(alloc, xs.as_slice(), ys.as_slice(), joint),
+        Both::I64(xs, ys) => sums_where_known(alloc, xs.as_slice(), ys.as_slice(), joint),
     }
-    Ok(Some(sum_all(alloc, xs, ys, left, right, joint)?))
 }

@@ -1,19 +1,7 @@
 -- The products of each number with each of others, row by row.
-use Rattle.std.specs.Prelude.{◌≡◌, ◌<◌, ◌+◌, ◌*◌, ◌*ℤ◌, ◌++◌, ℕ, ℤ, pos, FitsSigned, List, length, slice_index_or}
-use Rattle.std.specs.Int.{Width}
+use Rattle.std.specs.Prelude.{◌≡◌, ◌*ℤ◌, ℕ, ℤ, pos, List, slice_index_or}
+use Rattle.apl_operators.specs.inside.Tables.{AreRows}
 
 -- those of so many numbers are known
-pub record AreProducts (xs ys : List ℤ) (count : ℕ) (zs : List ℤ) : Type 0 where
-  pub size : length zs ≡ count * length ys
-  pub each : (r q : ℕ) → r < count → q < length ys → slice_index_or zs (r * length ys + q) (pos 0) ≡ slice_index_or xs r (pos 0) *ℤ slice_index_or ys q (pos 0)
-
--- a list is another with the products of a number with each of others behind it
-pub record IsMultiplied (x : ℤ) (ys old new : List ℤ) : Type 0 where
-  pub row : List ℤ
-  pub size : length row ≡ length ys
-  pub is : new ≡ old ++ row
-  pub each : (k : ℕ) → k < length ys → slice_index_or row k (pos 0) ≡ x *ℤ slice_index_or ys k (pos 0)
-
--- numbers of so many bits hold each product of a number of each list
-abbrev pub HoldsProducts : Width → List ℤ → List ℤ → Type 0
-HoldsProducts w xs ys = (i k : ℕ) → FitsSigned w (slice_index_or xs i (pos 0) *ℤ slice_index_or ys k (pos 0))
+abbrev pub AreProducts : List ℤ → List ℤ → ℕ → ℕ → ℕ → List ℤ → Type 0
+AreProducts xs ys rows columns done zs = AreRows (λ r q z. z ≡ slice_index_or xs r (pos 0) *ℤ slice_index_or ys q (pos 0)) rows columns done zs

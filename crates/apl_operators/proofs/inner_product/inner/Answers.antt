@@ -1,9 +1,11 @@
-use Rattle.std.proofs.Common.{refl, ◌≡◌, ◌-◌, ◌++◌, List, ℕ, ℤ, Vec, Global, Ok, map, length, get_or, sym, ap, ◌∙◌, arith}
+use Rattle.std.proofs.Common.{refl, ◌≡◌, ◌-◌, ◌++◌, List, ℕ, Ok, map, length, get_or, sym, ap, ◌∙◌, arith}
 use Rattle.std.proofs.lemmas.List.{length-map}
 use Rattle.std.proofs.lemmas.Result.{err_from_is_err_and}
 use Rattle.apl_arrays.specs.declared.cell.Cell.TheVariants.{Num}
 use Rattle.apl_arrays.specs.Axes.{without}
-use Rattle.apl_arrays.specs.Cells.{Arr, Items, cells_of}
+use Rattle.apl_arrays.specs.Cells.{Arr}
+use Rattle.apl_arrays.specs.declared.numbers.NumberVec.{NumberVec}
+use Rattle.apl_arrays.specs.Numbers.{kept_values}
 use Rattle.apl_arrays.specs.Checks.{limited}
 use Rattle.apl_arrays.specs.Index.{size_of, indices}
 use Rattle.apl_arrays.specs.Results.{ok_map}
@@ -38,7 +40,7 @@ returns-in_err-values-clause-value g c =
     let joined_is : joined_length (length_or_one (last_axis c.view-a.result) c.view-a.result) (length_or_one 0 c.view-b.result) ≡ Ok c.in_ok-length.length = sym (rw (left, right) at c.in_ok-length.ensures) in
     let fits : limited c.as_slice-3.result.now ≡ Ok c.as_slice-3.result.now = c.in_ok-within_limits.ensures in
     rw (p.1, p.2)
-    (answers_err {C = Vec ℤ Global} {D = Arr} (λ (v : Vec ℤ Global). v.items) (λ r. r)
+    (answers_err {C = NumberVec} {D = Arr} kept_values (λ r. r)
     (all_folded c.args.outer_function (met_items c.args.inner_function (joined_item (last_axis c.view-a.result) c.view-a.result) (joined_item 0 c.view-b.result) (last_axis c.view-a.result) c.in_ok-length.length)
     (indices (without (last_axis c.view-a.result) c.view-a.result.shape ++ without 0 c.view-b.result.shape)))
     (inner_product c.args.outer_function c.args.inner_function (g.A.Cells.array c.args.a.now) (g.B.Cells.array c.args.b.now)) c.in_err-values.field-0.0
@@ -56,6 +58,6 @@ from_shape-requires g c =
     let others_b : c.without_first-right.result.0.now ≡ without 0 c.view-b.result.shape = c.without_first-right.ensures.others ∙ ap (λ (s : List ℕ). without 0 s) shape_b in
     let made : c.as_slice-4.result.now ≡ without (last_axis c.view-a.result) c.view-a.result.shape ++ without 0 c.view-b.result.shape =
     c.as_slice-4.ensures.value ∙ c.joined_shape-shape.ensures ∙ ap (λ (s : List ℕ). s ++ c.without_first-right.result.0.now) others_a ∙ ap (λ (s : List ℕ). without (last_axis c.view-a.result) c.view-a.result.shape ++ s) others_b in
-    ap (λ (i : Items). length (cells_of i)) c.wide.ensures ∙ length-map c.in_ok-values.values.items Num ∙ length-folded (λ row. folded c.args.outer_function (map Num row)) (met_items c.args.inner_function (joined_item (last_axis c.view-a.result) c.view-a.result) (joined_item 0 c.view-b.result) (last_axis c.view-a.result) c.in_ok-length.length)
-    (indices (without (last_axis c.view-a.result) c.view-a.result.shape ++ without 0 c.view-b.result.shape)) c.in_ok-values.values.items c.in_ok-values.ensures
+    length-map (kept_values c.in_ok-values.values) Num ∙ length-folded (λ row. folded c.args.outer_function (map Num row)) (met_items c.args.inner_function (joined_item (last_axis c.view-a.result) c.view-a.result) (joined_item 0 c.view-b.result) (last_axis c.view-a.result) c.in_ok-length.length)
+    (indices (without (last_axis c.view-a.result) c.view-a.result.shape ++ without 0 c.view-b.result.shape)) (kept_values c.in_ok-values.values) c.in_ok-values.ensures
     ∙ length-indices (without (last_axis c.view-a.result) c.view-a.result.shape ++ without 0 c.view-b.result.shape) ∙ ap size_of (sym made)

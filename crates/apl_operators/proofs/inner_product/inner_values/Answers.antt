@@ -1,9 +1,10 @@
-use Rattle.std.proofs.Common.{◌≡◌, ◌≤◌, ◌-◌, List, ℕ, length, get_or, ap, ◌∙◌, Vec, ℤ, Global, arith}
+use Rattle.std.proofs.Common.{◌≡◌, ◌≤◌, ◌-◌, List, ℕ, length, get_or, ap, ◌∙◌, arith}
 use Rattle.std.proofs.lemmas.Nat.{mul-le}
 use Rattle.apl_arrays.specs.Axes.{without}
 use Rattle.apl_arrays.specs.Cells.{Items, cells_of}
 use Rattle.apl_arrays.specs.Index.{size_of, bound_of}
 use Rattle.apl_arrays.specs.Left.{listed}
+use Rattle.apl_arrays.specs.Numbers.{kept_values}
 use Rattle.apl_arrays.proofs.Exits.{answers_along}
 use Rattle.apl_arrays.proofs.Places.{size_le_bound}
 use Rattle.apl_operators.specs.declared.joint.Joint.{Joint}
@@ -53,7 +54,7 @@ returns c =
     let items_a : listed c.items.result ≡ c.args.a.now.items = c.items.ensures ∙ c.in_ok-a.ensures in
     let items_b : listed c.items-2.result ≡ c.args.b.now.items = c.items-2.ensures ∙ c.in_ok-b.ensures in
     let joint : Joint = record { rows = c.size.result; columns = c.size-2.result; left = c.without_last-left.result.1; right = c.without_first-right.result.1; joined = c.args.joined } in
-    answers_along (λ (v : Vec ℤ Global). v.items) _ _ c.fold_elements.result
+    answers_along kept_values _ _ c.fold_elements.result
     (by_meeting c.args.outer_function c.args.inner_function c.args.a.now c.args.b.now joint
     (c.size.ensures ∙ ap size_of (c.without_last-left.ensures.others ∙ ap (λ (s : List ℕ). without (length s - 1) s) shape_a))
     (c.size-2.ensures ∙ ap size_of (c.without_first-right.ensures.others ∙ ap (λ (s : List ℕ). without 0 s) shape_b))
