@@ -22,13 +22,13 @@ def bodies(text: str) -> Iterator[Body]:
     """Gives the bodies of a file's functions. A function ends with the first line that is a brace at its own margin."""
     for found in re.finditer(r"(?m)^( *)(?:pub(?:\([^)]*\))? )?(?:const )?(?:unsafe )?(?:extern \"C\" )?fn (\w+)", text):
         margin = found[1]
-        end = re.compile(rf"(?m)^{margin}\}}").search(text, found.end())
+        end = re.compile(rf"(?m)^{margin}(?:\}}|\{{\}}$)").search(text, found.end())
         if not end:
             continue
-        head = text[found.start() : end.start()]
-        # (behind clauses the body's brace stands alone in its line)
+        head = text[found.start() : end.end()]
+        # (behind clauses the body's brace stands alone in its line, with its other one where nothing is between them)
         has_clauses = re.search(r"(?m)^\s*(requires|ensures|ghost)\b", head)
-        opened = re.search(rf"(?m)^{margin}\{{$" if has_clauses else r"\{$", head, re.M)
+        opened = re.search(rf"(?m)^{margin}\{{\}}?$" if has_clauses else r"\{$", head, re.M)
         if not opened:
             continue
         owner = ""

@@ -25,6 +25,7 @@ from typing import Any
 
 import crates
 from bodies import bodies, names_of
+from definitions import functions_of, functions_on
 
 # What gives a check a lower priority than proofs have, which others wait for.
 LATER = ("nice", "-n", "10")
@@ -97,16 +98,21 @@ def read_mutant(path: str, folder: str, known: Iterable[str]) -> Mutant:
     texts: dict[str, str] = {}
     for file, old, new in pairs:
         text = texts.get(file) or text_of(f"{folder}/{file}")
-        at = text.find(old)
-        found: set[str] = set()
-        if file.startswith("src/") and at >= 0:
-            around = [it for it in bodies(text) if it.begins <= at and at + len(old.rstrip()) <= it.ends]
-            found = names_of(around[-1], file, known) if around else set()
+        found = functions_around(text, file, old, known)
         if not found:
             return Mutant(path, pairs, frozenset())
         functions |= found
         texts[file] = text.replace(old, new)
     return Mutant(path, pairs, frozenset(functions))
+
+
+def functions_around(text: str, file: str, old: str, known: Iterable[str]) -> set[str]:
+    """Returns those of the checker's names of functions in whose body an old text stands, if it stands in one."""
+    at = text.find(old)
+    if not file.startswith("src/") or at < 0:
+        return set()
+    around = [it for it in bodies(text) if it.begins <= at and at + len(old.rstrip()) <= it.ends]
+    return names_of(around[-1], file, known) if around else set()
 
 
 def text_of(path: str) -> str:
@@ -324,18 +330,54 @@ class Trial:
         others = [it for it in told if not NAMES.match(it)]
         return Told(Outcome.REFUSED, others[0] if others else "") if others or not told else Told(Outcome.BY_NAMES, told[0])
 
-    def together(self, mutants: list[Mutant]) -> tuple[dict[Mutant, Told], list[Mutant]]:
-        """Tries mutants of different functions by one check of these functions. Returns what came of those that it tells of, and those of which it
-        says nothing."""
-        chosen, texts = batch_of(mutants, self.crate.folder)
-        functions = sorted({it for mutant in chosen for it in mutant.functions})
+    def looked_at(self, mutants: list[Mutant], texts: dict[str, str]) -> tuple[dict[Mutant, Told], str]:
+        """Checks the functions that some mutants change, with all their changes. Returns what that tells of the mutants, as far as it does, and all
+        that was said."""
+        functions = sorted({it for mutant in mutants for it in mutant.functions})
         # what the others promise is all that the proofs of these need
         others = [it for it in self.functions if it not in functions and PLAIN.fullmatch(it)]
         words = [word for it in functions for word in ("--only", f"{self.crate.name}::{it}")]
         status, said = self.check(texts, ["--allow-holes", *words], others)
         told = verdicts(said, self.crate.name) if status in (0, 1, 3) else {}
-        found = {mutant: judged(mutant, told, said) for mutant in chosen}
-        return {it: what for it, what in found.items() if what}, [it for it in chosen if not found[it]]
+        found = {mutant: judged(mutant, told, said) for mutant in mutants}
+        return {it: what for it, what in found.items() if what}, said
+
+    def together(self, mutants: list[Mutant]) -> tuple[dict[Mutant, Told], list[Mutant]]:
+        """Tries mutants of different functions by one check of these functions. Returns what came of those that it tells of, and those of which it
+        says nothing."""
+        chosen, texts = batch_of(mutants, self.crate.folder)
+        found, _ = self.looked_at(chosen, texts)
+        return found, [it for it in chosen if it not in found]
+
+    def near(self, mutant: Mutant) -> frozenset[str]:
+        """Returns the functions that are the likeliest to refuse a mutant which changes something else than bodies: those whose bodies it changes
+        too, or else those of the source file that it changes, and those whose contracts rest on the definition that it changes."""
+        folder = self.crate.folder
+        inside: set[str] = set()
+        beside: set[str] = set()
+        for file, old, _ in mutant.pairs:
+            text = text_of(f"{folder}/{file}")
+            inside |= functions_around(text, file, old, self.functions)
+            if file.startswith("src/"):
+                beside |= functions_of(folder, file, self.functions)
+            elif file.startswith("specs/"):
+                beside |= functions_on(folder, file, text.find(old), self.functions)
+        return frozenset(inside or beside)
+
+    def nearby(self, mutant: Mutant) -> Told | None:
+        """Tries such a mutant by a check of those functions alone. Returns what it was refused by, or None where it wasn't: then the check of the
+        whole crate decides, as it does where the text can't be read or names in proof files are all that refuses it."""
+        near = dataclasses.replace(mutant, functions=self.near(mutant))
+        texts = with_mutant({}, mutant, self.crate.folder)
+        if not near.functions or texts is None:
+            return None
+        found, said = self.looked_at([near], texts)
+        lines = said.split("\n")
+        is_read = not any(getattr(self.rt, "unread", lambda *_: False)(it, texts) for it in lines)
+        told = [it for it in lines if ERROR.match(it)]
+        by_names = bool(told) and all(map(NAMES.match, told))
+        what = found.get(near)
+        return what if what and what.outcome == Outcome.REFUSED and is_read and not by_names else None
 
     def all(self, mutants: list[Mutant]) -> Iterator[tuple[Mutant, Told]]:
         """Tries the mutants, and gives what came of each."""
@@ -357,7 +399,7 @@ class Trial:
                 # one that doesn't compile hides all
                 batches += [unsaid[: len(unsaid) // 2], unsaid[len(unsaid) // 2 :]]
         for mutant in alone:
-            yield mutant, self.alone(mutant)
+            yield mutant, self.nearby(mutant) or self.alone(mutant)
 
 
 def sum_of(folders: Iterable[str]) -> str:
