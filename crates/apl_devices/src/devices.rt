@@ -1,6 +1,6 @@
 // What a run reads from and writes to.
-ghost use Rattle.std.specs.Prelude.{◌≡◌, ◌≢◌, ℕ, ◌<◌, ◌≤◌, List, [], ◌++◌, Bool, true, take, length, IfOk, OnOk, OnErr, IsTrue};
-ghost use Rattle.apl_devices.specs.Devices.{TakesFirst, Wrote, Extends};
+ghost use Rattle.std.specs.Prelude.{◌≡◌, ◌≢◌, ℕ, ◌<◌, ◌≤◌, List, [], ◌++◌, Bool, true, false, take, length, IfOk, OnOk, OnErr, IsTrue};
+ghost use Rattle.apl_devices.specs.Devices.{TakesFirst, TakesPiece, Wrote, Extends};
 
 use thiserror::Error;
 
@@ -29,6 +29,19 @@ pub trait Source {
         ensures fine { OnOk result (failed self.new ≡ failed self.old) }
         ensures failed { OnErr result (failed self.new ≡ true) }
         ensures none { IsTrue tells → OnErr result (left self.new ≡ left self.old) };
+
+    /// Takes bytes that stand before the next line feed, at most so many, and adds them to a line: those that are at hand, and it may be none.
+    /// False: nothing is left.
+    fn take_piece(&mut self, line: &mut Vec<u8>, most: usize) -> Result<bool, Failed>
+        ensures piece { TakesPiece most line.old.items line.new.items }
+        ensures bytes { IsTrue tells → line.old.items ++ left self.old ≡ line.new.items ++ left self.new }
+        ensures end { IsTrue tells → IfOk result (λ more. more ≡ false → left self.old ≡ []) }
+        ensures fine { OnOk result (failed self.new ≡ failed self.old) }
+        ensures failed { OnErr result (failed self.new ≡ true) }
+        ensures none { OnErr result (line.new.items ≡ line.old.items) }
+    {
+        Ok(true)
+    }
 }
 
 /// A writer, which may tell its bytes.

@@ -1,9 +1,12 @@
 // Devices over the streams of std.
-ghost use Rattle.std.specs.Prelude.{◌≡◌, ◌≢◌, ℕ, ◌<◌, ◌≤◌, Bool, true, false, length, IfOk, OnOk, OnErr};
-ghost use Rattle.std.specs.Io.KnownBytes.{ReadConsumes, WriteAppends};
+ghost use Rattle.std.specs.Prelude.{◌≡◌, ◌≢◌, ◌==◌, not, ℕ, ◌<◌, ◌≤◌, Bool, true, false, take, length, IfOk, OnOk, OnErr};
+ghost use Rattle.std.specs.Io.{appended_bytes};
+ghost use Rattle.std.specs.Io.KnownBytes.{Consumes, ReadConsumes, WriteAppends};
+ghost use Rattle.std.specs.List.{list_all};
+ghost use Rattle.apl_devices.specs.Devices.{TakesPiece};
 
 use crate::devices::{Failed, Sink, Source};
-use std::io::{Read, Write};
+use std::io::{BufRead, Write};
 
 /// A reader or a writer of std as a device. It tells no bytes.
 #[derive(Drop)]
@@ -25,7 +28,7 @@ impl<T> Device<T> {
     }
 }
 
-impl<T: Read> Source for Device<T> {
+impl<T: BufRead> Source for Device<T> {
     ghost use Rattle.std.specs.Prelude.{false, []};
 
     ghost tells = { false };
@@ -49,6 +52,42 @@ impl<T: Read> Source for Device<T> {
             }
         }
     }
+
+    /// What the stream has at hand; where that is nothing, one read of it. It takes none where there is no memory.
+    fn take_piece(&mut self, line: &mut Vec<u8>, most: usize) -> Result<bool, Failed>
+        ensures piece { TakesPiece most line.old.items line.new.items }
+        ensures stream { Consumes (T.remaining self.old.stream) (T.remaining self.new.stream) (appended_bytes line.old.items line.new.items) }
+        ensures fine { OnOk result (self.new.failed ≡ self.old.failed) }
+        ensures failed { OnErr result (self.new.failed ≡ true) }
+        ensures none { OnErr result (line.new.items ≡ line.old.items) }
+    {
+        let Ok(front) = self.stream.fill_buf() else {
+            self.failed = true;
+            return Err(Failed);
+        };
+        if front.is_empty() {
+            return Ok(false);
+        }
+        let count = piece_length(front, most);
+        if line.extend_from_slice(&front[..count]).is_ok() {
+            self.stream.consume(count);
+        }
+        Ok(true)
+    }
+}
+
+/// How many bytes stand before the first line feed, but at most so many.
+fn piece_length(bytes: &[u8], most: usize) -> usize
+    ensures within { result ≤ length bytes.now }
+    ensures short { result ≤ most }
+    ensures unbroken { list_all (λ b. not (b == 10)) (take result bytes.now) ≡ true }
+{
+    for k in 0..bytes.len().min(most) {
+        if bytes[k] == b'\n' {
+            return k;
+        }
+    }
+    bytes.len().min(most)
 }
 
 impl<T: Write> Sink for Device<T> {
