@@ -1,6 +1,9 @@
 -- The lines of an input that is read piece by piece.
-use Rattle.std.proofs.Common.{◌≡◌, ◌≢◌, ℕ, suc, ◌≤◌, List, [], ◌∷◌, ◌++◌, Bool, true, false, not, cond, ◌==◌, ◌&&◌, ap, ◌∙◌, sym, refl, append_assoc, append-nil, length, map, arith}
+use Rattle.std.proofs.Common.{◌≡◌, ◌≢◌, ℕ, suc, ◌≤◌, List, [], ◌∷◌, ◌++◌, Bool, true, false, not, cond, ◌==◌, ◌&&◌, ap, ◌∙◌, sym, refl, append_assoc, append-nil, length, length-append, map, arith, ◌+◌}
 use Rattle.std.specs.List.{AllByRecursion, list_all}
+use Rattle.std.proofs.lemmas.List.Folds.{list_all-append}
+use Rattle.apl_devices.specs.Devices.{TakesPiece}
+use Rattle.apl_runs.specs.Runs.{IsPiece}
 use Rattle.apl_runs.specs.Transcript.{ended, ended_behind, unfinished, unfinished_behind, last_line, without_return}
 
 -- no byte is a line feed
@@ -102,6 +105,16 @@ unbroken-byte c other = grind arith
 pub unbroken-more : (piece : List ℕ) (c : ℕ) → Unbroken piece → c ≢ 10 → Unbroken (piece ++ c ∷ [])
 unbroken-more [] c h other = unbroken-byte c other
 unbroken-more (b ∷ piece) c h other = unbroken-test (b == 10) b piece c h (λ (k : Unbroken piece). unbroken-more piece c k other)
+
+-- a piece goes on with more of its line
+pub more_piece : (most : ℕ) (old new : List ℕ) → IsPiece old → length old + most ≤ 2000 → TakesPiece most old new → IsPiece new
+more_piece most old new is_piece room taken =
+    let feedless : ℕ → Bool = λ b. not (b == 10) in
+    let both : length new ≡ length old + length taken.piece = ap length taken.added ∙ length-append old taken.piece in
+    record {
+      unbroken = ap (list_all feedless) taken.added ∙ list_all-append feedless old taken.piece ∙ ap (λ b. b && list_all feedless taken.piece) is_piece.unbroken ∙ taken.unbroken;
+      short = omega (arith, both, taken.short, room);
+    }
 
 pub last_line-length : (rest : List ℕ) → length (last_line rest) ≤ 1
 last_line-length [] = omega arith

@@ -36,6 +36,11 @@ pub fn read_line<R: Source>(reader: &mut R, line: &mut Vec<u8>) -> Result<bool, 
 {
     line.clear();
     loop {
+        match reader.take_piece(line, MAX_LINE - line.len()) {
+            Err(Failed) => return Err(RunError::Read),
+            Ok(false) => return Ok(false),
+            Ok(true) => {}
+        }
         match read_byte(reader) {
             Err(Failed) => return Err(RunError::Read),
             Ok(None) => return Ok(false),
