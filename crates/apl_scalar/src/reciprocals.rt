@@ -3,8 +3,8 @@ ghost use Rattle.std.specs.Prelude.{◌≡◌, ◌<◌, ◌*◌, ◌/◌, ◌%�
 ghost use Rattle.apl_scalar.specs.Functions.{residue};
 ghost use Rattle.apl_scalar.specs.inside.Reciprocals.{AreLeft, IsBelowReciprocal};
 
-use crate::complements::{turned_back, turned_up};
 use crate::line::Line;
+use crate::small_residues::{turned_back, turned_up};
 
 /// The high half of a product.
 #[inline(always)]
