@@ -56,24 +56,14 @@ pub(crate) fn are_small<X: Line<i64>, Y: Line<i64>>(x: X, y: Y, count: usize) ->
     far < SMALL
 }
 
-/// What division leaves.
-#[inline(always)]
-fn small_rest(number: u64, divisor: u64) -> u64
-    requires number { number < 2 ^ 32 }
-    requires divisor { (0 < divisor) × (divisor < 2 ^ 32) }
-    ensures { result ≡ number % divisor }
-{
-    u64::from(number as u32 % divisor as u32)
-}
-
 /// What is left of the second number when it is divided by the first.
 #[inline(always)]
 pub(crate) fn small_left(x: i64, y: i64) -> i64
     requires { IsSmall x y }
     ensures { result ≡ residue x y }
 {
-    let divisor = x as u64;
-    turned_back(y, divisor, small_rest(turned_up(y), divisor))
+    let rest = turned_up(y) as u32 % x as u32;
+    turned_back(y, x as u64, u64::from(rest))
 }
 
 /// Writes what is left at each place.
