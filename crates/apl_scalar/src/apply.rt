@@ -89,21 +89,6 @@ fn monadic_values(alloc: Global, function: Monadic, b: &Array) -> Result<NumberV
     }
 }
 
-/// The values of a function of two arguments for the places below a count.
-fn dyadic_numbers(
-    alloc: Global,
-    function: Dyadic,
-    a: Operand,
-    b: Operand,
-    count: usize,
-) -> Result<NumberVec, Stop>
-    requires a { Covers (shown a) count }
-    requires b { Covers (shown b) count }
-    ensures { Answers kept_values (values_of (dyadic_of function) (number_at (shown a.entry)) (number_at (shown b.entry)) count) result }
-{
-    function.at_places(&Places { alloc, a, b, count })
-}
-
 /// The numbers of an operand, of which a single one serves at each place.
 #[inline]
 fn operand_of(numbers: NumberSlice<'_>) -> Operand<'_>
@@ -153,9 +138,12 @@ fn dyadic_values(
     }
     match a.items() {
         Elements::Nums(x) => match b.items() {
-            Elements::Nums(y) => {
-                dyadic_numbers(alloc, function, operand_of(x), operand_of(y), count)
-            }
+            Elements::Nums(y) => function.at_places(&Places {
+                alloc,
+                a: operand_of(x),
+                b: operand_of(y),
+                count,
+            }),
             Elements::Chars(_) => mixed(alloc, function, count),
         },
         Elements::Chars(x) => match b.items() {

@@ -98,10 +98,7 @@ impl Scalar for Magnitude {
 
     #[inline(always)]
     fn apply(_x: i64, y: i64) -> Result<i64, Fault> {
-        match y.checked_abs() {
-            Some(value) => Ok(value),
-            None => Err(Fault::Limit),
-        }
+        y.checked_abs().ok_or(Fault::Limit)
     }
 }
 

@@ -7,8 +7,7 @@ ghost use Rattle.apl_scalar.specs.inside.Rooms.{HasRoom, Holds, IsReady};
 
 use crate::computed::Computed;
 use crate::line::{Each, Laid, Line, Same};
-use crate::operand::{Operand, Source};
-use crate::pieces::{lay, piece};
+use crate::operand::{Operand, Source, lay, piece};
 use crate::room::grow;
 use apl_arrays::Lane;
 use std::alloc::AllocError;
@@ -17,7 +16,7 @@ use std::alloc::AllocError;
 pub(crate) const BLOCK: usize = 256;
 
 /// Below this many places less room is made ready.
-pub(crate) const FEW: usize = 16;
+const FEW: usize = 16;
 
 /// A scalar function of numbers of one lane with its values in another.
 pub(crate) trait Kernel<L: Lane, M: Lane> {
@@ -25,7 +24,10 @@ pub(crate) trait Kernel<L: Lane, M: Lane> {
     ghost meaning: { ℤ → ℤ → Result ℤ Fault };
 
     /// Whether one number that serves at each place is better laid out, so that the compiler sees in the loop how wide it is.
-    fn spreads() -> bool;
+    #[inline(always)]
+    fn spreads() -> bool {
+        false
+    }
 
     /// Writes the values for the places of a block, and says whether there is one in the lane at each. Where there is not, what it wrote means
     /// nothing.
@@ -59,7 +61,7 @@ fn push_block<L: Lane, M: Lane, K: Kernel<L, M>, X: Line<L>, Y: Line<L>>(
 }
 
 /// Appends the values for the places from the next one on, block by block, as long as the lane holds them.
-pub(crate) fn push_lines<L: Lane, M: Lane, K: Kernel<L, M>, X: Line<L>, Y: Line<L>>(
+fn push_lines<L: Lane, M: Lane, K: Kernel<L, M>, X: Line<L>, Y: Line<L>>(
     out: &mut Vec<M>,
     x: X,
     y: Y,
@@ -238,5 +240,47 @@ pub(crate) fn push_by_room<L: Computed, M: Lane, K: Kernel<L, M>>(
         push_in_room::<L, M, K, FEW>(out, &a, &b, count)
     } else {
         push_in_room::<L, M, K, BLOCK>(out, &a, &b, count)
+    }
+}
+
+/// Appends the values for the places from the next one on, as long as the lane holds numbers and values. For two numbers that serve at each place
+/// it makes none.
+#[inline(always)]
+pub(crate) fn push_values<L: Computed, M: Lane, K: Kernel<L, M>>(
+    out: &mut Vec<M>,
+    a: Operand<'_>,
+    b: Operand<'_>,
+    count: usize,
+) -> Result<(), AllocError>
+    requires a { Covers (shown a) count }
+    requires b { Covers (shown b) count }
+    requires memory { HasRoom L.row BLOCK }
+    requires begun { IsBegun K.meaning (number_at (shown a)) (number_at (shown b)) count (M.numbers out.old.items) }
+    ensures { OnOk result (IsBegun K.meaning (number_at (shown a.entry)) (number_at (shown b.entry)) count (M.numbers out.new.items)) }
+{
+    if K::spreads() && FEW <= count && a.is_one() != b.is_one() {
+        return push_by_room::<L, M, K>(out, a, b, count);
+    }
+    let Some(x) = a.laid() else {
+        return push_by_room::<L, M, K>(out, a, b, count);
+    };
+    let Some(y) = b.laid() else {
+        return push_by_room::<L, M, K>(out, a, b, count);
+    };
+    match x {
+        Laid::One(x) => match y {
+            Laid::One(_) => Ok(()),
+            Laid::Many(y) => {
+                push_lines::<L, M, K, Same<L>, Each<'_, L>>(out, Same(x), Each(y), count)
+            }
+        },
+        Laid::Many(x) => match y {
+            Laid::One(y) => {
+                push_lines::<L, M, K, Each<'_, L>, Same<L>>(out, Each(x), Same(y), count)
+            }
+            Laid::Many(y) => {
+                push_lines::<L, M, K, Each<'_, L>, Each<'_, L>>(out, Each(x), Each(y), count)
+            }
+        },
     }
 }

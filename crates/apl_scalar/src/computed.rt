@@ -17,10 +17,6 @@ pub(crate) trait Computed: Lane {
     fn of(number: i8) -> Self
         ensures { Self.value result ≡ number };
 
-    /// Numbers that lie in this lane; none where they are stored in another one.
-    fn own(numbers: NumberSlice<'_>) -> Option<&[Self]>
-        ensures { IfSome result (λ items. Self.numbers items.now ≡ values numbers.entry) };
-
     /// Numbers of this lane or of a narrower one; none where they are stored in a wider one.
     fn source(numbers: NumberSlice<'_>) -> Option<Source<'_, Self>>
         ensures { IfSome result (λ s. shown_in Self.value Self.numbers s ≡ Each (values numbers.entry)) };
@@ -41,10 +37,14 @@ pub(crate) trait Computed: Lane {
         ensures none { Self.value result.1 <ℤ pos 0 → HasNoneIn Self.width (in_range (Self.value x *ℤ Self.value y)) };
 
     /// Writes the products of a block where they are made in a way that costs less than flags, and says whether they are.
+    #[inline(always)]
     fn fill_small<X: Line<Self>, Y: Line<Self>>(x: X, y: Y, out: &mut [Self]) -> bool
         requires x { (k : ℕ) → k < length out.old → X.has x k }
         requires y { (k : ℕ) → k < length out.old → Y.has y k }
-        ensures { IsTrue result → AreValues (dyadic_of two.Times) (X.number x) (Y.number y) (Self.numbers out.new) };
+        ensures { IsTrue result → AreValues (dyadic_of two.Times) (X.number x) (Y.number y) (Self.numbers out.new) }
+    {
+        false
+    }
 
     /// Both numbers in one: it is negative exactly where one is, and 0 or 1 exactly where both are.
     fn either(x: Self, y: Self) -> Self
@@ -58,14 +58,6 @@ impl Computed for i8 {
     #[inline(always)]
     fn of(number: i8) -> i8 {
         number
-    }
-
-    #[inline(always)]
-    fn own(numbers: NumberSlice<'_>) -> Option<&[i8]> {
-        match numbers {
-            NumberSlice::I8(raw) => Some(raw),
-            NumberSlice::I32(_) | NumberSlice::I64(_) => None,
-        }
     }
 
     #[inline(always)]
@@ -96,11 +88,6 @@ impl Computed for i8 {
     }
 
     #[inline(always)]
-    fn fill_small<X: Line<i8>, Y: Line<i8>>(_x: X, _y: Y, _out: &mut [i8]) -> bool {
-        false
-    }
-
-    #[inline(always)]
     fn either(x: i8, y: i8) -> i8 {
         x | y
     }
@@ -110,14 +97,6 @@ impl Computed for i32 {
     #[inline(always)]
     fn of(number: i8) -> i32 {
         i32::from(number)
-    }
-
-    #[inline(always)]
-    fn own(numbers: NumberSlice<'_>) -> Option<&[i32]> {
-        match numbers {
-            NumberSlice::I32(raw) => Some(raw),
-            NumberSlice::I8(_) | NumberSlice::I64(_) => None,
-        }
     }
 
     #[inline(always)]
@@ -151,11 +130,6 @@ impl Computed for i32 {
     }
 
     #[inline(always)]
-    fn fill_small<X: Line<i32>, Y: Line<i32>>(_x: X, _y: Y, _out: &mut [i32]) -> bool {
-        false
-    }
-
-    #[inline(always)]
     fn either(x: i32, y: i32) -> i32 {
         x | y
     }
@@ -165,14 +139,6 @@ impl Computed for i64 {
     #[inline(always)]
     fn of(number: i8) -> i64 {
         i64::from(number)
-    }
-
-    #[inline(always)]
-    fn own(numbers: NumberSlice<'_>) -> Option<&[i64]> {
-        match numbers {
-            NumberSlice::I64(raw) => Some(raw),
-            NumberSlice::I8(_) | NumberSlice::I32(_) => None,
-        }
     }
 
     #[inline(always)]

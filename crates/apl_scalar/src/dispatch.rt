@@ -69,8 +69,6 @@ impl Dyadic {
 
     /// The values of this function at places.
     pub(crate) fn at_places(self, places: &Places<'_>) -> Result<NumberVec, Stop>
-        requires a { Covers (shown places.now.a) places.now.count }
-        requires b { Covers (shown places.now.b) places.now.count }
         ensures { Answers kept_values (values_of (dyadic_of self) (number_at (shown places.now.a)) (number_at (shown places.now.b)) places.now.count) result }
     {
         match self {

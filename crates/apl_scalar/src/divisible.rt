@@ -1,12 +1,44 @@
-// Division in the narrow types that store numbers.
-ghost use Rattle.std.specs.Prelude.{◌≡◌, ◌≤ℤ◌, ◌<ℤ◌, ◌≤◌, ◌<◌, pos, neg_ℤ, Ok};
+// Division in the narrow types that store numbers. Bytes are divided bit by bit, by instructions that each serve sixteen of them.
+ghost use Rattle.std.specs.Prelude.{◌≡◌, ◌≤ℤ◌, ◌<ℤ◌, ◌≤◌, ◌<◌, pos, neg_ℤ, Ok, ◌+◌, ◌*◌};
 ghost use Rattle.apl_scalar.specs.Functions.{quotient, residue};
 
-use crate::complements::{turned_back, turned_up};
 use crate::computed::Computed;
-use crate::long_division::divided;
-use crate::small_residues::small_left;
+use crate::small_residues::{small_left, turned_back, turned_up};
 use apl_arrays::Lane;
+
+/// A quotient and what is left, with one more bit of the number that is divided.
+#[inline(always)]
+fn with_bit(quotient: u8, rest: u8, bit: u8, divisor: u8) -> (u8, u8)
+    requires quotient { quotient < 128 }
+    requires rest { rest < divisor }
+    requires bit { bit < 2 }
+    requires divisor { divisor ≤ 128 }
+    ensures whole { result.0 * divisor + result.1 ≡ 2 * (quotient * divisor + rest) + bit }
+    ensures rest { result.1 < divisor }
+{
+    let next = 2 * rest + bit;
+    // The difference wraps where the divisor is greater.
+    let less = next.min(next.wrapping_sub(divisor));
+    (2 * quotient + (less != next) as u8, less)
+}
+
+/// The quotient of a number by a divisor, and what is left.
+#[inline(always)]
+fn divided(number: u8, divisor: u8) -> (u8, u8)
+    requires { (0 < divisor) × (divisor ≤ 128) }
+    ensures whole { result.0 * divisor + result.1 ≡ number }
+    ensures rest { result.1 < divisor }
+{
+    let mut quotient = 0u8;
+    let mut rest = 0u8;
+    for place in 0..8u32 {
+        let bit = (number >> (7 - place)) % 2;
+        let (more, left) = with_bit(quotient, rest, bit, divisor);
+        quotient = more;
+        rest = left;
+    }
+    (quotient, rest)
+}
 
 /// A narrow lane in which numbers are divided. A flag is a number of the lane, which is negative where a division isn't tried or has no value.
 pub(crate) trait Divisible: Computed {

@@ -14,27 +14,6 @@ use crate::reciprocals::fill_left;
 use crate::small_residues::{are_small, fill_small};
 use apl_faults::Fault;
 
-/// The exact quotient.
-#[inline(always)]
-fn exact_quotient(x: i64, y: i64) -> Result<i64, Fault>
-    ensures { result ≡ quotient x y }
-{
-    if y == 0 {
-        return if x == 0 { Ok(1) } else { Err(Fault::Domain) };
-    }
-    if y == -1 {
-        return match x.checked_neg() {
-            Some(value) => Ok(value),
-            None => Err(Fault::Limit),
-        };
-    }
-    if x % y == 0 {
-        Ok(x / y)
-    } else {
-        Err(Fault::Domain)
-    }
-}
-
 /// What is left of `y` when it is divided by `x`, with the sign of `x`.
 #[inline(always)]
 fn residue_by(x: i64, y: i64) -> i64
@@ -81,7 +60,17 @@ impl Scalar for Quotient {
 
     #[inline(always)]
     fn apply(x: i64, y: i64) -> Result<i64, Fault> {
-        exact_quotient(x, y)
+        if y == 0 {
+            return if x == 0 { Ok(1) } else { Err(Fault::Domain) };
+        }
+        if y == -1 {
+            return x.checked_neg().ok_or(Fault::Limit);
+        }
+        if x % y == 0 {
+            Ok(x / y)
+        } else {
+            Err(Fault::Domain)
+        }
     }
 }
 

@@ -69,11 +69,6 @@ impl<L: Divisible, F: InNarrow> Kernel<L, L> for Narrowly<F> {
     ghost meaning = { F.meaning };
 
     #[inline(always)]
-    fn spreads() -> bool {
-        false
-    }
-
-    #[inline(always)]
     fn fill<X: Line<L>, Y: Line<L>>(x: X, y: Y, out: &mut [L]) -> bool {
         F::fill_divided(x, y, out) || fill_cut::<L, F, X, Y>(x, y, out)
     }

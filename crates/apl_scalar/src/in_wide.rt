@@ -47,11 +47,6 @@ impl<F: InWide> Kernel<i64, i64> for Throughout<F> {
     ghost meaning = { F.meaning };
 
     #[inline(always)]
-    fn spreads() -> bool {
-        false
-    }
-
-    #[inline(always)]
     fn fill<X: Line<i64>, Y: Line<i64>>(x: X, y: Y, out: &mut [i64]) -> bool {
         F::fill(x, y, out)
     }

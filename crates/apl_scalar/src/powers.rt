@@ -38,32 +38,7 @@ const FACTORIALS: [i64; 21] = [
 fn tested_power(x: i64, exponent: u32) -> Result<i64, Fault>
     ensures { result ≡ in_range (int_pow x exponent) }
 {
-    match x.checked_pow(exponent) {
-        Some(value) => Ok(value),
-        None => Err(Fault::Limit),
-    }
-}
-
-/// A power. No number but 0, 1 and -1 has a 64th one that fits 64 bits.
-fn power_of(x: i64, y: i64) -> Result<i64, Fault>
-    ensures { result ≡ power x y }
-{
-    if x == 1 {
-        return Ok(1);
-    }
-    if x == -1 {
-        return Ok(if y % 2 == 0 { 1 } else { -1 });
-    }
-    if y < 0 {
-        return Err(Fault::Domain);
-    }
-    if x == 0 {
-        return Ok(if y == 0 { 1 } else { 0 });
-    }
-    if y >= 64 {
-        return Err(Fault::Limit);
-    }
-    tested_power(x, y as u32)
+    x.checked_pow(exponent).ok_or(Fault::Limit)
 }
 
 /// One of the listed factorials.
@@ -74,28 +49,30 @@ fn listed_factorial(n: usize) -> i64
     FACTORIALS[n]
 }
 
-/// A factorial.
-fn factorial_at(y: i64) -> Result<i64, Fault>
-    ensures { result ≡ factorial_of y }
-{
-    if y < 0 {
-        Err(Fault::Domain)
-    } else if y > 20 {
-        Err(Fault::Limit)
-    } else {
-        Ok(listed_factorial(y as usize))
-    }
-}
-
 /// The first number to the power of the second.
 pub struct Power;
 
 impl Scalar for Power {
     ghost meaning = { dyadic_of two.Power };
 
-    #[inline(always)]
+    // No number but 0, 1 and -1 has a 64th power that fits 64 bits.
     fn apply(x: i64, y: i64) -> Result<i64, Fault> {
-        power_of(x, y)
+        if x == 1 {
+            return Ok(1);
+        }
+        if x == -1 {
+            return Ok(if y % 2 == 0 { 1 } else { -1 });
+        }
+        if y < 0 {
+            return Err(Fault::Domain);
+        }
+        if x == 0 {
+            return Ok(if y == 0 { 1 } else { 0 });
+        }
+        if y >= 64 {
+            return Err(Fault::Limit);
+        }
+        tested_power(x, y as u32)
     }
 }
 
@@ -106,9 +83,14 @@ pub(crate) struct Factorial;
 impl Scalar for Factorial {
     ghost meaning = { λ _ y. monadic_of one.Factorial y };
 
-    #[inline(always)]
     fn apply(_x: i64, y: i64) -> Result<i64, Fault> {
-        factorial_at(y)
+        if y < 0 {
+            Err(Fault::Domain)
+        } else if y > 20 {
+            Err(Fault::Limit)
+        } else {
+            Ok(listed_factorial(y as usize))
+        }
     }
 }
 

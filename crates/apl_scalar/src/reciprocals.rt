@@ -3,8 +3,8 @@ ghost use Rattle.std.specs.Prelude.{◌≡◌, ◌<◌, ◌*◌, ◌/◌, ◌%�
 ghost use Rattle.apl_scalar.specs.Functions.{residue};
 ghost use Rattle.apl_scalar.specs.inside.Reciprocals.{AreLeft, IsBelowReciprocal};
 
-use crate::complements::{turned_back, turned_up};
 use crate::line::Line;
+use crate::small_residues::{turned_back, turned_up};
 
 /// The high half of a product.
 #[inline(always)]
@@ -29,17 +29,6 @@ fn rest_by(number: u64, divisor: u64, inverse: u64) -> u64
     }
 }
 
-/// What is left of a number by a positive divisor.
-#[inline(always)]
-fn left_by(y: i64, divisor: u64, inverse: u64) -> i64
-    requires inverse { IsBelowReciprocal divisor inverse }
-    requires divisor { (0 < divisor) × (divisor < 2 ^ 63) }
-    ensures { result ≡ residue (pos divisor) y }
-{
-    let rest = rest_by(turned_up(y), divisor, inverse);
-    turned_back(y, divisor, rest)
-}
-
 /// Writes what is left of each number by a positive divisor.
 #[inline(always)]
 pub(crate) fn fill_left<Y: Line<i64>>(divisor: u64, y: Y, out: &mut [i64])
@@ -49,6 +38,8 @@ pub(crate) fn fill_left<Y: Line<i64>>(divisor: u64, y: Y, out: &mut [i64])
 {
     let inverse = u64::MAX / divisor;
     for i in 0..out.len() {
-        out[i] = left_by(y.at(i), divisor, inverse);
+        let number = y.at(i);
+        let rest = rest_by(turned_up(number), divisor, inverse);
+        out[i] = turned_back(number, divisor, rest);
     }
 }

@@ -1,13 +1,32 @@
 // What is left of small numbers, by divisions of 32 bits, which cost less than those of 64.
-ghost use Rattle.std.specs.Prelude.{◌≡◌, ◌<◌, ◌^◌, ◌%◌, ℕ, length, IsTrue};
+ghost use Rattle.std.specs.Prelude.{◌≡◌, ◌<◌, ◌^◌, ◌%◌, ℕ, length, IsTrue, pos};
 ghost use Rattle.apl_scalar.specs.declared.function.Dyadic.TheVariants as two;
 ghost use Rattle.apl_scalar.specs.Functions.{dyadic_of, residue};
 ghost use Rattle.apl_scalar.specs.Operands.{AreValues};
-ghost use Rattle.apl_scalar.specs.inside.Turns.{AreSmall, IsSmall};
+ghost use Rattle.apl_scalar.specs.inside.Turns.{AreSmall, IsSmall, turned};
 
-use crate::complements::{turned_back, turned_up};
 use crate::line::Line;
 use crate::overflow::wider;
+
+/// The number itself, or the complement of a negative one.
+#[inline(always)]
+pub(crate) fn turned_up(y: i64) -> u64
+    ensures { result ≡ turned y }
+{
+    (y ^ (y >> 63)).cast_unsigned()
+}
+
+/// What is left of a number by a positive divisor, by what is left of the number turned up.
+#[inline(always)]
+pub(crate) fn turned_back(y: i64, divisor: u64, rest: u64) -> i64
+    requires divisor { (0 < divisor) × (divisor < 2 ^ 63) }
+    requires rest { rest ≡ turned y % divisor }
+    ensures { result ≡ residue (pos divisor) y }
+{
+    // -1 for a negative number, and else 0
+    let sign = y >> 63;
+    (rest as i64 ^ sign) + (divisor as i64 & sign)
+}
 
 /// The bound of the extents of small numbers.
 const SMALL: u64 = 0x8000_0000;
@@ -37,24 +56,14 @@ pub(crate) fn are_small<X: Line<i64>, Y: Line<i64>>(x: X, y: Y, count: usize) ->
     far < SMALL
 }
 
-/// What division leaves.
-#[inline(always)]
-fn small_rest(number: u64, divisor: u64) -> u64
-    requires number { number < 2 ^ 32 }
-    requires divisor { (0 < divisor) × (divisor < 2 ^ 32) }
-    ensures { result ≡ number % divisor }
-{
-    u64::from(number as u32 % divisor as u32)
-}
-
 /// What is left of the second number when it is divided by the first.
 #[inline(always)]
 pub(crate) fn small_left(x: i64, y: i64) -> i64
     requires { IsSmall x y }
     ensures { result ≡ residue x y }
 {
-    let divisor = x as u64;
-    turned_back(y, divisor, small_rest(turned_up(y), divisor))
+    let rest = turned_up(y) as u32 % x as u32;
+    turned_back(y, x as u64, u64::from(rest))
 }
 
 /// Writes what is left at each place.

@@ -4,9 +4,9 @@ ghost use Rattle.apl_scalar.specs.Operands.{AreValues, SomeHasNone};
 
 use crate::blocks::Kernel;
 use crate::computed::Computed;
-use crate::finish::Tested;
 use crate::function::Scalar;
 use crate::line::Line;
+use crate::values::Tested;
 use apl_faults::Fault;
 use std::marker::PhantomData;
 
@@ -29,11 +29,6 @@ pub(crate) struct Telling<F>(PhantomData<F>);
 
 impl<L: Computed, F: Tells> Kernel<L, i8> for Telling<F> {
     ghost meaning = { F.meaning };
-
-    #[inline(always)]
-    fn spreads() -> bool {
-        false
-    }
 
     #[inline(always)]
     fn fill<X: Line<L>, Y: Line<L>>(x: X, y: Y, out: &mut [i8]) -> bool {

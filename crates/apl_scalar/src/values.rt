@@ -1,16 +1,17 @@
 // The values of a scalar function at the places below a count, in the narrowest lane that its kind allows.
-ghost use Rattle.std.specs.Prelude.{◌≡◌, pos, length, IfOk};
+ghost use Rattle.std.specs.Prelude.{◌≡◌, pos, length, IfOk, ℤ, Result, IfErr, Ok, Err};
 ghost use Rattle.apl_arrays.specs.Answers.{Answers};
 ghost use Rattle.apl_arrays.specs.Numbers.{kept_values, values};
 ghost use Rattle.apl_scalar.specs.Operands.{number_at, shown, values_of, Covers, Each, Same};
 ghost use Rattle.apl_scalar.specs.Lanes.{IsBegun};
+ghost use Rattle.apl_scalar.specs.inside.Covered.{Covers-prop};
 ghost use Rattle.apl_scalar.specs.inside.Rooms.{HasRoom};
+ghost use Rattle.apl_faults.specs.declared.fault.Fault.{Fault};
 
-use crate::blocks::{BLOCK, push_by_room};
+use crate::blocks::{BLOCK, push_by_room, push_values};
 use crate::computed::Computed;
 use crate::divisible::Divisible;
-use crate::finish::{Tested, Whole, finish};
-use crate::forms::push_values;
+use crate::function::Scalar;
 use crate::in_lanes::{Beyond, InLanes, Within};
 use crate::in_narrow::{InNarrow, Narrowly};
 use crate::in_wide::{InWide, Throughout};
@@ -19,7 +20,55 @@ use crate::operand::Operand;
 use crate::room::grow;
 use crate::tells::{Telling, Tells};
 use apl_arrays::{Lane, NumberSlice, NumberVec, Stop, convert};
+use apl_faults::Fault;
 use std::alloc::{AllocError, Global};
+use std::marker::PhantomData;
+
+/// A scalar function with its values in a lane that holds all of them.
+pub(crate) trait Tested<M: Lane> {
+    /// The function of numbers without bounds.
+    ghost meaning: { ℤ → ℤ → Result ℤ Fault };
+
+    /// Its value, or its fault.
+    fn tested(x: i64, y: i64) -> Result<M, Fault>
+        ensures value { IfOk result (λ z. meaning x y ≡ Ok (M.value z)) }
+        ensures fault { IfErr result (λ e. meaning x y ≡ Err e) };
+}
+
+/// A function with its values in 64 bits.
+pub(crate) struct Whole<F>(PhantomData<F>);
+
+impl<F: Scalar> Tested<i64> for Whole<F> {
+    ghost meaning = { F.meaning };
+
+    #[inline(always)]
+    fn tested(x: i64, y: i64) -> Result<i64, Fault> {
+        F::apply(x, y)
+    }
+}
+
+/// The values so far and those for the other places below a count, each tested before the next, or the first fault.
+#[inline(never)]
+fn finish<M: Lane, T: Tested<M>>(
+    made: Vec<M>,
+    a: Operand<'_>,
+    b: Operand<'_>,
+    count: usize,
+) -> Result<NumberVec, Stop>
+    requires a { Covers (shown a) count }
+    requires b { Covers (shown b) count }
+    requires begun { IsBegun T.meaning (number_at (shown a)) (number_at (shown b)) count (M.numbers made.items) }
+    ensures { Answers kept_values (values_of T.meaning (number_at (shown a.entry)) (number_at (shown b.entry)) count) result }
+{
+    let mut made = made;
+    for k in made.len()..count {
+        match T::tested(a.at(k), b.at(k)) {
+            Ok(value) => made.push(value)?,
+            Err(fault) => return Err(Stop::Fault(fault)),
+        }
+    }
+    Ok(M::kept(made))
+}
 
 /// The places below a count, each with a number of either operand, at which a function is applied.
 #[derive(Clone, Copy)]
@@ -28,6 +77,8 @@ pub(crate) struct Places<'a> {
     pub(crate) a: Operand<'a>,
     pub(crate) b: Operand<'a>,
     pub(crate) count: usize,
+    ghost covers_a: { Covers (shown a) count } by { Covers-prop (shown a) count },
+    ghost covers_b: { Covers (shown b) count } by { Covers-prop (shown b) count },
 }
 
 impl<'a> Places<'a> {
@@ -70,8 +121,6 @@ impl<'a> Places<'a> {
     /// The values so far and those for the other places, each tested before the next, or the first fault.
     #[inline(always)]
     fn completed<M: Lane, T: Tested<M>>(&self, made: Vec<M>) -> Result<NumberVec, Stop>
-        requires a { Covers (shown self.now.a) self.now.count }
-        requires b { Covers (shown self.now.b) self.now.count }
         requires begun { IsBegun T.meaning (number_at (shown self.now.a)) (number_at (shown self.now.b)) self.now.count (M.numbers made.items) }
         ensures { Answers kept_values (values_of T.meaning (number_at (shown self.now.a)) (number_at (shown self.now.b)) self.now.count) result }
     {
@@ -83,8 +132,6 @@ impl<'a> Places<'a> {
 
     /// The values of a function that tells.
     pub(crate) fn told<F: Tells>(&self) -> Result<NumberVec, Stop>
-        requires a { Covers (shown self.now.a) self.now.count }
-        requires b { Covers (shown self.now.b) self.now.count }
         ensures { Answers kept_values (values_of F.meaning (number_at (shown self.now.a)) (number_at (shown self.now.b)) self.now.count) result }
     {
         let mut made = Vec::with_capacity(self.alloc, self.count)?;
@@ -100,8 +147,6 @@ impl<'a> Places<'a> {
 
     /// The values of a function of numbers of 64 bits.
     pub(crate) fn in_wide<F: InWide>(&self) -> Result<NumberVec, Stop>
-        requires a { Covers (shown self.now.a) self.now.count }
-        requires b { Covers (shown self.now.b) self.now.count }
         ensures { Answers kept_values (values_of F.meaning (number_at (shown self.now.a)) (number_at (shown self.now.b)) self.now.count) result }
     {
         let mut made = Vec::with_capacity(self.alloc, self.count)?;
@@ -111,8 +156,6 @@ impl<'a> Places<'a> {
 
     /// The values of a function that divides. By one number of more than a byte it divides with 64 bits, since there a product will do.
     pub(crate) fn divided<F: InNarrow>(&self) -> Result<NumberVec, Stop>
-        requires a { Covers (shown self.now.a) self.now.count }
-        requires b { Covers (shown self.now.b) self.now.count }
         ensures { Answers kept_values (values_of F.meaning (number_at (shown self.now.a)) (number_at (shown self.now.b)) self.now.count) result }
     {
         if self.fit::<i8>() {
@@ -128,8 +171,6 @@ impl<'a> Places<'a> {
     #[inline(always)]
     fn narrowly<F: InNarrow, L: Divisible>(&self) -> Result<NumberVec, Stop>
         requires memory { HasRoom L.row BLOCK }
-        requires a { Covers (shown self.now.a) self.now.count }
-        requires b { Covers (shown self.now.b) self.now.count }
         ensures { Answers kept_values (values_of F.meaning (number_at (shown self.now.a)) (number_at (shown self.now.b)) self.now.count) result }
     {
         let mut made = Vec::with_capacity(self.alloc, self.count)?;
@@ -144,8 +185,6 @@ impl<'a> Places<'a> {
 
     /// The values of a function that is computed in the lanes of its arguments.
     pub(crate) fn in_lanes<F: InLanes>(&self) -> Result<NumberVec, Stop>
-        requires a { Covers (shown self.now.a) self.now.count }
-        requires b { Covers (shown self.now.b) self.now.count }
         ensures { Answers kept_values (values_of F.meaning (number_at (shown self.now.a)) (number_at (shown self.now.b)) self.now.count) result }
     {
         if self.fit::<i8>() {
@@ -163,8 +202,6 @@ impl<'a> Places<'a> {
     #[inline(always)]
     fn from_lane<F: InLanes, L: Narrow>(&self) -> Result<NumberVec, Stop>
         requires memory { HasRoom L.row BLOCK }
-        requires a { Covers (shown self.now.a) self.now.count }
-        requires b { Covers (shown self.now.b) self.now.count }
         ensures { Answers kept_values (values_of F.meaning (number_at (shown self.now.a)) (number_at (shown self.now.b)) self.now.count) result }
     {
         let mut made = Vec::with_capacity(self.alloc, self.count)?;
@@ -179,8 +216,6 @@ impl<'a> Places<'a> {
     #[inline(never)]
     fn go_on<F: InLanes, L: Narrow>(&self, made: &[L]) -> Result<NumberVec, Stop>
         requires memory { HasRoom L.row BLOCK }
-        requires a { Covers (shown self.now.a) self.now.count }
-        requires b { Covers (shown self.now.b) self.now.count }
         requires begun { IsBegun F.meaning (number_at (shown self.now.a)) (number_at (shown self.now.b)) self.now.count (L.numbers made.now) }
         ensures { Answers kept_values (values_of F.meaning (number_at (shown self.now.a)) (number_at (shown self.now.b)) self.now.count) result }
     {

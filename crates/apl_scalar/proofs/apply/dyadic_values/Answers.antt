@@ -12,11 +12,11 @@ returns-in-Nums-items c =
     let size : c.len-count.result ≡ size_of c.args.like.now.shape = c.len-count.ensures ∙ (ap (λ (t : Items). length (cells_of t)) c.items.ensures.value ∙ c.items.ensures.full) in
     let left : c.args.a.now.items ≡ Numbers (values c.in-Nums.x) = rw c.in-Nums.is at (sym c.items-2.ensures.value) in
     let right : c.args.b.now.items ≡ Numbers (values c.in-Nums-items.y) = rw c.in-Nums-items.is at (sym c.items-in-Nums.ensures.value) in
-    answers_along kept_values _ _ c.dyadic_numbers.result
+    answers_along kept_values _ _ c.at_places.result
     (by_operands c.args.function c.args.a.now c.args.b.now c.args.like.now.shape (shown c.operand_of.result) (shown c.operand_of-in-Nums-items.result) c.items-2.ensures.full c.items-in-Nums.ensures.full c.requires.a_fits c.requires.b_fits
     (shows_along (shown c.operand_of.result) c.args.a.now.items (values c.in-Nums.x) left c.operand_of.ensures)
     (shows_along (shown c.operand_of-in-Nums-items.result) c.args.b.now.items (values c.in-Nums-items.y) right c.operand_of-in-Nums-items.ensures))
-    (rw size at c.dyadic_numbers.ensures)
+    (rw size at c.at_places.ensures)
 
 pub returns-in-Chars-items : goal.returns-in-Chars-items
 returns-in-Chars-items c =

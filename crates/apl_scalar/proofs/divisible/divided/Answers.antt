@@ -1,6 +1,6 @@
 use Rattle.std.proofs.Common.{◌<◌, ◌+◌, ◌*◌, rules}
 use Rattle.apl_scalar.proofs.Bytes.{next_bit, below_half}
-use Rattle.apl_scalar.proofs.long_division.divided.Goals as goal
+use Rattle.apl_scalar.proofs.divisible.divided.Goals as goal
 
 pub with_bit-more-requires-clause-quotient : goal.with_bit-more-requires-clause-quotient
 with_bit-more-requires-clause-quotient c =

@@ -1,5 +1,5 @@
 use Rattle.std.proofs.Common.{◌≡◌, ◌<◌, ◌+◌, ◌-◌, ◌*◌, ◌/◌, ◌^◌}
-use Rattle.apl_scalar.proofs.long_division.divided.Given as goal
+use Rattle.apl_scalar.proofs.divisible.divided.Given as goal
 
 -- the quotient and what is left are those of the bits so far
 abbrev pub invariant-loop-place : goal.invariant-loop-place

@@ -5,7 +5,7 @@ use mir.Val.{SFits}
 use Rattle.apl_scalar.specs.Operands.{number_at, shown}
 use Rattle.apl_scalar.proofs.OfLanes.{as_many}
 use Rattle.apl_scalar.proofs.Begun.{at_place, begun_push, begun_fault}
-use Rattle.apl_scalar.proofs.finish.finish.Goals as goal
+use Rattle.apl_scalar.proofs.values.finish.Goals as goal
 
 pub loop-k-preserved : goal.loop-k-preserved
 loop-k-preserved g c =

@@ -1,7 +1,7 @@
 use Rattle.std.proofs.Common.{◌≡◌, length}
 use Rattle.apl_scalar.specs.Operands.{number_at, shown}
 use Rattle.apl_scalar.specs.Lanes.{IsBegun}
-use Rattle.apl_scalar.proofs.finish.finish.Given as goal
+use Rattle.apl_scalar.proofs.values.finish.Given as goal
 
 abbrev pub invariant-loop-k : goal.invariant-loop-k
 invariant-loop-k g l = record {

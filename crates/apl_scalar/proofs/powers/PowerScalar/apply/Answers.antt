@@ -3,7 +3,7 @@ use Rattle.std.specs.Int.{w64}
 use Rattle.std.proofs.lemmas.Int.{ints, to_z-of_z}
 use Rattle.apl_scalar.specs.Functions.{power}
 use Rattle.apl_scalar.proofs.Growth.{power_one, power_even, power_odd, even_rest, odd_rest, power_negative, power_of_zero, power_of_zero_to_zero, power_large, power_by}
-use Rattle.apl_scalar.proofs.powers.power_of.Goals as goal
+use Rattle.apl_scalar.proofs.powers.PowerScalar.apply.Goals as goal
 
 pub returns-then-x-eq1 : goal.returns-then-x-eq1
 returns-then-x-eq1 c =

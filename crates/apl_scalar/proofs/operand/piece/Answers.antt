@@ -2,7 +2,7 @@ use Rattle.std.proofs.Common.{◌-◌, ◌<◌, ◌∙◌, length, arith}
 use Rattle.std.proofs.lemmas.Grind.{common_steps}
 use Rattle.apl_scalar.proofs.OfLanes.{as_many, numbers-take}
 use Rattle.apl_scalar.proofs.Parts.{numbers-range, piece_range, piece_spread}
-use Rattle.apl_scalar.proofs.pieces.piece.Goals as goal
+use Rattle.apl_scalar.proofs.operand.piece.Goals as goal
 
 pub returns-in-Lies : goal.returns-in-Lies
 returns-in-Lies g c =

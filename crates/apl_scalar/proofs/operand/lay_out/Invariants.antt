@@ -1,5 +1,5 @@
 use Rattle.std.proofs.Common.{◌≡◌, IsTrue, map, take}
-use Rattle.apl_scalar.proofs.pieces.lay_out.Given as goal
+use Rattle.apl_scalar.proofs.operand.lay_out.Given as goal
 
 -- as far as the lane holds all numbers so far, they are written
 abbrev pub invariant-loop-i : goal.invariant-loop-i

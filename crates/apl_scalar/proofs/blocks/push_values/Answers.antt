@@ -2,7 +2,7 @@ use Rattle.std.proofs.Common.{ap, sym, ◌∙◌}
 use Rattle.apl_scalar.specs.Operands.{shown, Same, Each}
 use Rattle.apl_scalar.specs.Lanes.{laid_in}
 use Rattle.apl_scalar.proofs.Begun.{begun_along}
-use Rattle.apl_scalar.proofs.forms.push_values.Goals as goal
+use Rattle.apl_scalar.proofs.blocks.push_values.Goals as goal
 
 pub returns-in-Many-y : goal.returns-in-Many-y
 returns-in-Many-y g c =
