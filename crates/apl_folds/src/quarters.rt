@@ -12,7 +12,12 @@ const FEW: usize = 32;
 
 /// The folds of four rows of as many numbers. Each goes on without the others, so that none waits for more than itself.
 #[inline(never)]
-fn choose_rows<C: Choice, L: Lane>(first: &[L], second: &[L], third: &[L], fourth: &[L]) -> (L, L, L, L)
+fn choose_rows<C: Choice, L: Lane>(
+    first: &[L],
+    second: &[L],
+    third: &[L],
+    fourth: &[L],
+) -> (L, L, L, L)
     requires some { 0 < length first.now }
     requires second { length second.now ≡ length first.now }
     requires third { length third.now ≡ length first.now }
