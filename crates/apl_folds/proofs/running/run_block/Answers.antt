@@ -1,6 +1,6 @@
-use Rattle.std.proofs.Common.{rules, ◌≡◌, ◌<◌, ◌≤◌, ◌+◌, ◌-◌, ℕ, pos, length, get_or, Ok, ap, ◌∙◌, arith}
+use Rattle.std.proofs.Common.{rules, ◌≡◌, ◌<◌, ◌≤◌, ◌+◌, ◌-◌, ℕ, length, Ok, ap, ◌∙◌, arith}
 use Rattle.std.proofs.lemmas.List.{length-set}
-use Rattle.apl_folds.specs.inside.Prefixes.{prefix_fold, Stays}
+use Rattle.apl_folds.specs.inside.Prefixes.{prefix_fold}
 use Rattle.apl_scalar.proofs.OfLanes.{as_many, number_of_item}
 use Rattle.apl_folds.proofs.Runs.{behind, gone_on, stays_on, written_one}
 use Rattle.apl_folds.proofs.running.run_block.Goals as goal

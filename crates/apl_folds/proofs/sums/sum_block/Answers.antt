@@ -1,6 +1,6 @@
 use Rattle.std.proofs.Common.{rules, arith, ◌≡◌, ◌<◌, ◌^◌, ◌+ℤ◌, ℤ, FitsSigned, Ok, ap, sym, ◌∙◌, w64}
 use Rattle.std.specs.Prelude.{unsigned_abs}
-use Rattle.std.proofs.lemmas.Int.{ints, to_z-of_z}
+use Rattle.std.proofs.lemmas.Int.{to_z-of_z}
 use mir.Val.{SFits}
 use Rattle.apl_folds.proofs.Totals.{small_block}
 use Rattle.apl_folds.proofs.sums.sum_block.Goals as goal
