@@ -1,5 +1,5 @@
 -- Prefixes that are made one after another.
-use Rattle.std.proofs.Common.{◌≡◌, ℕ, ℤ, pos, ◌+◌, ◌-◌, ◌*◌, ◌^◌, ◌<◌, ◌≤◌, FitsSigned, List, [], ◌∷◌, ◌++◌, map, length, take, get_or, set, Result, Ok, refl, ap, sym, subst, ◌∙◌, arith, true, Ordering, Less, Equal, Greater}
+use Rattle.std.proofs.Common.{zero, suc, ◌≡◌, ℕ, ℤ, pos, ◌+◌, ◌-◌, ◌*◌, ◌^◌, ◌<◌, ◌≤◌, FitsSigned, List, [], ◌∷◌, ◌++◌, map, length, take, get_or, set, Result, Ok, refl, ap, sym, subst, ◌∙◌, arith, true, Ordering, Less, Equal, Greater}
 use Rattle.std.specs.Int.{Width, w64}
 use Rattle.std.specs.Ordering.{int_eq, int_cmp, is_eq}
 use Rattle.std.proofs.Math.Nat.{mul-le-mul_right}
@@ -9,7 +9,7 @@ use Rattle.std.proofs.lemmas.Int.{ints}
 use Rattle.apl_faults.specs.declared.fault.Fault.{Fault}
 use Rattle.apl_arrays.specs.declared.axis.Axis.{Axis}
 use Rattle.apl_arrays.proofs.Lanes.{numbers_set}
-use Rattle.apl_folds.specs.inside.Prefixes.{before, index_along, prefix_fold, prefix_folds, AllHaveRoom, ArePrefixes, AreWhole}
+use Rattle.apl_folds.specs.inside.Prefixes.{before, index_along, prefix_fold, prefix_folds, AllHaveRoom, AreLater, ArePrefixes, AreWhole, Stays}
 use Rattle.apl_folds.specs.inside.Sums.{total, magnitudes, HasRoom}
 use Rattle.apl_folds.specs.Lines.{fold_by, line_of, IsLine}
 use Rattle.apl_folds.specs.Rooms.{HaveRoom}
@@ -53,6 +53,15 @@ gone_on f room zs axis q x z v whole all l beside later is e step =
     let low : 1 * axis.up ≤ index_along axis q * axis.up = mul-le-mul_right axis.up later in
     let far : axis.up ≤ q = omega (arith, low, index_low axis q) in
     gone f room zs axis (q - 1) q x z v whole all l (omega arith) later is e step
+
+-- and those with which the fold stays the same
+pub stays_on : (f : ℤ → ℤ → Result ℤ Fault) (room : List ℤ → Type 0) (zs : List ℤ) (axis : Axis) (from till : ℕ) (fold : ℤ) → AreWhole zs axis → AllHaveRoom room zs axis → axis.up ≡ 1 → till ≤ length zs → AreLater axis from till →
+    prefix_fold f zs axis (from - 1) ≡ Ok fold → ((q : ℕ) → from ≤ q → q < till → Stays f fold (get_or zs q (pos 0))) → (k : ℕ) → from + k ≤ till → prefix_fold f zs axis (from + k - 1) ≡ Ok fold
+stays_on f room zs axis from till fold whole all beside within later told stays zero l = ap (prefix_fold f zs axis) (omega arith) ∙ told
+stays_on f room zs axis from till fold whole all beside within later told stays (suc k) l =
+    ap (prefix_fold f zs axis) (omega arith)
+    ∙ gone_on f room zs axis (from + k) (get_or zs (from + k) (pos 0)) fold fold whole all (omega arith) beside (later (from + k) (omega arith) (omega arith)) refl
+    (stays_on f room zs axis from till fold whole all beside within later told stays k (omega arith)) (λ xs r e. stays (from + k) (omega arith) (omega arith) xs e)
 
 -- there is room for the sum of each prefix
 pub prefixes_room : (w : Width) (zs : List ℤ) (axis : Axis) → ((z : ℤ) → FitsSigned w z → FitsSigned w64 z) → AreWhole zs axis → HaveRoom w zs axis.length → AllHaveRoom (HasRoom w) zs axis

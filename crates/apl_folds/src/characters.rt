@@ -1,6 +1,5 @@
 // Folds of lines of characters.
-ghost use Rattle.std.specs.Prelude.{◌≡◌, ◌^◌, ◌<◌, ◌≤◌, ◌+◌, ◌*◌, ℕ, Bool, cond, length, slice_index_or, Ok, Err};
-ghost use Rattle.apl_arrays.specs.Strides.{step_at};
+ghost use Rattle.std.specs.Prelude.{◌≡◌, ℕ, Bool, cond, length, Ok, Err};
 ghost use Rattle.apl_folds.specs.Lines.{agree, line_of, IsLine};
 
 use crate::walk::Leaf;
@@ -17,17 +16,6 @@ pub(crate) struct Comparison<'a> {
     pub other: Result<i64, Fault>,
 }
 
-/// The character at an index of an axis.
-#[inline(always)]
-fn nth(characters: &[Ch], axis: &Axis, at: usize, index: usize) -> Ch
-    requires within { index < axis.now.length }
-    requires near { at + (axis.now.up + axis.now.down) * axis.now.length < 2 ^ 63 }
-    requires placed { at + step_at axis.now index < length characters.now }
-    ensures { result ≡ slice_index_or characters.now (at + step_at axis.now index) 0 }
-{
-    characters[along(at, axis, index)]
-}
-
 /// Whether a line has two characters, and they are the same.
 fn is_same(characters: &[Ch], axis: &Axis, at: usize, count: usize) -> bool
     requires { IsLine (length characters.now) axis.now at count }
@@ -36,7 +24,7 @@ fn is_same(characters: &[Ch], axis: &Axis, at: usize, count: usize) -> bool
     if count != 2 {
         return false;
     }
-    nth(characters, axis, at, 0) == nth(characters, axis, at, 1)
+    characters[along(at, axis, 0)] == characters[along(at, axis, 1)]
 }
 
 impl<'a> Leaf for Comparison<'a> {

@@ -7,7 +7,7 @@ ghost use Rattle.apl_folds.specs.Lines.{fold_by, folds_beside, line_of, AreFolds
 use crate::lanes::{number_at, row};
 use crate::line::fold_strided;
 use crate::steps::Step;
-use apl_arrays::{Axis, Lane, Stop, along};
+use apl_arrays::{Axis, Lane, Stop, along, convert};
 use apl_scalar::{Scalar, either, grow};
 
 /// How many lines are folded together: so many that their numbers lie in long pieces, and their folds still stay in cache.
@@ -128,16 +128,6 @@ fn fold_fours<S: Step, L: Lane>(
     (flags, left)
 }
 
-/// Writes numbers over the folds.
-fn copy_row<L: Lane>(numbers: &[L], folds: &mut [i64])
-    requires { length numbers.now ≡ length folds.old }
-    ensures { folds.new ≡ L.numbers numbers.now }
-{
-    for j in 0..folds.len() {
-        folds[j] = number_at(numbers, j);
-    }
-}
-
 /// Folds the lines that begin side by side from a place on, one for each fold. It answers whether all are values.
 fn fold_block<S: Step, L: Lane>(
     numbers: &[L],
@@ -152,7 +142,7 @@ fn fold_block<S: Step, L: Lane>(
     ensures { IsTrue result → AreFolds S.meaning (L.numbers numbers.now) axis.now at count folds.new }
 {
     let last = count - 1;
-    copy_row(beside(numbers, axis, at, last, folds.len()), folds);
+    convert(beside(numbers, axis, at, last, folds.len()), folds);
     let (mut flags, left) = fold_fours::<S, L>(numbers, axis, at, count, folds);
     for k in (0..left).rev() {
         let flag = take_row::<S, L>(beside(numbers, axis, at, k, folds.len()), folds);

@@ -30,8 +30,6 @@ fn with<F: Scalar>(ends: Ends, number: i64) -> Option<i64>
 }
 
 impl<F: Scalar> Kept<F> for Ends {
-    ghost given = { Unit {0} };
-
     ghost knows = { λ s xs. (y : ℤ) → told_at F.meaning s y ≡ truths F.meaning xs y };
 
     ghost tells = { λ s x. IsSome (told_at F.meaning s x) };

@@ -93,8 +93,8 @@ pub(crate) fn fold_some<L: Lane>(function: Dyadic, numbers: &[L]) -> Result<i64,
 {
     match function {
         Dyadic::Plus => sum_row(numbers),
-        Dyadic::Maximum => Ok(choose::<Maximum, L>(numbers)),
-        Dyadic::Minimum => Ok(choose::<Minimum, L>(numbers)),
+        Dyadic::Maximum => choose::<Maximum, L>(numbers),
+        Dyadic::Minimum => choose::<Minimum, L>(numbers),
         Dyadic::And => fold_connected::<And, L>(numbers),
         Dyadic::Or => fold_connected::<Or, L>(numbers),
         Dyadic::Nand => fold_connected::<Nand, L>(numbers),

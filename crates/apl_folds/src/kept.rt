@@ -6,9 +6,6 @@ use apl_scalar::Scalar;
 
 /// What is kept of some numbers, from which their fold by a function and one number more may be told.
 pub(crate) trait Kept<F: Scalar>: Copy {
-    /// What has to be true of the function.
-    ghost given: { Type 0 };
-
     /// This is kept of these numbers.
     ghost knows: { Self → List ℤ → Type 0 };
 
@@ -17,7 +14,6 @@ pub(crate) trait Kept<F: Scalar>: Copy {
 
     /// What is kept of no number.
     fn none() -> Self
-        requires { given }
         ensures { knows result [] };
 
     /// The fold with a number more. Where it is not told, it has to be made anew, and so have those of more numbers.

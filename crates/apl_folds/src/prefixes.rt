@@ -25,7 +25,6 @@ fn tell_line<F: Scalar, K: Kept<F>, L: Lane>(
     from: usize,
     out: &mut [i64],
 ) -> usize
-    requires given { K.given }
     requires whole { AreWhole (L.numbers numbers.now) axis }
     requires beside { axis.up ≡ 1 }
     requires line { index_along axis from ≡ 0 }
@@ -50,7 +49,6 @@ fn tell_line<F: Scalar, K: Kept<F>, L: Lane>(
 
 /// The same line by line.
 fn tell_lines<F: Scalar, K: Kept<F>, L: Lane>(numbers: &[L], axis: Axis, out: &mut [i64]) -> usize
-    requires given { K.given }
     requires whole { AreWhole (L.numbers numbers.now) axis }
     requires beside { axis.up ≡ 1 }
     requires size { length out.old ≡ length numbers.now }
@@ -71,7 +69,6 @@ fn tell_lines<F: Scalar, K: Kept<F>, L: Lane>(numbers: &[L], axis: Axis, out: &m
 /// What is kept before the number at an index along the axis.
 #[inline(always)]
 fn kept_at<F: Scalar, K: Kept<F>>(index: usize, kept: K) -> K
-    requires { K.given }
     ensures first { index ≡ 0 → K.knows result [] }
     ensures later { 0 < index → result ≡ kept }
 {
@@ -87,7 +84,6 @@ fn tell_row<F: Scalar, K: Kept<F>, L: Lane>(
     all: &mut [K],
     out: &mut [i64],
 ) -> usize
-    requires given { K.given }
     requires whole { AreWhole (L.numbers numbers.now) axis }
     requires columns { length all.old ≡ axis.up }
     requires within { (row + 1) * axis.up ≤ length numbers.now }
@@ -121,7 +117,6 @@ fn tell_rows<F: Scalar, K: Kept<F>, L: Lane>(
     all: &mut [K],
     out: &mut [i64],
 ) -> usize
-    requires given { K.given }
     requires whole { AreWhole (L.numbers numbers.now) axis }
     requires columns { length all.old ≡ axis.up }
     requires size { length out.old ≡ length numbers.now }
@@ -138,18 +133,6 @@ fn tell_rows<F: Scalar, K: Kept<F>, L: Lane>(
     numbers.len()
 }
 
-/// Room for what is kept of so many columns.
-fn columns<F: Scalar, K: Kept<F>>(alloc: Global, count: usize) -> Result<Vec<K>, AllocError>
-    requires { K.given }
-    ensures { IfOk result (λ all. length all.items ≡ count) }
-{
-    let mut all = Vec::with_capacity(alloc, count)?;
-    while all.len() < count {
-        all.push(K::none())?;
-    }
-    Ok(all)
-}
-
 /// Writes the first prefixes, while they are told, and answers how many.
 fn tell<F: Scalar, K: Kept<F>, L: Lane>(
     alloc: Global,
@@ -157,7 +140,6 @@ fn tell<F: Scalar, K: Kept<F>, L: Lane>(
     axis: Axis,
     out: &mut [i64],
 ) -> Result<usize, AllocError>
-    requires given { K.given }
     requires whole { AreWhole (L.numbers numbers.now) axis }
     requires size { length out.old ≡ length numbers.now }
     ensures few { IfOk result (λ told. told ≤ length numbers.now) }
@@ -167,7 +149,7 @@ fn tell<F: Scalar, K: Kept<F>, L: Lane>(
     if axis.up == 1 {
         return Ok(tell_lines::<F, K, L>(numbers, axis, out));
     }
-    let mut all = columns::<F, K>(alloc, axis.up)?;
+    let mut all = vec![in alloc; K::none(); axis.up]?;
     Ok(tell_rows::<F, K, L>(numbers, axis, all.as_mut_slice(), out))
 }
 
@@ -210,7 +192,6 @@ fn prefixes_by<F: Scalar, K: Kept<F>, L: Lane>(
     numbers: &[L],
     axis: Axis,
 ) -> Result<NumberVec, Stop>
-    requires given { K.given }
     requires whole { AreWhole (L.numbers numbers.now) axis }
     ensures { Answers (λ v. kept_values v) (prefix_folds F.meaning (L.numbers numbers.now) axis) result }
 {

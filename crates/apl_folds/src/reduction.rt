@@ -12,7 +12,6 @@ ghost use Rattle.apl_arrays.specs.Ravels.{items_of};
 ghost use Rattle.apl_arrays.specs.Results.{ok_map};
 ghost use Rattle.apl_arrays.specs.Strides.{IsView};
 ghost use Rattle.apl_arrays.specs.Views.{length_of};
-ghost use Rattle.apl_scalar.specs.Extension.{numbers_in};
 ghost use Rattle.apl_folds.specs.Folds.{folded, folds_along, folds_shaped, squeezed, reduced_along, reduction};
 ghost use Rattle.apl_folds.specs.Lines.{shown_by};
 
@@ -132,16 +131,6 @@ fn vector_fold(function: Dyadic, strided: &Strided<'_>) -> Option<Result<i64, Fa
     }
 }
 
-/// A number as a scalar, or its fault.
-fn single(number: Result<i64, Fault>) -> Result<Array, Stop>
-    ensures { Answers (λ r. r) (ok_map (λ z. numbers_in [] (z ∷ [])) number) result }
-{
-    match number {
-        Ok(number) => Ok(Array::number(number)),
-        Err(fault) => Err(Stop::Fault(fault)),
-    }
-}
-
 /// The folds along an axis, not of length 1, in the shape of the other axes, line by line.
 fn fold_lines(alloc: Global, function: Dyadic, axis: usize, view: &View<'_>) -> Result<Array, Stop>
     requires axis { axis < length view.now.shape }
@@ -155,28 +144,18 @@ fn fold_lines(alloc: Global, function: Dyadic, axis: usize, view: &View<'_>) -> 
     formed(alloc, shape, Ravel::wide(numbers))
 }
 
-/// The same, at once for a vector in one piece.
-fn fold_axis(alloc: Global, function: Dyadic, axis: usize, view: &View<'_>) -> Result<Array, Stop>
-    requires axis { axis < length view.now.shape }
-    requires not_one { length_of view.now axis ≢ 1 }
-    ensures { Answers (λ r. r) (folds_shaped function axis view.now) result }
-{
-    let strided = view.strided();
-    match vector_fold(function, &strided) {
-        Some(fold) => single(fold),
-        None => fold_lines(alloc, function, axis, view),
-    }
-}
-
-/// The reduction along an axis.
+/// The reduction along an axis, at once for a vector in one piece.
 fn reduce_axis(alloc: Global, function: Dyadic, axis: usize, view: &View<'_>) -> Result<Array, Stop>
     requires { axis < length view.now.shape }
     ensures { Answers (λ r. r) (reduced_along function axis view.now) result }
 {
     if view.shape().as_slice()[axis] == 1 {
-        squeeze(alloc, axis, view)
-    } else {
-        fold_axis(alloc, function, axis, view)
+        return squeeze(alloc, axis, view);
+    }
+    match vector_fold(function, &view.strided()) {
+        Some(Ok(number)) => Ok(Array::number(number)),
+        Some(Err(fault)) => Err(Stop::Fault(fault)),
+        None => fold_lines(alloc, function, axis, view),
     }
 }
 

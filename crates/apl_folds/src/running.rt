@@ -1,6 +1,7 @@
 // Scans of numbers in row-major order, each prefix from the one before it, where all have values.
 ghost use Rattle.std.specs.Prelude.{◌≡◌, ◌<◌, ◌≤◌, ◌+◌, ◌-◌, ◌*◌, ◌∷◌, ◌++◌, [], ℕ, ℤ, List, Result, pos, length, slice_index_or, IfOk, IsTrue, Ok};
 ghost use Rattle.apl_faults.specs.declared.fault.Fault.{Fault};
+ghost use Rattle.apl_arrays.specs.declared.axis.Axis.{Axis};
 ghost use Rattle.apl_arrays.specs.Numbers.{kept_values};
 ghost use Rattle.apl_scalar.specs.declared.function.Dyadic.TheVariants as two;
 ghost use Rattle.apl_scalar.specs.Functions.{dyadic_of};
@@ -91,65 +92,20 @@ impl<L: Lane, M: Lane> Running<L, M> for Total {
 /// How many prefixes are looked at together.
 const BLOCK: usize = 128;
 
-/// Writes the prefix before a place to those from there to another, all of which are the same.
-fn repeat<R: Running<L, M>, L: Lane, M: Lane>(
-    numbers: &[L],
-    axis: Axis,
-    from: usize,
-    till: usize,
-    fold: M,
-    out: &mut [M],
-)
-    requires whole { AreWhole (L.numbers numbers.now) axis }
-    requires room { AllHaveRoom R.room (L.numbers numbers.now) axis }
-    requires beside { axis.up ≡ 1 }
+/// Writes the same prefix at each place from one to another.
+fn repeat<M: Lane>(out: &mut [M], from: usize, till: usize, fold: M)
     requires order { from ≤ till }
-    requires later { AreLater axis from till }
-    requires within { till ≤ length numbers.now }
-    requires size { length out.old ≡ length numbers.now }
-    requires told { prefix_fold R.meaning (L.numbers numbers.now) axis (from - 1) ≡ Ok (M.value fold) }
-    requires stays { (at : ℕ) → from ≤ at → at < till → Stays R.meaning (M.value fold) (slice_index_or (L.numbers numbers.now) at (pos 0)) }
-    requires so_far { ArePrefixes R.meaning (L.numbers numbers.now) axis from (M.numbers out.old) }
+    requires within { till ≤ length out.old }
     ensures size { length out.new ≡ length out.old }
-    ensures told { prefix_fold R.meaning (L.numbers numbers.now) axis (till - 1) ≡ Ok (M.value fold) }
-    ensures prefixes { ArePrefixes R.meaning (L.numbers numbers.now) axis till (M.numbers out.new) }
+    ensures prefixes { (f : ℤ → ℤ → Result ℤ Fault) (zs : List ℤ) (axis : Axis) → ArePrefixes f zs axis from (M.numbers out.old) → ((q : ℕ) → from ≤ q → q < till → prefix_fold f zs axis q ≡ Ok (M.value fold)) → ArePrefixes f zs axis till (M.numbers out.new) }
 {
     for at in from..till {
         out[at] = fold;
     }
 }
 
-/// Writes the prefixes from one place to another, each from the one before it, and answers the last.
-fn run_on<R: Running<L, M>, L: Lane, M: Lane>(
-    numbers: &[L],
-    axis: Axis,
-    from: usize,
-    till: usize,
-    before: M,
-    out: &mut [M],
-) -> M
-    requires whole { AreWhole (L.numbers numbers.now) axis }
-    requires room { AllHaveRoom R.room (L.numbers numbers.now) axis }
-    requires beside { axis.up ≡ 1 }
-    requires order { from ≤ till }
-    requires later { AreLater axis from till }
-    requires within { till ≤ length numbers.now }
-    requires size { length out.old ≡ length numbers.now }
-    requires told { prefix_fold R.meaning (L.numbers numbers.now) axis (from - 1) ≡ Ok (M.value before) }
-    requires so_far { ArePrefixes R.meaning (L.numbers numbers.now) axis from (M.numbers out.old) }
-    ensures size { length out.new ≡ length out.old }
-    ensures told { prefix_fold R.meaning (L.numbers numbers.now) axis (till - 1) ≡ Ok (M.value result) }
-    ensures prefixes { ArePrefixes R.meaning (L.numbers numbers.now) axis till (M.numbers out.new) }
-{
-    let mut fold = before;
-    for at in from..till {
-        fold = R::then(fold, numbers[at]);
-        out[at] = fold;
-    }
-    fold
-}
-
-/// The same, at once where all are seen to be the one before.
+/// Writes the prefixes from one place to another, each from the one before it, and answers the last: at once where all are seen to be the one
+/// before.
 #[inline(always)]
 fn run_block<R: Running<L, M>, L: Lane, M: Lane>(
     numbers: &[L],
@@ -173,10 +129,15 @@ fn run_block<R: Running<L, M>, L: Lane, M: Lane>(
     ensures prefixes { ArePrefixes R.meaning (L.numbers numbers.now) axis till (M.numbers out.new) }
 {
     if R::stays(before, numbers, from, till) {
-        repeat::<R, L, M>(numbers, axis, from, till, before, out);
+        repeat(out, from, till, before);
         return before;
     }
-    run_on::<R, L, M>(numbers, axis, from, till, before, out)
+    let mut fold = before;
+    for at in from..till {
+        fold = R::then(fold, numbers[at]);
+        out[at] = fold;
+    }
+    fold
 }
 
 /// Writes the prefixes of a line of numbers that lie side by side, block by block.

@@ -73,8 +73,6 @@ fn times(product: i64, number: i64) -> i64
 }
 
 impl Kept<Product> for Scale {
-    ghost given = { Unit {0} };
-
     ghost knows = { IsScale (dyadic_of two.Times) };
 
     ghost tells = { IsSmall };

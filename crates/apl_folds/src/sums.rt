@@ -73,12 +73,8 @@ fn sum_block(numbers: &[i64], known: i64) -> Option<i64>
     ensures { IfSome result (λ all. (rest : List ℤ) → sum_of rest ≡ Ok known → sum_of (numbers.now ++ rest) ≡ Ok all) }
 {
     let (sum, bound) = sum_small(numbers);
-    if bound < 0x80_0000_0000_0000 {
-        if known < 0x4000_0000_0000_0000 {
-            if -0x4000_0000_0000_0000 < known {
-                return Some(add(known, sum));
-            }
-        }
+    if bound < 0x80_0000_0000_0000 && known.unsigned_abs() < 0x4000_0000_0000_0000 {
+        return Some(add(known, sum));
     }
     None
 }

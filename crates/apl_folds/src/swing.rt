@@ -31,8 +31,6 @@ fn with(fold: i64, less: bool, number: i64) -> i64
 }
 
 impl Kept<Sum> for Swing {
-    ghost given = { Unit {0} };
-
     ghost knows = { λ s xs. (s.less ≡ false) × IsSwing (dyadic_of two.Plus) s xs };
 
     ghost tells = { IsWithin };
@@ -67,8 +65,6 @@ impl Kept<Sum> for Swing {
 }
 
 impl Kept<Difference> for Swing {
-    ghost given = { Unit {0} };
-
     ghost knows = { IsSwing (dyadic_of two.Minus) };
 
     ghost tells = { IsWithin };

@@ -15,7 +15,7 @@ fold_fours-flags-requires-clause-last g c =
     fold_last g.S.Step.meaning line (c.args.count - 1) (omega (arith, some, length-line (pos 0) (g.L.Lane.numbers c.args.numbers.now) c.args.axis.now (c.args.at + j) c.args.count))
     ∙ ap (λ (x : ℤ). Ok x) (line_at (pos 0) (g.L.Lane.numbers c.args.numbers.now) c.args.axis.now (c.args.at + j) c.args.count (c.args.count - 1) (omega (arith, some))
     ∙ sym (c.beside.ensures.numbers j within)
-    ∙ ap (λ (l : List ℤ). get_or l j (pos 0)) (sym c.copy_row.ensures))
+    ∙ ap (λ (l : List ℤ). get_or l j (pos 0)) (sym c.convert.ensures))
 
 pub loop-k-init : goal.loop-k-init
 loop-k-init g c =
@@ -71,3 +71,6 @@ fold_fours-flags-requires-clause-room g c =
     λ j h.
     let within : j < length c.args.folds.now = search rules in
     c.requires.room j within
+
+pub convert-requires-clause-fits : goal.convert-requires-clause-fits
+convert-requires-clause-fits g c = λ z h fits. g.met.L.Lane.bounded z fits

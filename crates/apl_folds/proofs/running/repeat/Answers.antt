@@ -1,23 +1,12 @@
-use Rattle.std.proofs.Common.{◌≡◌, ◌<◌, pos, length, get_or, Ok, ap, ◌∙◌, arith, refl}
+use Rattle.std.proofs.Common.{arith, ◌∙◌}
 use Rattle.std.proofs.lemmas.List.{length-set}
-use Rattle.apl_folds.specs.inside.Prefixes.{prefix_fold}
-use Rattle.apl_scalar.proofs.OfLanes.{as_many}
-use Rattle.apl_folds.proofs.Runs.{behind, gone_on, written_one}
+use Rattle.apl_folds.proofs.Runs.{written_one}
 use Rattle.apl_folds.proofs.running.repeat.Goals as goal
 
 pub loop-at-preserved : goal.loop-at-preserved
-loop-at-preserved g c =
-    let f = g.R.Running.meaning in
-    let raw = c.args.numbers.now in
-    let zs = g.L.Lane.numbers raw in
-    let at = c.loop-at.at in
-    let fold = g.M.Lane.value c.args.fold in
-    let within : at < length zs = omega (arith, c.loop-at-test.true, c.requires.within, as_many g.L.Lane.value g.L.Lane.numbers g.met.L.Lane.each raw) in
-    let told : prefix_fold f zs c.args.axis at ≡ Ok fold =
-    gone_on f g.R.Running.room zs c.args.axis at (get_or zs at (pos 0)) fold fold c.requires.whole c.requires.room within c.requires.beside (c.requires.later at c.loop-at.auto.at c.loop-at-test.true) refl
-    c.loop-at.invariant.told (λ xs room e. c.requires.stays at c.loop-at.auto.at c.loop-at-test.true xs e) in
-    record {
-      size = length-set c.loop-at.out at c.args.fold ∙ c.loop-at.invariant.size;
-      told = ap (prefix_fold f zs c.args.axis) (behind at) ∙ told;
-      prefixes = written_one g.M.Lane.value g.M.Lane.numbers g.met.M.Lane.each f zs c.args.axis at c.loop-at.out c.args.fold (omega (arith, c.loop-at.invariant.size, c.requires.size)) told c.loop-at.invariant.prefixes;
-    }
+loop-at-preserved g c = record {
+  size = length-set c.loop-at.out c.loop-at.at c.args.fold ∙ c.loop-at.invariant.size;
+  prefixes = λ f zs axis so_far same.
+      written_one g.M.Lane.value g.M.Lane.numbers g.met.M.Lane.each f zs axis c.loop-at.at c.loop-at.out c.args.fold (omega (arith, c.loop-at-test.true, c.loop-at.invariant.size, c.requires.within))
+      (same c.loop-at.at c.loop-at.auto.at c.loop-at-test.true) (c.loop-at.invariant.prefixes f zs axis so_far same);
+}

@@ -1,14 +1,14 @@
 use Rattle.std.proofs.Common.{rules, arith, ◌≡◌, ◌<◌, ◌^◌, ◌+ℤ◌, ℤ, FitsSigned, Ok, ap, sym, ◌∙◌, w64}
 use Rattle.std.specs.Prelude.{unsigned_abs}
-use Rattle.std.proofs.lemmas.Int.{ints, to_z-of_z}
+use Rattle.std.proofs.lemmas.Int.{to_z-of_z}
 use mir.Val.{SFits}
 use Rattle.apl_folds.proofs.Totals.{small_block}
 use Rattle.apl_folds.proofs.sums.sum_block.Goals as goal
 
-pub returns-then-known-gtminus4611686018427387904 : goal.returns-then-known-gtminus4611686018427387904
-returns-then-known-gtminus4611686018427387904 c =
+pub returns-then-unsigned_abs-lt4611686018427387904 : goal.returns-then-unsigned_abs-lt4611686018427387904
+returns-then-unsigned_abs-lt4611686018427387904 c =
     λ rest e.
-    let near : unsigned_abs c.args.known < 2 ^ 62 = grind (arith, ints) in
+    let near : unsigned_abs c.args.known < 2 ^ 62 = omega (arith, (simp (to_z-of_z, c.ranges.known) at c.unsigned_abs.ensures.value)) in
     let small = c.sum_small-sum.ensures c.if-bound-lt36028797018963968.true in
     let fits : SFits w64 c.add.result = search rules in
     let fits_sum : SFits w64 c.sum_small-sum.result.0 = search rules in

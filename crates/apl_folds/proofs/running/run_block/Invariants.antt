@@ -1,6 +1,6 @@
 use Rattle.std.proofs.Common.{◌≡◌, ◌-◌, length, Ok}
 use Rattle.apl_folds.specs.inside.Prefixes.{prefix_fold, ArePrefixes}
-use Rattle.apl_folds.proofs.running.run_on.Given as goal
+use Rattle.apl_folds.proofs.running.run_block.Given as goal
 
 -- the prefixes so far, of which the last is known
 abbrev pub invariant-loop-at : goal.invariant-loop-at

@@ -1,7 +1,0 @@
-use Rattle.std.proofs.Common.{◌≡◌, drop, Ok}
-use Rattle.apl_folds.specs.Lines.{fold_by}
-use Rattle.apl_folds.proofs.quarters.choose_from.Given as goal
-
--- what was folded so far is the fold of the last numbers
-abbrev pub invariant-loop-k : goal.invariant-loop-k
-invariant-loop-k g l = fold_by g.C.Scalar.meaning (drop l.k (g.L.Lane.numbers l.numbers)) ≡ Ok (g.L.Lane.value l.all)
