@@ -84,6 +84,13 @@ flat_map_more {A = A} f n =
     none : (n : ℕ) → 0 + n ≡ n
     none n = omega arith
 
+pub range_next : (k : ℕ) (xs ys : List ℕ) → xs ≡ range_with_len 0 k → ys ≡ xs ++ k ∷ [] → ys ≡ range_with_len 0 (k + 1)
+range_next k xs ys e g =
+    g ∙ ap (λ l. l ++ k ∷ []) e ∙ ap (λ j. range_with_len 0 k ++ j ∷ []) (none k) ∙ sym (range_more 0 k) ∙ ap (range_with_len 0) (sym (add-one k))
+  where
+    none : (k : ℕ) → k ≡ 0 + k
+    none k = omega arith
+
 pub all_from : {A : Type 0} (P : A → Type 0) (xs : List A) → AllByRecursion P xs → All P xs
 all_from P [] a = All-nil P
 all_from P (x ∷ xs) a = All-cons P x xs a.0 (all_from P xs a.1)

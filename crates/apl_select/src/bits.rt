@@ -23,11 +23,11 @@ fn is_one(number: i64) -> bool
 
 /// Whether the number at a place is 1.
 #[inline(always)]
-fn is_one_at(numbers: NumberSlice<'_>, place: usize) -> bool
-    requires { place < length (values numbers) }
-    ensures { result ≡ is_one (slice_index_or (values numbers.entry) place (pos 0)) }
+fn is_one_at<L: Lane>(numbers: &[L], place: usize) -> bool
+    requires { place < length numbers.now }
+    ensures { result ≡ is_one (slice_index_or (L.numbers numbers.now) place (pos 0)) }
 {
-    is_one(numbers.at(place))
+    is_one(numbers[place].wide())
 }
 
 /// Whether a number is 0 or 1.
@@ -152,14 +152,14 @@ pub(crate) fn extended(count: usize, k: usize) -> usize
 }
 
 /// Of so many places on an axis those at a 1.
-pub(crate) fn kept(
+fn kept_over<L: Lane>(
     alloc: Global,
-    bits: NumberSlice<'_>,
+    bits: &[L],
     len: usize,
     count: usize,
 ) -> Result<Vec<Option<usize>>, AllocError>
-    requires { common_count (length (values bits)) len ≡ Ok count }
-    ensures { IfOk result (λ v. v.items ≡ kept (values bits.entry) len count) }
+    requires { common_count (length bits.now) len ≡ Ok count }
+    ensures { IfOk result (λ v. v.items ≡ kept (L.numbers bits.now) len count) }
 {
     let mut places = Vec::with_capacity(alloc, count)?;
     for k in 0..count {
@@ -171,7 +171,45 @@ pub(crate) fn kept(
     Ok(places)
 }
 
+/// The same of zeros and ones of any type.
+pub(crate) fn kept(
+    alloc: Global,
+    bits: NumberSlice<'_>,
+    len: usize,
+    count: usize,
+) -> Result<Vec<Option<usize>>, AllocError>
+    requires { common_count (length (values bits)) len ≡ Ok count }
+    ensures { IfOk result (λ v. v.items ≡ kept (values bits.entry) len count) }
+{
+    match bits {
+        NumberSlice::I8(bits) => kept_over(alloc, bits, len, count),
+        NumberSlice::I32(bits) => kept_over(alloc, bits, len, count),
+        NumberSlice::I64(bits) => kept_over(alloc, bits, len, count),
+    }
+}
+
 /// At each 1 the next place on an axis, at each 0 none.
+fn spread_over<L: Lane>(
+    alloc: Global,
+    bits: &[L],
+    len: usize,
+) -> Result<Vec<Option<usize>>, AllocError>
+    ensures { IfOk result (λ v. v.items ≡ spread (L.numbers bits.now) len) }
+{
+    let mut places = Vec::with_capacity(alloc, bits.len())?;
+    let mut next = 0usize;
+    for k in 0..bits.len() {
+        if !is_one_at(bits, k) {
+            places.push(None)?;
+            continue;
+        }
+        places.push(Some(extended(len, next)))?;
+        next += 1;
+    }
+    Ok(places)
+}
+
+/// The same of zeros and ones of any type.
 pub(crate) fn spread(
     alloc: Global,
     bits: NumberSlice<'_>,
@@ -179,15 +217,9 @@ pub(crate) fn spread(
 ) -> Result<Vec<Option<usize>>, AllocError>
     ensures { IfOk result (λ v. v.items ≡ spread (values bits.entry) len) }
 {
-    let mut places = Vec::with_capacity(alloc, bits.len())?;
-    let mut next = 0usize;
-    for k in 0..bits.len() {
-        if !is_one_at(bits, k) {
-            places.push_reserved(None);
-            continue;
-        }
-        places.push_reserved(Some(extended(len, next)));
-        next += 1;
+    match bits {
+        NumberSlice::I8(bits) => spread_over(alloc, bits, len),
+        NumberSlice::I32(bits) => spread_over(alloc, bits, len),
+        NumberSlice::I64(bits) => spread_over(alloc, bits, len),
     }
-    Ok(places)
 }

@@ -10,7 +10,7 @@ ghost use Rattle.apl_select.specs.Indexing.{all_picked, joined_shape, picked_by,
 ghost use Rattle.apl_select.specs.inside.Reached.{AreOnAxes};
 ghost use Rattle.apl_select.specs.inside.Single.{counted_by, fault_of_numbers, holds_number, placed, PicksNone, PicksPlace};
 
-use apl_arrays::{Array, MAX_ELEMENTS, NumberSlice, Stop, numbers_in};
+use apl_arrays::{Array, Lane, MAX_ELEMENTS, NumberSlice, Stop, numbers_in};
 use apl_faults::Fault;
 use std::alloc::{AllocError, Global};
 use std::marker::Model;
@@ -63,19 +63,33 @@ pub(crate) fn numbered(number: i64, len: usize, origin: usize) -> Result<usize, 
 
 /// The same of the number at a place of a list.
 #[inline(always)]
-fn numbered_at(
-    numbers: NumberSlice<'_>,
-    at: usize,
-    len: usize,
-    origin: usize,
-) -> Result<usize, Fault>
-    requires { at < length (values numbers) }
-    ensures { result ≡ place_numbered len origin (slice_index_or (values numbers.entry) at (pos 0)) }
+fn numbered_at<L: Lane>(numbers: &[L], at: usize, len: usize, origin: usize) -> Result<usize, Fault>
+    requires { at < length numbers.now }
+    ensures { result ≡ place_numbered len origin (slice_index_or (L.numbers numbers.now) at (pos 0)) }
 {
-    numbered(numbers.at(at), len, origin)
+    numbered(numbers[at].wide(), len, origin)
 }
 
 /// The places that numbers count from the index origin. The first that counts none is an index fault.
+fn places_of<L: Lane>(
+    alloc: Global,
+    numbers: &[L],
+    len: usize,
+    origin: usize,
+) -> Result<Vec<usize>, Stop>
+    ensures { Answers (λ v. v.items) (all_ok (place_numbered len origin) (L.numbers numbers.now)) result }
+{
+    let mut places = Vec::with_capacity(alloc, numbers.len())?;
+    for k in 0..numbers.len() {
+        match numbered_at(numbers, k, len, origin) {
+            Ok(place) => places.push(place)?,
+            Err(fault) => return Err(Stop::Fault(fault)),
+        }
+    }
+    Ok(places)
+}
+
+/// The same of numbers of any type.
 fn places_in(
     alloc: Global,
     numbers: NumberSlice<'_>,
@@ -84,14 +98,11 @@ fn places_in(
 ) -> Result<Vec<usize>, Stop>
     ensures { Answers (λ v. v.items) (all_ok (place_numbered len origin) (values numbers.entry)) result }
 {
-    let mut places = Vec::with_capacity(alloc, numbers.len())?;
-    for k in 0..numbers.len() {
-        match numbered_at(numbers, k, len, origin) {
-            Ok(place) => places.push_reserved(place),
-            Err(fault) => return Err(Stop::Fault(fault)),
-        }
+    match numbers {
+        NumberSlice::I8(numbers) => places_of(alloc, numbers, len, origin),
+        NumberSlice::I32(numbers) => places_of(alloc, numbers, len, origin),
+        NumberSlice::I64(numbers) => places_of(alloc, numbers, len, origin),
     }
-    Ok(places)
 }
 
 /// All places on an axis.
