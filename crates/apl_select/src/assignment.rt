@@ -1,23 +1,22 @@
 // Indexed assignment.
-ghost use Rattle.std.specs.Prelude.{◌≡◌, ◌<◌, ◌≤◌, ℤ, length, IfOk, IsSome, IsTrue, OnErr, Some};
+ghost use Rattle.std.specs.Prelude.{◌≡◌, ◌<◌, ◌≤◌, ℤ, length, IfOk, IsSome, IsTrue, OnErr, Some, ◌==◌, ◌||◌};
 ghost use Rattle.std.specs.List.{All};
 ghost use Rattle.apl_arrays.specs.Answers.{Answers, FaultsFirst, HadMemory};
-ghost use Rattle.apl_arrays.specs.Checks.{count_of};
+ghost use Rattle.apl_arrays.specs.Checks.{count_of, demand, same};
 ghost use Rattle.apl_arrays.specs.Index.{bound_of};
 ghost use Rattle.apl_arrays.specs.Left.{listed};
 ghost use Rattle.apl_arrays.specs.Origins.{origin_number};
 ghost use Rattle.apl_arrays.specs.Simple.{at_most_one, lone_number};
 ghost use Rattle.apl_arrays.specs.Written.{AreEnough};
-ghost use Rattle.apl_select.specs.Assignment.{assigned, assigned_at};
+ghost use Rattle.apl_arrays.specs.Results.{and_then};
+ghost use Rattle.apl_select.specs.Assignment.{assigned, assigned_at, fits_over, proper, same_type};
 ghost use Rattle.apl_select.specs.Indexing.{joined_shape, slots_fit, AreNumbers};
 ghost use Rattle.apl_select.specs.inside.Reached.{AreOnAxes};
 ghost use Rattle.apl_select.specs.inside.Single.{IsTried};
 ghost use Rattle.apl_select.specs.inside.Written.{overwritten};
 
-use crate::fitting::{fits_over, of_one_type};
 use crate::reach::places_led;
-use crate::single::{fault_of_numbers, place_picked};
-use crate::slots::{Picked, joined_shape, picks_of};
+use crate::slots::{Picked, fault_of_numbers, joined_shape, picks_of, place_picked};
 use apl_arrays::{Array, Elements, MAX_ELEMENTS, Origin, Stop, size, within_limits};
 use apl_faults::Fault;
 use std::alloc::{AllocError, Global};
@@ -171,4 +170,56 @@ pub fn index_assign_into(
         return Ok(());
     }
     elements_assigned(alloc, array, slots, value, first)
+}
+
+/// The lengths other than 1.
+fn proper(alloc: Global, shape: &[usize]) -> Result<Vec<usize>, AllocError>
+    ensures { IfOk result (λ v. v.items ≡ proper shape.now) }
+{
+    shape.iter().copied().filter(|len| *len != 1).collect(alloc)
+}
+
+/// It is a rank fault where there are more or fewer lengths than wanted, and a length fault where they are others.
+fn same_lengths(found: &[usize], wanted: &[usize]) -> Result<(), Fault>
+    ensures { result ≡ and_then (demand (length found.now == length wanted.now) Fault.Rank) (λ u. demand (same found.now wanted.now) Fault.Length) }
+{
+    if found.len() != wanted.len() {
+        Err(Fault::Rank)
+    } else if found == wanted {
+        Ok(())
+    } else {
+        Err(Fault::Length)
+    }
+}
+
+/// One element fits over any shape. Any other array is a rank fault where it has more or fewer axes than the shape, of those whose length
+/// isn't 1, and a length fault where these axes have other lengths.
+pub(crate) fn fits_over(alloc: Global, shape: &[usize], b: &Array) -> Result<(), Stop>
+    ensures { Answers (λ u. u) (fits_over shape.now b.now) result }
+{
+    if b.items().len() == 1 {
+        return Ok(());
+    }
+    let found = proper(alloc, b.shape())?;
+    let wanted = proper(alloc, shape)?;
+    same_lengths(found.as_slice(), wanted.as_slice())?;
+    Ok(())
+}
+
+/// Whether both are numbers, or both are characters.
+fn same_type(to: Elements<'_>, from: Elements<'_>) -> bool
+    ensures { result ≡ same_type (listed to.entry) (listed from.entry) }
+{
+    to.is_numeric() == from.is_numeric()
+}
+
+/// It is a domain fault where there are places for elements of another type.
+pub(crate) fn of_one_type(count: usize, to: Elements<'_>, from: Elements<'_>) -> Result<(), Fault>
+    ensures { result ≡ demand (count == 0 || same_type (listed to.entry) (listed from.entry)) Fault.Domain }
+{
+    if count == 0 || same_type(to, from) {
+        Ok(())
+    } else {
+        Err(Fault::Domain)
+    }
 }

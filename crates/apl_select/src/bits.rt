@@ -136,9 +136,7 @@ pub(crate) fn common_count(m: usize, n: usize) -> Result<usize, Fault>
 pub(crate) fn fits_ones(ones: usize, len: usize) -> Result<(), Fault>
     ensures { result ≡ demand (len == 1 || ones == len) Fault.Length }
 {
-    if len == 1 {
-        Ok(())
-    } else if ones == len {
+    if len == 1 || ones == len {
         Ok(())
     } else {
         Err(Fault::Length)

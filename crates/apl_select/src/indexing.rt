@@ -1,5 +1,5 @@
 // Indexing.
-ghost use Rattle.std.specs.Prelude.{◌≡◌, ◌≤◌, MatchOption, Err, Ok};
+ghost use Rattle.std.specs.Prelude.{◌≡◌, MatchOption, Err, Ok};
 ghost use Rattle.apl_arrays.specs.Answers.{Answers, FaultsFirst, HadMemory};
 ghost use Rattle.apl_arrays.specs.Origins.{origin_number};
 ghost use Rattle.apl_arrays.specs.Simple.{single};
@@ -7,8 +7,7 @@ ghost use Rattle.apl_select.specs.Indexing.{indexed, AreNumbers, slots_fit};
 ghost use Rattle.apl_select.specs.inside.Single.{fault_of_numbers};
 
 use crate::reach::read;
-use crate::single::{fault_of_numbers, place_picked};
-use crate::slots::{Picked, joined_shape, picks_of};
+use crate::slots::{Picked, fault_of_numbers, joined_shape, picks_of, place_picked};
 use crate::vector::vector_picked;
 use apl_arrays::{Array, Cell, Origin, Stop, size, within_limits};
 use std::alloc::Global;
@@ -41,30 +40,6 @@ fn elements_led_to(
     Ok(Array::in_shape(alloc, shape.as_slice(), ravel)?)
 }
 
-/// The elements that slots pick. Those of a vector are read in one pass over the numbers. Where that meets a fault it falls back on the
-/// general path, by all axes, which finds the first.
-fn elements_picked(
-    alloc: Global,
-    b: &Array,
-    slots: &[Option<Array>],
-    origin: usize,
-) -> Result<Array, Stop>
-    requires { origin ≤ 1 }
-    ensures value { Answers (λ r. r) (indexed b.now slots.now origin) result }
-    ensures at_once { FaultsFirst (slots_fit b.now slots.now) result }
-{
-    let [Some(a)] = slots else {
-        return elements_led_to(alloc, b, slots, origin);
-    };
-    if b.rank() != 1 {
-        return elements_led_to(alloc, b, slots, origin);
-    }
-    match vector_picked(alloc, b, a, origin)? {
-        Some(array) => Ok(array),
-        None => elements_led_to(alloc, b, slots, origin),
-    }
-}
-
 /// The elements of `b` that slots pick, one slot for each axis, in the slots' shapes one after another. An empty slot picks the whole axis.
 /// Numbers count places from the index origin.
 ///
@@ -90,5 +65,15 @@ pub fn index(
     if let Some(fault) = fault_of_numbers(b, slots) {
         return Err(Stop::Fault(fault));
     }
-    elements_picked(alloc, b, slots, first)
+    let [Some(a)] = slots else {
+        return elements_led_to(alloc, b, slots, first);
+    };
+    if b.rank() != 1 {
+        return elements_led_to(alloc, b, slots, first);
+    }
+    // Those of a vector are read in one pass over the numbers. Where that meets a fault, the general path finds the first.
+    match vector_picked(alloc, b, a, first)? {
+        Some(array) => Ok(array),
+        None => elements_led_to(alloc, b, slots, first),
+    }
 }

@@ -4,13 +4,9 @@
 mod assignment;
 mod bits;
 mod compression;
-mod fitting;
 mod indexing;
-mod keeping;
-mod lay;
 mod lines;
 mod reach;
-mod single;
 mod slots;
 mod vector;
 

@@ -100,25 +100,6 @@ fn gather_line<T: Copy>(
     Ok(())
 }
 
-/// Appends the elements at the places of the last axis, counted from each start so many rows of it on.
-fn gather<T: Copy>(
-    raw: &[T],
-    starts: &[usize],
-    len: usize,
-    places: &[usize],
-    out: &mut Vec<T>,
-) -> Result<(), AllocError>
-    requires near { All (λ s. s * len ≤ MAX_ELEMENTS) starts.now }
-    requires within { All (λ q. q < length raw.now) (crossed starts.now len places.now) }
-    requires small { length raw.now ≤ MAX_ELEMENTS }
-    ensures { OnOk result ((d : T) → out.new.items ≡ out.old.items ++ map (λ q. slice_index_or raw.now q d) (crossed starts.now len places.now)) }
-{
-    for start in starts {
-        gather_line(raw, *start * len, places, out)?;
-    }
-    Ok(())
-}
-
 /// The elements at the places of the last axis, counted from each start so many rows of it on, and the room for them.
 #[derive(Clone, Copy)]
 struct Reading<'p> {
@@ -138,7 +119,9 @@ impl<'p> Structural for Reading<'p> {
 
     fn make<T: Copy>(self, alloc: Global, items: &[T], _fill: T) -> Result<Vec<T>, AllocError> {
         let mut out = Vec::with_capacity(alloc, self.room)?;
-        gather(items, self.starts, self.len, self.places, &mut out)?;
+        for start in self.starts {
+            gather_line(items, *start * self.len, self.places, &mut out)?;
+        }
         Ok(out)
     }
 }

@@ -1,14 +1,16 @@
 // What index slots pick of the axes of an array.
-ghost use Rattle.std.specs.Prelude.{◌≡◌, ◌<◌, [], ◌∷◌, length, pos, slice_index_or, IfOk, Some};
-ghost use Rattle.std.specs.List.{All, range_with_len};
+ghost use Rattle.std.specs.Prelude.{◌≡◌, ◌<◌, [], ◌∷◌, length, pos, slice_index_or, IfOk, ◌≤◌, IfSome, MatchOption};
+ghost use Rattle.std.specs.List.{All, range_with_len, list_all};
 ghost use Rattle.apl_arrays.specs.Answers.{Answers, FaultsFirst};
-ghost use Rattle.apl_arrays.specs.Index.{size_of};
+ghost use Rattle.apl_arrays.specs.Index.{size_of, bound_of};
 ghost use Rattle.apl_arrays.specs.Numbers.{values};
 ghost use Rattle.apl_arrays.specs.Results.{all_ok};
-ghost use Rattle.apl_select.specs.Indexing.{all_picked, joined_shape, picked_by, place_numbered, slots_fit, slots_of};
+ghost use Rattle.apl_arrays.specs.Cells.{IsArray};
+ghost use Rattle.apl_select.specs.Indexing.{all_picked, joined_shape, picked_by, place_numbered, slots_fit, slots_of, AreNumbers};
 ghost use Rattle.apl_select.specs.inside.Reached.{AreOnAxes};
+ghost use Rattle.apl_select.specs.inside.Single.{counted_by, fault_of_numbers, holds_number, placed, PicksNone, PicksPlace};
 
-use apl_arrays::{Array, Lane, NumberSlice, Stop, numbers_in};
+use apl_arrays::{Array, Lane, MAX_ELEMENTS, NumberSlice, Stop, numbers_in};
 use apl_faults::Fault;
 use std::alloc::{AllocError, Global};
 use std::marker::Model;
@@ -107,11 +109,7 @@ fn places_in(
 fn all_places(alloc: Global, len: usize) -> Result<Vec<usize>, AllocError>
     ensures { IfOk result (λ v. v.items ≡ range_with_len 0 len) }
 {
-    let mut places = Vec::with_capacity(alloc, len)?;
-    for k in 0..len {
-        places.push(k)?;
-    }
-    Ok(places)
+    (0..len).collect(alloc)
 }
 
 /// The whole axis.
@@ -124,28 +122,19 @@ fn whole_axis(alloc: Global, len: usize) -> Result<Picked, AllocError>
     })
 }
 
-/// What the elements of an array pick of an axis.
-fn pick_by(alloc: Global, len: usize, origin: usize, array: &Array) -> Result<Picked, Stop>
-    ensures value { Answers (λ p. p) (picked_by len origin (Some array.now)) result }
-    ensures full { IfOk result (λ p. length p.places ≡ size_of p.shape) }
-    ensures within { IfOk result (λ p. All (λ k. k < len) p.places) }
-{
-    let numbers = numbers_in(array.items())?;
-    let places = places_in(alloc, numbers, len, origin)?;
-    let shape = Vec::from_slice(alloc, array.shape())?;
-    Ok(Picked { shape, places })
-}
-
 /// What a slot picks of an axis: an empty one the whole axis.
 fn pick(alloc: Global, len: usize, origin: usize, slot: &Option<Array>) -> Result<Picked, Stop>
     ensures value { Answers (λ p. p) (picked_by len origin slot.now) result }
     ensures full { IfOk result (λ p. length p.places ≡ size_of p.shape) }
     ensures within { IfOk result (λ p. All (λ k. k < len) p.places) }
 {
-    match slot {
-        Some(array) => pick_by(alloc, len, origin, array),
-        None => Ok(whole_axis(alloc, len)?),
-    }
+    let Some(array) = slot else {
+        return Ok(whole_axis(alloc, len)?);
+    };
+    let numbers = numbers_in(array.items())?;
+    let places = places_in(alloc, numbers, len, origin)?;
+    let shape = Vec::from_slice(alloc, array.shape())?;
+    Ok(Picked { shape, places })
 }
 
 /// What slots pick of all axes, one after another.
@@ -194,4 +183,75 @@ pub(crate) fn joined_shape(alloc: Global, picks: &[Picked]) -> Result<Vec<usize>
         shape.extend_from_slice(picked.shape())?;
     }
     Ok(shape)
+}
+
+/// The place on an axis that a slot of one number counts.
+#[inline]
+fn place_counted(slot: &Option<Array>, len: usize, origin: usize) -> Option<usize>
+    ensures value { result ≡ counted_by len origin slot.now }
+    ensures within { IfSome result (λ place. place < len) }
+{
+    let Some(array) = slot else {
+        return None;
+    };
+    numbered(array.as_number()?, len, origin).ok()
+}
+
+/// The place of the index list that slots of one number each count.
+#[inline]
+fn place_named(shape: &[usize], slots: &[Option<Array>], origin: usize) -> Option<usize>
+    requires as_many { length slots.now ≡ length shape.now }
+    requires small { bound_of shape.now ≤ MAX_ELEMENTS }
+    ensures { placed origin 0 shape.now slots.now ≡ result }
+{
+    let mut place = 0usize;
+    for axis in 0..shape.len() {
+        let counted = place_counted(&slots[axis], shape[axis], origin)?;
+        place = place * shape[axis] + counted;
+    }
+    Some(place)
+}
+
+/// The place that slots pick, where each is one number that counts a place of its axis. It takes no memory.
+#[inline]
+pub(crate) fn place_picked(array: &Array, slots: &[Option<Array>], origin: usize) -> Option<usize>
+    ensures place { MatchOption result (PicksNone array.now origin slots.now) (PicksPlace array.now origin slots.now) }
+    ensures array { IsArray array.now.shape array.now.items }
+{
+    let shape = array.shape();
+    if slots.len() != shape.len() {
+        return None;
+    }
+    place_named(shape, slots, origin)
+}
+
+/// Whether a slot holds one number.
+fn holds_number(slot: &Option<Array>) -> bool
+    ensures { result ≡ holds_number slot.now }
+{
+    match slot {
+        Some(array) => array.as_number().is_some(),
+        None => false,
+    }
+}
+
+/// Whether each slot does.
+fn all_hold_numbers(slots: &[Option<Array>]) -> bool
+    ensures { result ≡ list_all holds_number slots.now }
+{
+    slots.iter().all(|slot| holds_number(slot))
+}
+
+/// The fault of slots of one number each, which pick no place; none where a slot holds anything else. It takes no memory.
+pub(crate) fn fault_of_numbers(array: &Array, slots: &[Option<Array>]) -> Option<Fault>
+    ensures { MatchOption result (AreNumbers slots.now → ⊥) (λ fault. AreNumbers slots.now × (fault ≡ fault_of_numbers array.now slots.now)) }
+{
+    if !all_hold_numbers(slots) {
+        return None;
+    }
+    if slots.len() == array.rank() {
+        Some(Fault::Index)
+    } else {
+        Some(Fault::Rank)
+    }
 }

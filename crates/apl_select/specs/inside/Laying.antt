@@ -3,7 +3,7 @@
 use Rattle.std.specs.Prelude.{◌≡◌, ℕ, ◌+◌, ◌*◌, ◌^◌, ◌<◌, List, map, Option, None, Some}
 use Rattle.std.specs.Option.{option_map}
 use Rattle.std.specs.List.{flat_map, range_with_len, All}
-use Rattle.apl_select.specs.declared.lay.Laying.{Laying}
+use Rattle.apl_select.specs.declared.lines.Laying.{Laying}
 
 -- what e makes of the places in a block of so many, of the row `first` and a place together
 abbrev pub block_of : {A : Type 0} → (Option ℕ → A) → ℕ → ℕ → Option ℕ → List A

@@ -1,12 +1,6 @@
-use Rattle.std.proofs.Common.{◌≡◌, ap, ◌∙◌, arith}
-use Rattle.std.specs.List.{range_with_len}
-use Rattle.apl_select.proofs.Lists.{range_next}
+use Rattle.std.proofs.Common.{refl, arith}
+use Rattle.std.proofs.lemmas.Iterator.{items_from_collect, YieldsList-from_range}
 use Rattle.apl_select.proofs.slots.all_places.Goals as goal
 
-pub loop-k-preserved : goal.loop-k-preserved
-loop-k-preserved c = range_next c.loop-k.k c.loop-k.places.items c.push.new.self.items c.loop-k.invariant c.in_ok-push.ensures.items
-
 pub returns : goal.returns
-returns c =
-    let all : c.loop-k.k ≡ c.args.len = omega arith in
-    c.loop-k.invariant ∙ ap (range_with_len 0) all
+returns c = items_from_collect _ c.collect.ensures.ran (YieldsList-from_range 0 c.args.len c.args.len refl (omega arith))

@@ -1,7 +1,0 @@
-use Rattle.std.proofs.Common.{◌≡◌, ◌++◌, take}
-use Rattle.apl_select.specs.inside.Laying.{plane_of}
-use Rattle.apl_select.specs.Lined.{item_or}
-use Rattle.apl_select.proofs.lay.lay_blocks.Given as goal
-
-abbrev pub invariant-loop-place : goal.invariant-loop-place
-invariant-loop-place g l = l.out.items ≡ l.fn.out.items ++ plane_of (item_or l.fill l.raw) l.first l.block (take l.place-index l.places)

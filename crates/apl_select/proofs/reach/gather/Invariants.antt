@@ -1,6 +1,0 @@
-use Rattle.std.proofs.Common.{◌≡◌, ◌++◌, map, take, get_or}
-use Rattle.apl_select.specs.inside.Reached.{crossed}
-use Rattle.apl_select.proofs.reach.gather.Given as goal
-
-abbrev pub invariant-loop-start : goal.invariant-loop-start
-invariant-loop-start g l = (d : g.row.T.Denot) → l.out.items ≡ l.fn.out.items ++ map (λ q. get_or l.raw q d) (crossed (take l.start-index l.starts) l.len l.places)
