@@ -1,5 +1,5 @@
 -- What the primitives answer of a phrase is what it gives.
-use Rattle.std.proofs.Common.{◌≡◌, ℤ, List, Option, Result, Ok, Err, refl, sym, ap, ◌∙◌}
+use Rattle.std.proofs.Common.{◌≡◌, ℕ, ℤ, List, Option, Result, Ok, Err, refl, sym, ap, ◌∙◌}
 use Rattle.apl_arrays.specs.Answers.{Answers}
 use Rattle.apl_arrays.specs.Cells.{Arr}
 use Rattle.apl_arrays.specs.declared.stop.Stop.{Stop}
@@ -55,8 +55,8 @@ answered (Ok a) defined o h e = e ∙ ap of_result h
 answered (Err (stops.Fault f)) defined o h e = e ∙ ap of_result h
 answered (Err stops.Memory) defined o h e = tt
 
--- as it is called
-pub row_gives : (answer : Result Arr Stop) (s : List ℤ → Scene) (act : Action) (r : Row) (os : List (Option Operand)) (t : Taken) → act ≡ actions.Phrase r → row_kind r ≡ Gives → t ≡ taken_of os → ((ns : List ℤ) → Answers (λ z. z) (phrase_value r t (index_origin (s ns))) answer) → (ns : List ℤ) → GivesIt answer (acted (s ns) act os)
-row_gives answer s act r os t is kind same answers ns =
-    answered answer (phrase_value r t (index_origin (s ns))) (acted (s ns) act os) (answers ns)
-    (ap (λ x. acted (s ns) x os) is ∙ row_value (s ns) r os kind ∙ ap (λ u. of_result (phrase_value r u (index_origin (s ns)))) (sym same))
+-- as it is called, with an index origin by which it has the same value
+pub row_gives : (answer : Result Arr Stop) (s : List ℤ → Scene) (act : Action) (r : Row) (os : List (Option Operand)) (t : Taken) (o : ℕ) → act ≡ actions.Phrase r → row_kind r ≡ Gives → t ≡ taken_of os → ((ns : List ℤ) → phrase_value r t o ≡ phrase_value r t (index_origin (s ns))) → Answers (λ z. z) (phrase_value r t o) answer → (ns : List ℤ) → GivesIt answer (acted (s ns) act os)
+row_gives answer s act r os t o is kind same any answers ns =
+    answered answer (phrase_value r t o) (acted (s ns) act os) answers
+    (ap (λ x. acted (s ns) x os) is ∙ row_value (s ns) r os kind ∙ ap (λ u. of_result (phrase_value r u (index_origin (s ns)))) (sym same) ∙ sym (ap of_result (any ns)))

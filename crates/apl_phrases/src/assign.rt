@@ -87,23 +87,6 @@ pub fn assign(
     }
 }
 
-/// `⎕IO K ← B`
-fn assign_slots_of_origin(
-    alloc: Global,
-    scene: Scene<'_>,
-    slots: &[Option<Array>],
-    b: &Array,
-) -> Result<Effect, Stop>
-    ensures { Does scene.entry (Some b.now) (λ s. assign_slots s (Variable.System SystemName.Origin) slots.now b.now) result }
-{
-    let origin = scene.origin();
-    let now = origin_scalar(origin);
-    match index_assign(alloc, &now, slots, b, origin) {
-        Ok(array) => set_origin(scene, as_origin(&array)),
-        Err(stop) => Err(stop),
-    }
-}
-
 /// `V K ← B`
 fn assign_slots(
     alloc: Global,
@@ -114,9 +97,14 @@ fn assign_slots(
 ) -> Result<Effect, Stop>
     ensures { Does scene.entry (Some b.now) (λ s. assign_slots s (Variable.System system) slots.now b.now) result }
 {
-    match system {
-        SystemName::Origin => assign_slots_of_origin(alloc, scene, slots, b),
-        _ => Err(Stop::Fault(Fault::Syntax)),
+    let SystemName::Origin = system else {
+        return Err(Stop::Fault(Fault::Syntax));
+    };
+    let origin = scene.origin();
+    let now = origin_scalar(origin);
+    match index_assign(alloc, &now, slots, b, origin) {
+        Ok(array) => set_origin(scene, as_origin(&array)),
+        Err(stop) => Err(stop),
     }
 }
 

@@ -1,6 +1,6 @@
 //! `⍎`, a text that is executed.
-ghost use Rattle.std.specs.Prelude.{◌≡◌, IfSome, option_copied};
-ghost use Rattle.apl_machine_state.specs.Outcomes.{execute, text_in};
+ghost use Rattle.std.specs.Prelude.{◌≡◌, IfSome};
+ghost use Rattle.apl_machine_state.specs.Outcomes.{execute};
 ghost use Rattle.apl_operands.specs.Operands.{Offers};
 ghost use Rattle.apl_phrases.specs.Effects.{outcome_of};
 ghost use Rattle.apl_phrases.specs.Executing.{ExecutesAs};
@@ -17,26 +17,22 @@ use apl_operands::arguments;
 use apl_primitives::Arguments;
 use apl_symbols::Primitive;
 
-/// The text that an array is; one without elements is the empty text.
-fn text_in(array: &Array) -> Option<&[Ch]>
-    ensures { option_copied result ≡ text_in array.now.items }
-{
-    match array.items() {
-        Elements::Chars(text) => Some(text),
-        Elements::Nums(numbers) => { if numbers.is_empty() { Some(&[]) } else { None } }
-    }
-}
-
-/// The text that a list is, or the fault of an array that is none.
+/// The text that a list is, or the fault of an array that is none. A list without elements is the empty text.
 fn list_text(b: &Array) -> Result<&[Ch], Fault>
     ensures { ExecutesAs (λ s. execute s b.now) result }
 {
     if !is_list(b) {
         return Err(Fault::Rank);
     }
-    match text_in(b) {
-        Some(text) => Ok(text),
-        None => Err(Fault::Domain),
+    match b.items() {
+        Elements::Chars(text) => Ok(text),
+        Elements::Nums(numbers) => {
+            if numbers.is_empty() {
+                Ok(&[])
+            } else {
+                Err(Fault::Domain)
+            }
+        }
     }
 }
 

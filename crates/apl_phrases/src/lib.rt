@@ -18,7 +18,7 @@ mod system;
 mod values;
 mod watch;
 
-pub use assigning::{assigned, assigned_indexed};
+pub use assigning::{assigned, assigned_indexed, assignment};
 pub use calling::{FunctionCalled, called};
 pub use effect::Effect;
 pub use execute::executed;

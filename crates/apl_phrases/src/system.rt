@@ -3,8 +3,7 @@ ghost use Rattle.std.specs.Prelude.{◌≡◌, IfSome, List, Option};
 ghost use Rattle.apl_arrays.specs.Cells.{Arr};
 ghost use Rattle.apl_code.specs.declared.row.Function.TheVariants as Function;
 ghost use Rattle.apl_code.specs.declared.row.Variable.TheVariants as Variable;
-ghost use Rattle.apl_machine_state.specs.declared.operand.Operand.{Operand};
-ghost use Rattle.apl_machine_state.specs.Outcomes.{called, dyadic, dyadic_with, monadic, monadic_with, taken_of};
+ghost use Rattle.apl_machine_state.specs.Outcomes.{called, dyadic, monadic};
 ghost use Rattle.apl_primitives.specs.Taken.{as_taken};
 ghost use Rattle.apl_operands.specs.Operands.{Offers};
 ghost use Rattle.apl_phrases.specs.Effects.{Does, last_of, outcome_of};
@@ -18,7 +17,7 @@ use crate::name_class::name_class;
 use crate::phrase::Phrase;
 use crate::scene::Scene;
 use crate::watch::{rewatch, watch};
-use apl_arrays::{Array, Stop};
+use apl_arrays::Stop;
 use apl_code::{Action, Function, Row, Variable};
 use apl_faults::Fault;
 use apl_machine_state::Watch;
@@ -37,23 +36,6 @@ fn call(system: SystemName) -> Result<Effect, Stop>
     }
 }
 
-/// `F B`
-fn monadic_with(
-    alloc: Global,
-    scene: Scene<'_>,
-    system: SystemName,
-    b: &Array,
-) -> Result<Effect, Stop>
-    ensures { (last : Option Arr) → Does scene.entry last (λ s. monadic_with s (Function.System system) b.now) result }
-{
-    match system {
-        SystemName::NameClass => name_class(alloc, scene, b),
-        SystemName::Stop => watch(alloc, scene, Watch::Stop, b),
-        SystemName::Trace => watch(alloc, scene, Watch::Trace, b),
-        _ => Err(Stop::Fault(Fault::Syntax)),
-    }
-}
-
 /// `F B`, where a phrase takes this.
 fn monadic(
     alloc: Global,
@@ -63,25 +45,13 @@ fn monadic(
 ) -> Result<Effect, Stop>
     ensures { (last : Option Arr) → Does scene.entry last (λ s. monadic s (Function.System system) (as_taken arguments.entry)) result }
 {
-    match arguments {
-        Arguments::One(b) => monadic_with(alloc, scene, system, b),
-        _ => Err(Stop::Fault(Fault::Syntax)),
-    }
-}
-
-/// `B F B`
-fn dyadic_with(
-    alloc: Global,
-    scene: Scene<'_>,
-    system: SystemName,
-    a: &Array,
-    b: &Array,
-) -> Result<Effect, Stop>
-    ensures { (last : Option Arr) → Does scene.entry last (λ s. dyadic_with s (Function.System system) a.now b.now) result }
-{
+    let Arguments::One(b) = arguments else {
+        return Err(Stop::Fault(Fault::Syntax));
+    };
     match system {
-        SystemName::Stop => rewatch(alloc, scene, Watch::Stop, a, b),
-        SystemName::Trace => rewatch(alloc, scene, Watch::Trace, a, b),
+        SystemName::NameClass => name_class(alloc, scene, b),
+        SystemName::Stop => watch(alloc, scene, Watch::Stop, b),
+        SystemName::Trace => watch(alloc, scene, Watch::Trace, b),
         _ => Err(Stop::Fault(Fault::Syntax)),
     }
 }
@@ -95,8 +65,12 @@ fn dyadic(
 ) -> Result<Effect, Stop>
     ensures { (last : Option Arr) → Does scene.entry last (λ s. dyadic s (Function.System system) (as_taken arguments.entry)) result }
 {
-    match arguments {
-        Arguments::Two(a, b) => dyadic_with(alloc, scene, system, a, b),
+    let Arguments::Two(a, b) = arguments else {
+        return Err(Stop::Fault(Fault::Syntax));
+    };
+    match system {
+        SystemName::Stop => rewatch(alloc, scene, Watch::Stop, a, b),
+        SystemName::Trace => rewatch(alloc, scene, Watch::Trace, a, b),
         _ => Err(Stop::Fault(Fault::Syntax)),
     }
 }

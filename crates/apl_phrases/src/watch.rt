@@ -3,7 +3,7 @@ ghost use Rattle.std.specs.Prelude.{◌≡◌, ℤ, List, Option, option_copied,
 ghost use Rattle.apl_arrays.specs.Numbers.{values};
 ghost use Rattle.apl_arrays.specs.Cells.{Arr};
 ghost use Rattle.apl_machine_state.specs.Outcomes.{rewatch, watch, watched, watched_by};
-ghost use Rattle.apl_machine_state.specs.Watching.{function_named, is_list, numbers_in};
+ghost use Rattle.apl_machine_state.specs.Watching.{is_list, numbers_in};
 ghost use Rattle.apl_names.specs.Maps.{function_in, last_map, said};
 ghost use Rattle.apl_phrases.specs.Effects.{Does, IsEffect};
 ghost use Rattle.apl_phrases.specs.inside.Marks.{chosen};
@@ -12,7 +12,6 @@ use crate::effect::Effect;
 use crate::lines_among::lines_among;
 use crate::scene::Scene;
 use apl_arrays::{Array, Elements, NumberSlice, Stop};
-use apl_charset::Ch;
 use apl_defn::Definition;
 use apl_faults::Fault;
 use apl_machine_state::Watch;
@@ -72,25 +71,6 @@ fn ask(
     }
 }
 
-/// The same of the function that a text names.
-fn ask_named(
-    alloc: Global,
-    scene: Scene<'_>,
-    which: Watch,
-    text: &[Ch],
-    numbers: Option<NumberSlice<'_>>,
-) -> Result<Effect, Stop>
-    ensures { (last : Option Arr) → Does scene.entry last (λ s. watched_by which text.now (function_named s text.now) (chosen (option_map values numbers.entry))) result }
-{
-    let Some(name) = Name::new(text) else {
-        return Err(Stop::Fault(Fault::Domain));
-    };
-    match global_function(scene.names, &name) {
-        Some(definition) => ask(alloc, which, name, definition, numbers),
-        None => Err(Stop::Fault(Fault::Domain)),
-    }
-}
-
 /// The same of the function that an array names.
 fn watched(
     alloc: Global,
@@ -101,9 +81,15 @@ fn watched(
 ) -> Result<Effect, Stop>
     ensures { (last : Option Arr) → Does scene.entry last (λ s. watched s which b.now.items (chosen (option_map values numbers.entry))) result }
 {
-    match b.items() {
-        Elements::Nums(_) => Err(Stop::Fault(Fault::Domain)),
-        Elements::Chars(text) => ask_named(alloc, scene, which, text, numbers),
+    let Elements::Chars(text) = b.items() else {
+        return Err(Stop::Fault(Fault::Domain));
+    };
+    let Some(name) = Name::new(text) else {
+        return Err(Stop::Fault(Fault::Domain));
+    };
+    match global_function(scene.names, &name) {
+        Some(definition) => ask(alloc, which, name, definition, numbers),
+        None => Err(Stop::Fault(Fault::Domain)),
     }
 }
 
