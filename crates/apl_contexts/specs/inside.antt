@@ -1,3 +1,2 @@
-pub mod Changes
 pub mod Fast
 pub mod Places

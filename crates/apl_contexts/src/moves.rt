@@ -1,11 +1,9 @@
 //! What becomes of a line between two steps.
 ghost use Rattle.std.specs.Prelude.{◌≡◌};
 ghost use Rattle.apl_contexts.specs.Moves.{CanMove, moved_by};
-ghost use Rattle.apl_contexts.specs.inside.Changes.{move_of};
 
 use apl_arrays::Array;
 use apl_frames::FrameBuf;
-use apl_machine_state::Small;
 use apl_operands::Given;
 
 /// What becomes of a line.
@@ -21,35 +19,10 @@ pub enum Move {
     IsEmptied,
 }
 
-/// What becomes of a line, in whichever form it is given: some of them are written in place.
-#[derive(Drop)]
-pub(crate) enum Change {
-    Moves(Move),
-    /// One more phrase is done: it gave this, with so many operands left.
-    Gives(Small, usize),
-    /// The answer of a call has come, a number.
-    Answers(i64),
-}
-
-impl Change {
-    /// What becomes of a line.
-    #[inline(always)]
-    pub(crate) fn apply(self, line: &mut FrameBuf)
-        requires { CanMove (move_of self) line.old }
-        ensures { line.new ≡ moved_by (move_of self) line.old }
-    {
-        match self {
-            Change::Moves(change) => change.apply(line),
-            Change::Gives(small, left) => line.give_small(left, small),
-            Change::Answers(number) => line.answer_number(number),
-        }
-    }
-}
-
 impl Move {
     /// What becomes of a line.
     #[inline(always)]
-    fn apply(self, line: &mut FrameBuf)
+    pub(crate) fn apply(self, line: &mut FrameBuf)
         requires { CanMove self line.old }
         ensures { line.new ≡ moved_by self line.old }
     {

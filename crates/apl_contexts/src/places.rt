@@ -6,7 +6,7 @@ ghost use Rattle.apl_contexts.specs.inside.Places.{CanBegin, begun};
 ghost use Rattle.apl_frames.specs.Flat.{begun_flat};
 
 use crate::context::{Call, Context, Statement};
-use crate::moves::{Change, Move};
+use crate::moves::Move;
 use apl_charset::Text;
 use apl_frames::FrameBuf;
 use apl_names::DefinedFunction;
@@ -46,7 +46,7 @@ pub(crate) fn change_beneath(places: &mut Vec<Context>, count: usize, change: Mo
     ensures moved { reverse (take (count + 1) places.new.items) ≡ moved_beneath change (reverse (take (count + 1) places.old.items)) }
 {
     if count > 0 {
-        places[count - 1].change(Change::Moves(change));
+        places[count - 1].change(change);
     }
 }
 
