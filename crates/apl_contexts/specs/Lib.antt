@@ -6,3 +6,4 @@ pub mod Kept
 pub mod Known
 pub mod Typed
 pub mod Fast
+pub mod inside

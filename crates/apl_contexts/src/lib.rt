@@ -2,7 +2,6 @@
 //! how their lines begin.
 #![tactic(auto)]
 
-mod beginning;
 mod coming;
 mod context;
 mod contexts;

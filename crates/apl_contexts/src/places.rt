@@ -1,20 +1,41 @@
 //! Places for contexts, the oldest first: from one of them on they are over, and others take their room.
-ghost use Rattle.std.specs.Prelude.{◌≡◌, ◌+◌, ◌<◌, ◌≤◌, ◌∷◌, true, drop, length, reverse, take, IfOk, IfSome, OnErr, OnOk, Some};
-ghost use Rattle.apl_defn.specs.Definitions.{is_line};
+ghost use Rattle.std.specs.Prelude.{◌≡◌, ◌+◌, ◌<◌, ◌≤◌, ◌∷◌, drop, length, reverse, take, IfOk, IfSome, OnErr, OnOk};
 ghost use Rattle.apl_contexts.specs.Contexts.{line_in, moved_beneath};
 ghost use Rattle.apl_contexts.specs.Moves.{CanMove};
-ghost use Rattle.apl_contexts.specs.declared.context.Context.TheVariants as contexts;
+ghost use Rattle.apl_contexts.specs.inside.Places.{CanBegin, begun};
 ghost use Rattle.apl_frames.specs.Flat.{begun_flat};
 
 use crate::context::{Call, Context, Statement};
 use crate::moves::Move;
 use apl_charset::Text;
-use apl_frames::{FrameBuf, OperandStack};
+use apl_frames::FrameBuf;
 use apl_names::DefinedFunction;
 use apl_translate::Translated;
 use std::alloc::{AllocError, Global};
 use std::mem;
 use std::rc::Rc;
+
+/// What begins: a typed statement, a call of a function at its first line, or a text that is executed.
+#[derive(Drop)]
+pub(crate) enum Entry {
+    Statement(Text),
+    Call(DefinedFunction),
+    Execute(Text),
+}
+
+impl Entry {
+    /// The context, whose line has begun.
+    fn with(self, line: FrameBuf) -> Context
+        requires { CanBegin self }
+        ensures { result ≡ begun self line }
+    {
+        match self {
+            Entry::Statement(text) => Context::Statement(Statement { text, line }),
+            Entry::Call(function) => Context::Call(Call::new(function, 1, line)),
+            Entry::Execute(text) => Context::Execute(Statement { text, line }),
+        }
+    }
+}
 
 /// That becomes of the line of the newest of so many contexts, with another one above it.
 #[inline(always)]
@@ -75,144 +96,60 @@ fn begun(
     ensures count { count ≤ length places.new.items }
     ensures same { take count places.new.items ≡ take count places.old.items }
 {
-    let operands = match take_last(places, count) {
-        Some(over) => over.into_operands(alloc),
-        None => OperandStack::new(alloc),
-    };
-    let line = FrameBuf::over(line, operands)?;
-    Ok(line)
+    if let Some(over) = take_last(places, count) {
+        if let Some(mut room) = over.into_line() {
+            room.restart(line)?;
+            return Ok(room);
+        }
+    }
+    FrameBuf::of(alloc, line)
 }
 
-/// A call begins the first line of a function in the place behind so many, where none has the room for it.
+/// Another context begins its line in the place behind so many, where none has the room for it.
 #[inline(never)]
-fn lay_new_call(
+fn lay_new(
     places: &mut Vec<Context>,
     count: usize,
     alloc: Global,
-    function: DefinedFunction,
+    entry: Entry,
     line: Rc<Translated>,
 ) -> Result<(), AllocError>
     requires count { count ≤ length places.old.items }
-    requires line { is_line function 1 ≡ true }
-    ensures ok { OnOk result (reverse (take (count + 1) places.new.items) ≡ contexts.Call (record { definition = function; at = 1; rest = Some (begun_flat line.value.bound line.value.code) }) ∷ reverse (take count places.old.items)) }
+    requires can { CanBegin entry }
+    ensures ok { OnOk result (reverse (take (count + 1) places.new.items) ≡ begun entry (begun_flat line.value.bound line.value.code) ∷ reverse (take count places.old.items)) }
     ensures above { OnOk result (count < length places.new.items) }
     ensures count { count ≤ length places.new.items }
     ensures err { OnErr result (take count places.new.items ≡ take count places.old.items) }
 {
     let line = begun(places, count, alloc, line)?;
-    lay(places, count, Context::Call(Call::new(function, 1, line)))
+    lay(places, count, entry.with(line))
 }
 
-/// A call begins the first line of a function in the place behind so many, in the room of what lies there, which is over. After an error
-/// these stand as before.
+/// Another context begins its line in the place behind so many, in the room of what lies there, which is over. After an error these stand as
+/// before.
 #[tactic(auto, using(crate::proofs::Counted::one_more_set))]
 #[inline(always)]
-pub(crate) fn lay_call(
+pub(crate) fn lay_begun(
     places: &mut Vec<Context>,
     count: usize,
     alloc: Global,
-    function: DefinedFunction,
+    entry: Entry,
     line: Rc<Translated>,
 ) -> Result<(), AllocError>
     requires count { count ≤ length places.old.items }
-    requires line { is_line function 1 ≡ true }
-    ensures ok { OnOk result (reverse (take (count + 1) places.new.items) ≡ contexts.Call (record { definition = function; at = 1; rest = Some (begun_flat line.value.bound line.value.code) }) ∷ reverse (take count places.old.items)) }
+    requires can { CanBegin entry }
+    ensures ok { OnOk result (reverse (take (count + 1) places.new.items) ≡ begun entry (begun_flat line.value.bound line.value.code) ∷ reverse (take count places.old.items)) }
     ensures above { OnOk result (count < length places.new.items) }
     ensures count { count ≤ length places.new.items }
     ensures err { OnErr result (take count places.new.items ≡ take count places.old.items) }
 {
-    if count < places.len() {
-        if let Context::Call(over) = &mut places[count] {
-            return over.begin_first(alloc, function, line);
-        }
+    if count == places.len() {
+        return lay_new(places, count, alloc, entry, line);
     }
-    lay_new_call(places, count, alloc, function, line)
-}
-
-/// A text that is executed begins its line in the place behind so many, where none has the room for it.
-#[inline(never)]
-fn lay_new_execute(
-    places: &mut Vec<Context>,
-    count: usize,
-    alloc: Global,
-    text: Text,
-    line: Rc<Translated>,
-) -> Result<(), AllocError>
-    requires { count ≤ length places.old.items }
-    ensures ok { OnOk result (reverse (take (count + 1) places.new.items) ≡ contexts.Execute (record { text = text; line = begun_flat line.value.bound line.value.code }) ∷ reverse (take count places.old.items)) }
-    ensures above { OnOk result (count < length places.new.items) }
-    ensures count { count ≤ length places.new.items }
-    ensures err { OnErr result (take count places.new.items ≡ take count places.old.items) }
-{
-    let line = begun(places, count, alloc, line)?;
-    lay(places, count, Context::Execute(Statement { text, line }))
-}
-
-/// A text that is executed begins its line in the place behind so many, in the room of what lies there, which is over. After an error these
-/// stand as before.
-#[tactic(auto, using(crate::proofs::Counted::one_more_set))]
-#[inline(always)]
-pub(crate) fn lay_execute(
-    places: &mut Vec<Context>,
-    count: usize,
-    alloc: Global,
-    text: Text,
-    line: Rc<Translated>,
-) -> Result<(), AllocError>
-    requires { count ≤ length places.old.items }
-    ensures ok { OnOk result (reverse (take (count + 1) places.new.items) ≡ contexts.Execute (record { text = text; line = begun_flat line.value.bound line.value.code }) ∷ reverse (take count places.old.items)) }
-    ensures above { OnOk result (count < length places.new.items) }
-    ensures count { count ≤ length places.new.items }
-    ensures err { OnErr result (take count places.new.items ≡ take count places.old.items) }
-{
-    if count < places.len() {
-        if let Context::Execute(over) = &mut places[count] {
-            return over.begin(text, line);
-        }
+    match (&mut places[count], entry) {
+        (Context::Statement(over), Entry::Statement(text)) => over.begin(text, line),
+        (Context::Call(over), Entry::Call(function)) => over.begin_first(alloc, function, line),
+        (Context::Execute(over), Entry::Execute(text)) => over.begin(text, line),
+        (_, entry) => lay_new(places, count, alloc, entry, line),
     }
-    lay_new_execute(places, count, alloc, text, line)
-}
-
-/// A typed statement begins its line in the place behind so many, where none has the room for it.
-#[inline(never)]
-fn lay_new_statement(
-    places: &mut Vec<Context>,
-    count: usize,
-    alloc: Global,
-    text: Text,
-    line: Rc<Translated>,
-) -> Result<(), AllocError>
-    requires { count ≤ length places.old.items }
-    ensures ok { OnOk result (reverse (take (count + 1) places.new.items) ≡ contexts.Statement (record { text = text; line = begun_flat line.value.bound line.value.code }) ∷ reverse (take count places.old.items)) }
-    ensures above { OnOk result (count < length places.new.items) }
-    ensures count { count ≤ length places.new.items }
-    ensures err { OnErr result (take count places.new.items ≡ take count places.old.items) }
-{
-    let line = begun(places, count, alloc, line)?;
-    lay(places, count, Context::Statement(Statement { text, line }))
-}
-
-/// A typed statement begins its line in the place behind so many, in the room of what lies there, which is over. After an error these stand
-/// as before.
-#[tactic(auto, using(crate::proofs::Counted::one_more_set))]
-#[inline(always)]
-pub(crate) fn lay_statement(
-    places: &mut Vec<Context>,
-    count: usize,
-    alloc: Global,
-    text: Text,
-    line: Rc<Translated>,
-) -> Result<(), AllocError>
-    requires { count ≤ length places.old.items }
-    ensures ok { OnOk result (reverse (take (count + 1) places.new.items) ≡ contexts.Statement (record { text = text; line = begun_flat line.value.bound line.value.code }) ∷ reverse (take count places.old.items)) }
-    ensures above { OnOk result (count < length places.new.items) }
-    ensures count { count ≤ length places.new.items }
-    ensures err { OnErr result (take count places.new.items ≡ take count places.old.items) }
-{
-    if count < places.len() {
-        if let Context::Statement(over) = &mut places[count] {
-            return over.begin(text, line);
-        }
-    }
-    lay_new_statement(places, count, alloc, text, line)
 }
