@@ -86,4 +86,6 @@ def is_named(between: list[str], body: Body) -> bool:
         return False
     if not body.trait:
         return between[0] == body.type
-    return between[0] != body.type and between[0].startswith(body.type) and body.trait in between[0]
+    # (a type such as i8 has a great letter there)
+    type = body.type[:1].upper() + body.type[1:]
+    return between[0] != type and between[0].startswith(type) and body.trait in between[0]
