@@ -24,7 +24,7 @@ from types import ModuleType
 from typing import Any
 
 import crates
-from bodies import bodies, names_of
+from bodies import Body, bodies, names_of
 from definitions import functions_of, functions_on
 
 # What gives a check a lower priority than proofs have, which others wait for.
@@ -106,13 +106,17 @@ def read_mutant(path: str, folder: str, known: Iterable[str]) -> Mutant:
     return Mutant(path, pairs, frozenset(functions))
 
 
-def functions_around(text: str, file: str, old: str, known: Iterable[str]) -> set[str]:
-    """Returns those of the checker's names of functions in whose body an old text stands, if it stands in one."""
+def around(text: str, file: str, old: str) -> list[Body]:
+    """Returns the bodies in which an old text stands in a source file, the innermost last."""
     at = text.find(old)
     if not file.startswith("src/") or at < 0:
-        return set()
-    around = [it for it in bodies(text) if it.begins <= at and at + len(old.rstrip()) <= it.ends]
-    return names_of(around[-1], file, known) if around else set()
+        return []
+    return [it for it in bodies(text) if it.begins <= at and at + len(old.rstrip()) <= it.ends]
+
+
+def functions_around(text: str, file: str, old: str, known: Iterable[str]) -> set[str]:
+    """Returns those of the checker's names of functions in whose body an old text stands, if it stands in one."""
+    return {name for it in around(text, file, old)[-1:] for name in names_of(it, file, known)}
 
 
 def text_of(path: str) -> str:
@@ -167,17 +171,31 @@ def own_words(said: str, function: str) -> list[str]:
     return [line for line in said.split("\n") if place.match(line)]
 
 
-def judged(mutant: Mutant, told: dict[str, str], said: str) -> Told | None:
+def noted(said: str, mutant: Mutant, folder: str) -> list[str]:
+    """Returns the checker's notes on what is not proved in the functions whose bodies a mutant changes. (An edit moves no line.)"""
+    found = []
+    for file, old, _ in mutant.pairs:
+        text = text_of(f"{folder}/{file}")
+        for body in around(text, file, old)[-1:]:
+            head = text.rfind(f"fn {body.name}", 0, body.begins)
+            lines = range(text.count("\n", 0, head) + 1, text.count("\n", 0, body.ends) + 2)
+            notes = re.finditer(rf"(?m)^note: {re.escape(file)}:(\d+):\d+: it is not proved that.*", said)
+            found += [it[0] for it in notes if int(it[1]) in lines]
+    return found
+
+
+def judged(mutant: Mutant, told: dict[str, str], said: str, folder: str) -> Told | None:
     """Returns what a check of a batch says of one of its mutants, or None where it says nothing of it: it proves the functions that the mutant
-    changes, or it did not look at their proofs."""
+    changes, it did not look at their proofs, or it has nothing but the names in their proof files against them."""
     # a closure's name is that of its function, behind the word fn
     mine = {name: what for name, what in told.items() if any(is_within(name, it) for it in mutant.functions)}
     for name, what in mine.items():
         words = own_words(said, name)
-        others = [it for it in words if not NAMES.match(it)]
+        others = [*[it for it in words if not NAMES.match(it)], *noted(said, mutant, folder)]
         if what.startswith(("not proved", "no proof")) and (others or not HIDDEN.match(what)):
-            if words and not others and not re.search(r"(?m)^note: src/\S+: it is not proved that", said):
-                return Told(Outcome.BY_NAMES, words[0])
+            if words and not others:
+                # the whole crate may still have more against it
+                return None
             return Told(Outcome.REFUSED, (others or [f"{name}: {what}"])[0])
     for name, what in mine.items():
         if what.startswith("could not tell"):
@@ -339,7 +357,7 @@ class Trial:
         words = [word for it in functions for word in ("--only", f"{self.crate.name}::{it}")]
         status, said = self.check(texts, ["--allow-holes", *words], others)
         told = verdicts(said, self.crate.name) if status in (0, 1, 3) else {}
-        found = {mutant: judged(mutant, told, said) for mutant in mutants}
+        found = {mutant: judged(mutant, told, said, self.crate.folder) for mutant in mutants}
         return {it: what for it, what in found.items() if what}, said
 
     def together(self, mutants: list[Mutant]) -> tuple[dict[Mutant, Told], list[Mutant]]:
