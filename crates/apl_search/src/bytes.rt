@@ -7,8 +7,7 @@ ghost use Rattle.apl_scalar.specs.Functions.{number_of};
 ghost use Rattle.apl_search.specs.inside.Tables.{IsWithin};
 
 use crate::index::FEW;
-use crate::marks::mark;
-use crate::table::{Span, enter};
+use crate::table::{Span, enter, mark};
 use apl_arrays::NumberSlice;
 
 /// All bytes.
@@ -47,15 +46,6 @@ fn inspect(bytes: &[i8])
     }
 }
 
-/// A place, counted from a number on.
-#[inline(always)]
-fn counted(first: usize, place: u32) -> i32
-    requires { first + place < 2 ^ 31 }
-    ensures { result ≡ pos (first + place) }
-{
-    (first + place as usize) as i32
-}
-
 /// Writes for each byte its first place among others, or how many these are, counted from a number on.
 pub(crate) fn byte_places(sought: &[i8], among: &[i8], first: usize, places: &mut [i32])
     requires small { first + length among.now < 2 ^ 31 }
@@ -67,7 +57,7 @@ pub(crate) fn byte_places(sought: &[i8], among: &[i8], first: usize, places: &mu
     enter(&mut firsts, BYTES, NumberSlice::I8(among));
     for k in 0..places.len() {
         let slot = BYTES.slot(i64::from(sought[k]));
-        places[k] = counted(first, firsts[slot]);
+        places[k] = (first + firsts[slot] as usize) as i32;
     }
 }
 

@@ -1,14 +1,14 @@
 // Digits of numbers by bases, a row of them for each base.
-ghost use Rattle.std.specs.Prelude.{◌≡◌, ◌*◌, ◌^◌, ◌<◌, OnOk, IfErr, length, pos, slice_index_or};
+ghost use Rattle.std.specs.Prelude.{◌≡◌, ◌*◌, ◌^◌, ◌<◌, OnOk, IfErr, length, pos, slice_index_or, ◌<ℤ◌, neg_ℤ};
+ghost use Rattle.std.specs.Int.{int_div_euclid};
 ghost use Rattle.apl_arrays.specs.Answers.{Answers, FaultsFirst};
 ghost use Rattle.apl_arrays.specs.Numbers.{values};
 ghost use Rattle.apl_arrays.specs.Results.{all_ok, and_then, ok_map};
-ghost use Rattle.apl_scalar.specs.Functions.{in_range};
-ghost use Rattle.apl_search.specs.Encoded.{bases_and_numbers, digits_by, encode, encoded_shape, IsNear};
+ghost use Rattle.apl_scalar.specs.Functions.{in_range, residue};
+ghost use Rattle.apl_search.specs.Encoded.{bases_and_numbers, digits_by, encode, encoded_shape, IsNear, left_of};
 ghost use Rattle.apl_search.specs.inside.Rows.{HasDigits, KeepsBefore, LacksDigit};
 
 use crate::decoding::narrowed;
-use crate::dividing::divided;
 use apl_arrays::{
     Array, NumberSlice, NumberVec, Ravel, Stop, joined_shape, numbers_in, within_limits,
 };
@@ -92,4 +92,65 @@ pub fn encode(alloc: Global, a: &Array, b: &Array) -> Result<Array, Stop>
     let digits = digits_of(alloc, wide_bases.as_slice(), wide_numbers.as_slice())?;
     let kept = NumberVec::squeezed(alloc, digits)?;
     Ok(Array::in_shape(alloc, shape, Ravel::Nums(kept))?)
+}
+
+/// The number of the other sign.
+#[inline(always)]
+fn opposite(number: i128) -> i128
+    requires { IsNear number }
+    ensures value { result ≡ neg_ℤ number }
+    ensures near { IsNear result }
+{
+    -number
+}
+
+/// How often a positive base goes into a number, rounded down.
+///
+/// Nearly all numbers fit 64 bits, and to divide in these takes far less time than in 128.
+#[inline(always)]
+fn quotient(number: i128, base: i128) -> i128
+    requires { pos 0 <ℤ base }
+    ensures { result ≡ int_div_euclid number base }
+{
+    if let Ok(number) = i64::try_from(number) {
+        if let Ok(base) = i64::try_from(base) {
+            return number.div_euclid(base) as i128;
+        }
+    }
+    number.div_euclid(base)
+}
+
+/// What a base leaves of a number less its digit.
+#[inline(always)]
+fn left(base: i128, number: i128) -> i128
+    requires base { IsNear base }
+    requires number { IsNear number }
+    ensures value { result ≡ left_of base number }
+    ensures near { IsNear result }
+{
+    if base == 0 {
+        return 0;
+    }
+    if base > 0 {
+        quotient(number, base)
+    } else {
+        let turned = opposite(number);
+        let up = opposite(base);
+        quotient(turned, up)
+    }
+}
+
+/// The digit of a number by a base, and what the base leaves of it.
+#[inline(always)]
+fn divided(base: i128, number: i128) -> (i128, i128)
+    requires base { IsNear base }
+    requires number { IsNear number }
+    ensures digit { result.0 ≡ residue base number }
+    ensures rest { result.1 ≡ left_of base number }
+    ensures near { IsNear result.1 }
+{
+    let rest = left(base, number);
+    let product = base * rest;
+    let digit = number - product;
+    (digit, rest)
 }

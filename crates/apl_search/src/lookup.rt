@@ -1,21 +1,28 @@
 // Items looked up among others.
-ghost use Rattle.std.specs.Prelude.{◌≡◌, ◌+◌, ◌<◌, ◌≤◌, ◌^◌, length, map, pos, IfOk};
+ghost use Rattle.std.specs.Prelude.{◌≡◌, ◌+◌, ◌<◌, ◌≤◌, ◌^◌, length, map, pos, IfOk, ◌==◌, Ok};
 ghost use Rattle.std.specs.Ordering.{int_eq};
 ghost use Rattle.std.specs.List.{list_any, position_or_len};
 ghost use Rattle.apl_arrays.specs.Numbers.{values};
 ghost use Rattle.apl_arrays.specs.Origins.{origin_number};
+ghost use Rattle.apl_arrays.specs.Answers.{Answers, FaultsFirst};
+ghost use Rattle.apl_arrays.specs.Cells.{cells_of};
+ghost use Rattle.apl_arrays.specs.Checks.{demand};
+ghost use Rattle.apl_arrays.specs.Left.{listed};
 ghost use Rattle.apl_scalar.specs.Functions.{number_of};
 ghost use Rattle.apl_search.specs.inside.Tables.{IsIndexOf, IsStandingOf};
+ghost use Rattle.apl_search.specs.Found.{index_of, places_from, membership, verdicts_in};
 
 use crate::bytes::{both_bytes, byte_places, bytes_standing};
-use crate::index::Index;
-use crate::standing::Standing;
-use apl_arrays::{Lane, MAX_ELEMENTS, NumberSlice, Origin};
+use crate::index::{Index, Standing};
+use apl_arrays::{
+    Array, Elements, Lane, MAX_ELEMENTS, NumberSlice, NumberVec, Origin, Ravel, Stop,
+};
 use apl_charset::Ch;
+use apl_faults::Fault;
 use std::alloc::{AllocError, Global};
 
 /// The codes of characters.
-pub(crate) fn codes_of(alloc: Global, characters: &[Ch]) -> Result<Vec<i32>, AllocError>
+fn codes_of(alloc: Global, characters: &[Ch]) -> Result<Vec<i32>, AllocError>
     ensures { IfOk result (λ v. v.items ≡ map pos characters.now) }
 {
     let mut codes = Vec::with_capacity(alloc, characters.len())?;
@@ -26,7 +33,7 @@ pub(crate) fn codes_of(alloc: Global, characters: &[Ch]) -> Result<Vec<i32>, All
 }
 
 /// For each number its first place among others, or how many these are, counted from the index origin.
-pub(crate) fn places_among(
+fn places_among(
     alloc: Global,
     sought: NumberSlice<'_>,
     among: NumberSlice<'_>,
@@ -92,7 +99,7 @@ fn write_places<L: Lane>(
 }
 
 /// For each number 1 where it stands among others, else 0.
-pub(crate) fn standing_among(
+fn standing_among(
     alloc: Global,
     sought: NumberSlice<'_>,
     among: NumberSlice<'_>,
@@ -148,4 +155,94 @@ fn write_verdicts<L: Lane>(
     for k in 0..verdicts.len() {
         verdicts[k] = i8::from(standing.has(among, sought[k].wide()));
     }
+}
+
+/// For each item its first place among others, or how many these are, counted from the index origin.
+fn places_in(
+    alloc: Global,
+    sought: Elements<'_>,
+    among: Elements<'_>,
+    origin: Origin,
+) -> Result<Vec<i32>, AllocError>
+    requires { length (cells_of (listed among)) ≤ MAX_ELEMENTS }
+    ensures { IfOk result (λ v. v.items ≡ places_from (origin_number origin) (listed among.entry) (listed sought.entry)) }
+{
+    let none = (origin.number() + among.len()) as i32;
+    match among {
+        Elements::Nums(among) => match sought {
+            Elements::Nums(sought) => places_among(alloc, sought, among, origin),
+            Elements::Chars(sought) => vec![in alloc; none; sought.len()],
+        },
+        Elements::Chars(among) => match sought {
+            Elements::Nums(sought) => vec![in alloc; none; sought.len()],
+            Elements::Chars(sought) => {
+                let among = codes_of(alloc, among)?;
+                let sought = codes_of(alloc, sought)?;
+                let (sought, among) = (sought.as_slice(), among.as_slice());
+                places_among(
+                    alloc,
+                    NumberSlice::I32(sought),
+                    NumberSlice::I32(among),
+                    origin,
+                )
+            }
+        },
+    }
+}
+
+/// An array of one axis, or a rank fault.
+fn one_axis(a: &Array) -> Result<(), Fault>
+    ensures { result ≡ demand (length a.now.shape == 1) Fault.Rank }
+{
+    if a.rank() == 1 {
+        Ok(())
+    } else {
+        Err(Fault::Rank)
+    }
+}
+
+/// For each item of `b` its first place in the vector `a`, counted from the index origin, or the place behind the last, in the shape of `b`.
+/// A character is never equal to a number.
+///
+/// Another count of axes of `a` than 1 is a rank fault, before memory is asked for.
+pub fn index_of(alloc: Global, a: &Array, b: &Array, origin: Origin) -> Result<Array, Stop>
+    ensures value { Answers (λ r. r) (index_of a.now b.now (origin_number origin)) result }
+    ensures at_once { FaultsFirst (index_of a.now b.now (origin_number origin)) result }
+{
+    one_axis(a)?;
+    let places = places_in(alloc, b.items(), a.items(), origin)?;
+    Ok(b.with_ravel(alloc, Ravel::Nums(NumberVec::I32(places)))?)
+}
+
+/// For each item 1 where it stands among others, else 0.
+fn standing_in(
+    alloc: Global,
+    sought: Elements<'_>,
+    among: Elements<'_>,
+) -> Result<Vec<i8>, AllocError>
+    ensures { IfOk result (λ v. v.items ≡ verdicts_in (listed sought.entry) (listed among.entry)) }
+{
+    match among {
+        Elements::Nums(among) => match sought {
+            Elements::Nums(sought) => standing_among(alloc, sought, among),
+            Elements::Chars(sought) => vec![in alloc; 0i8; sought.len()],
+        },
+        Elements::Chars(among) => match sought {
+            Elements::Nums(sought) => vec![in alloc; 0i8; sought.len()],
+            Elements::Chars(sought) => {
+                let among = codes_of(alloc, among)?;
+                let sought = codes_of(alloc, sought)?;
+                let (sought, among) = (sought.as_slice(), among.as_slice());
+                standing_among(alloc, NumberSlice::I32(sought), NumberSlice::I32(among))
+            }
+        },
+    }
+}
+
+/// For each item of `a` 1 where it stands in `b`, else 0, in the shape of `a`. A character is never equal to a number. There is no fault.
+pub fn member(alloc: Global, a: &Array, b: &Array) -> Result<Array, Stop>
+    ensures { Answers (λ r. r) (Ok (membership a.now b.now)) result }
+{
+    let verdicts = standing_in(alloc, a.items(), b.items())?;
+    Ok(a.with_ravel(alloc, Ravel::Nums(NumberVec::I8(verdicts)))?)
 }

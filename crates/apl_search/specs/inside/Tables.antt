@@ -5,11 +5,11 @@ use Rattle.std.specs.Ordering.{int_eq}
 use Rattle.std.specs.List.{All, list_any, position_or_len}
 use Rattle.apl_search.specs.declared.table.Span.{Span}
 use Rattle.apl_search.specs.declared.table.Table.{Table}
-use Rattle.apl_search.specs.declared.marks.Marks.{Marks}
+use Rattle.apl_search.specs.declared.table.Marks.{Marks}
 use Rattle.apl_search.specs.declared.index.Index.{Index}
 use Rattle.apl_search.specs.declared.index.Index.TheVariants.{Unlisted, Close, Sorted}
-use Rattle.apl_search.specs.declared.standing.Standing.{Standing}
-use Rattle.apl_search.specs.declared.standing.Standing.TheVariants.{Marked, Placed}
+use Rattle.apl_search.specs.declared.index.Standing.{Standing}
+use Rattle.apl_search.specs.declared.index.Standing.TheVariants.{Marked, Placed}
 use Rattle.apl_search.specs.Ordered.{Lists}
 
 -- a number from the smallest to the largest of a span
