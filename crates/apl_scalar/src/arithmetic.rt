@@ -44,12 +44,12 @@ impl Scalar for Negation {
 impl InLanes for Negation {
     #[inline(always)]
     fn flagged<L: Computed>(_x: L, y: L) -> (L, L) {
-        L::flagged_difference(L::of(0), y)
+        L::flagged_difference(L::zero(), y)
     }
 
     #[inline(always)]
     fn widened<L: Narrow>(_x: L, y: L) -> L::Wider {
-        L::wide_difference(L::of(0), y)
+        L::wide_difference(L::zero(), y)
     }
 }
 
@@ -66,28 +66,21 @@ impl Scalar for Sign {
 
 /// The sign of a number.
 #[inline(always)]
-fn sign_of<L: Lane>(y: L) -> i8
-    ensures { monadic_of one.Times (L.value y) ≡ Ok result }
+fn sign_of<L: Lane>(y: L) -> L
+    ensures { monadic_of one.Times (L.value y) ≡ Ok (L.value result) }
 {
-    let y = y.wide();
-    if 0 < y {
-        1
-    } else if y < 0 {
-        -1
-    } else {
-        0
-    }
+    L::low(y.wide().signum())
 }
 
 impl InLanes for Sign {
     #[inline(always)]
     fn flagged<L: Computed>(_x: L, y: L) -> (L, L) {
-        (L::of(sign_of(y)), L::of(0))
+        (sign_of(y), L::zero())
     }
 
     #[inline(always)]
     fn widened<L: Narrow>(_x: L, y: L) -> L::Wider {
-        L::of(sign_of(y)).widen()
+        sign_of(y).widen()
     }
 }
 
@@ -107,7 +100,7 @@ impl InLanes for Magnitude {
     fn flagged<L: Computed>(_x: L, y: L) -> (L, L) {
         // What is read fits its lane.
         let _number = y.wide();
-        let (negated, flag) = L::flagged_difference(L::of(0), y);
+        let (negated, flag) = L::flagged_difference(L::zero(), y);
         (y.greater(negated), flag)
     }
 
@@ -115,7 +108,7 @@ impl InLanes for Magnitude {
     fn widened<L: Narrow>(_x: L, y: L) -> L::Wider {
         // What is read fits its lane.
         let _number = y.wide();
-        y.widen().greater(L::wide_difference(L::of(0), y))
+        y.widen().greater(L::wide_difference(L::zero(), y))
     }
 }
 
@@ -250,7 +243,7 @@ impl Scalar for Maximum {
 impl InLanes for Maximum {
     #[inline(always)]
     fn flagged<L: Computed>(x: L, y: L) -> (L, L) {
-        (x.greater(y), L::of(0))
+        (x.greater(y), L::zero())
     }
 
     #[inline(always)]
@@ -274,7 +267,7 @@ impl Scalar for Minimum {
 impl InLanes for Minimum {
     #[inline(always)]
     fn flagged<L: Computed>(x: L, y: L) -> (L, L) {
-        (x.lesser(y), L::of(0))
+        (x.lesser(y), L::zero())
     }
 
     #[inline(always)]

@@ -183,7 +183,7 @@ fn push_by_second<L: Computed, M: Lane, K: Kernel<L, M>, const N: usize>(
         Source::One(_) | Source::Lies(_) => {
             push_laid::<L, M, K>(out, a, room, b, &mut [], count)
         }
-        Source::Narrow(_) => push_laid::<L, M, K>(out, a, room, b, &mut [L::of(0); N], count),
+        Source::Narrow(_) => push_laid::<L, M, K>(out, a, room, b, &mut [L::zero(); N], count),
     }
 }
 
@@ -212,7 +212,7 @@ fn push_in_room<L: Computed, M: Lane, K: Kernel<L, M>, const N: usize>(
         Source::One(_) | Source::Lies(_) => {
             push_by_second::<L, M, K, N>(out, a, &mut [], b, count)
         }
-        Source::Narrow(_) => push_by_second::<L, M, K, N>(out, a, &mut [L::of(0); N], b, count),
+        Source::Narrow(_) => push_by_second::<L, M, K, N>(out, a, &mut [L::zero(); N], b, count),
     }
 }
 

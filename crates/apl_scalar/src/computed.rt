@@ -13,9 +13,12 @@ use apl_arrays::{Lane, NumberSlice};
 
 /// A lane in which values are computed. A flag is a number of the lane, which is negative exactly where a value doesn't fit.
 pub(crate) trait Computed: Lane {
-    /// A small number.
-    fn of(number: i8) -> Self
-        ensures { Self.value result ≡ number };
+    #[inline(always)]
+    fn zero() -> Self
+        ensures { Self.value result ≡ pos 0 }
+    {
+        Self::low(0)
+    }
 
     /// Numbers of this lane or of a narrower one; none where they are stored in a wider one.
     fn source(numbers: NumberSlice<'_>) -> Option<Source<'_, Self>>
@@ -56,11 +59,6 @@ pub(crate) trait Computed: Lane {
 
 impl Computed for i8 {
     #[inline(always)]
-    fn of(number: i8) -> i8 {
-        number
-    }
-
-    #[inline(always)]
     fn source(numbers: NumberSlice<'_>) -> Option<Source<'_, i8>> {
         match numbers {
             NumberSlice::I8(raw) => Some(Source::Lies(raw)),
@@ -94,11 +92,6 @@ impl Computed for i8 {
 }
 
 impl Computed for i32 {
-    #[inline(always)]
-    fn of(number: i8) -> i32 {
-        i32::from(number)
-    }
-
     #[inline(always)]
     fn source(numbers: NumberSlice<'_>) -> Option<Source<'_, i32>> {
         match numbers {
@@ -136,11 +129,6 @@ impl Computed for i32 {
 }
 
 impl Computed for i64 {
-    #[inline(always)]
-    fn of(number: i8) -> i64 {
-        i64::from(number)
-    }
-
     #[inline(always)]
     fn source(numbers: NumberSlice<'_>) -> Option<Source<'_, i64>> {
         match numbers {

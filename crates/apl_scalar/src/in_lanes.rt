@@ -37,7 +37,7 @@ pub(crate) trait InLanes: Scalar {
         ensures values { IsTrue result → AreValues Self.meaning (X.number x) (Y.number y) (L.numbers out.new) }
         ensures none { IsFalse result → SomeHasNoneIn L.width Self.meaning (X.number x) (Y.number y) (length out.new) }
     {
-        let mut flags = L::of(0);
+        let mut flags = L::zero();
         for i in 0..out.len() {
             let (value, flag) = Self::flagged(x.at(i), y.at(i));
             out[i] = value;

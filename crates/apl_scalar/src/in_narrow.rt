@@ -24,7 +24,7 @@ pub(crate) trait InNarrow: InWide {
         requires y { (k : ℕ) → k < length out.old → Y.has y k }
         ensures { IsTrue result → AreValues Self.meaning (X.number x) (Y.number y) (L.numbers out.new) }
     {
-        let mut flags = L::of(0);
+        let mut flags = L::zero();
         for i in 0..out.len() {
             let (value, flag) = Self::divided(x.at(i), y.at(i));
             out[i] = value;

@@ -84,7 +84,7 @@ impl<C: Connective> Tells for Logical<C> {
     // All numbers in one are 0 or 1 where each of them is.
     #[inline(always)]
     fn fill_told<L: Computed, X: Line<L>, Y: Line<L>>(x: X, y: Y, out: &mut [i8]) -> bool {
-        let mut all = L::of(0);
+        let mut all = L::zero();
         for i in 0..out.len() {
             out[i] = told_bits::<C>(x.at(i).wide(), y.at(i).wide());
             all = L::either(all, L::either(x.at(i), y.at(i)));
