@@ -44,16 +44,15 @@ impl<F: Scalar> Kept<F> for Ends {
     }
 
     #[inline(always)]
-    fn told(self, number: i64) -> Option<i64> {
-        with::<F>(self, number)
-    }
-
-    #[inline(always)]
-    fn next(self, number: i64, _fold: i64) -> Ends {
-        Ends {
+    fn then(self, number: i64) -> Option<(i64, Ends)> {
+        let Some(fold) = with::<F>(self, number) else {
+            return None;
+        };
+        let next = Ends {
             last: Some(number),
             zero: with::<F>(self, 0),
             one: with::<F>(self, 1),
-        }
+        };
+        Some((fold, next))
     }
 }

@@ -16,14 +16,8 @@ pub(crate) trait Kept<F: Scalar>: Copy {
     fn none() -> Self
         ensures { knows result [] };
 
-    /// The fold with a number more. Where it is not told, it has to be made anew, and so have those of more numbers.
-    fn told(self, number: i64) -> Option<i64>
+    /// The fold with a number more, and what is then kept. Where it is not told, it has to be made anew, and so have those of more numbers.
+    fn then(self, number: i64) -> Option<(i64, Self)>
         ensures tells { IsSome result ↔ tells self number }
-        ensures fold { IfSome result (λ fold. (numbers : List ℤ) → knows self numbers → fold_by F.meaning (numbers ++ number ∷ []) ≡ Ok fold) };
-
-    /// What is kept with a number more, of which the fold was told.
-    fn next(self, number: i64, fold: i64) -> Self
-        requires told { tells self number }
-        requires fold { (numbers : List ℤ) → knows self numbers → fold_by F.meaning (numbers ++ number ∷ []) ≡ Ok fold }
-        ensures { (numbers : List ℤ) → knows self numbers → knows result (numbers ++ number ∷ []) };
+        ensures told { IfSome result (λ told. (numbers : List ℤ) → knows self numbers → (fold_by F.meaning (numbers ++ number ∷ []) ≡ Ok told.0) × knows told.1 (numbers ++ number ∷ [])) };
 }

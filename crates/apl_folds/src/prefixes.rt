@@ -38,11 +38,11 @@ fn tell_line<F: Scalar, K: Kept<F>, L: Lane>(
     let mut kept = K::none();
     for k in 0..axis.length {
         let number = number_at(numbers, from + k);
-        let Some(fold) = kept.told(number) else {
+        let Some(told) = kept.then(number) else {
             return k;
         };
-        out[from + k] = fold;
-        kept = kept.next(number, fold);
+        out[from + k] = told.0;
+        kept = told.1;
     }
     axis.length
 }
@@ -101,11 +101,11 @@ fn tell_row<F: Scalar, K: Kept<F>, L: Lane>(
     for j in 0..all.len() {
         let number = number_at(numbers, from + j);
         let kept = kept_at::<F, K>(index, all[j]);
-        let Some(fold) = kept.told(number) else {
+        let Some(told) = kept.then(number) else {
             return j;
         };
-        out[from + j] = fold;
-        all[j] = kept.next(number, fold);
+        out[from + j] = told.0;
+        all[j] = told.1;
     }
     all.len()
 }

@@ -87,16 +87,12 @@ impl Kept<Product> for Scale {
     }
 
     #[inline(always)]
-    fn told(self, number: i64) -> Option<i64> {
+    fn then(self, number: i64) -> Option<(i64, Scale)> {
         if is_small(self, number) {
-            Some(times(self.product, number))
+            let product = times(self.product, number);
+            Some((product, with(self, number, product)))
         } else {
             None
         }
-    }
-
-    #[inline(always)]
-    fn next(self, number: i64, fold: i64) -> Scale {
-        with(self, number, fold)
     }
 }

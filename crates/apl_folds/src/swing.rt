@@ -1,5 +1,5 @@
 // Folds by addition and by subtraction, each from the one before it.
-ghost use Rattle.std.specs.Prelude.{◌≡◌, ◌+ℤ◌, FitsSigned, false};
+ghost use Rattle.std.specs.Prelude.{◌≡◌, ◌↔◌, ◌+ℤ◌, FitsSigned, IfSome, IsSome, false};
 ghost use Rattle.std.specs.Int.{w64};
 ghost use Rattle.apl_scalar.specs.declared.function.Dyadic.TheVariants as two;
 ghost use Rattle.apl_scalar.specs.Functions.{dyadic_of};
@@ -18,15 +18,18 @@ pub(crate) struct Swing {
     greatest: i64,
 }
 
-/// A fold with a number more, or less it.
+/// The fold with a number more, or less it, if that may come next.
 #[inline(always)]
-fn with(fold: i64, less: bool, number: i64) -> i64
-    ensures { FitsSigned w64 (fold +ℤ signed less number) → result ≡ fold +ℤ signed less number }
+fn with(swing: Swing, number: i64) -> Option<i64>
+    ensures within { IsSome result ↔ IsWithin swing number }
+    ensures fold { IfSome result (λ fold. FitsSigned w64 (swing.fold +ℤ signed swing.less number) → fold ≡ swing.fold +ℤ signed swing.less number) }
 {
-    if less {
-        fold.wrapping_sub(number)
+    if number < swing.least || swing.greatest < number {
+        None
+    } else if swing.less {
+        Some(swing.fold.wrapping_sub(number))
     } else {
-        fold.wrapping_add(number)
+        Some(swing.fold.wrapping_add(number))
     }
 }
 
@@ -46,21 +49,17 @@ impl Kept<Sum> for Swing {
     }
 
     #[inline(always)]
-    fn told(self, number: i64) -> Option<i64> {
-        if number < self.least || self.greatest < number {
+    fn then(self, number: i64) -> Option<(i64, Swing)> {
+        let Some(fold) = with(self, number) else {
             return None;
-        }
-        Some(with(self.fold, self.less, number))
-    }
-
-    #[inline(always)]
-    fn next(self, number: i64, fold: i64) -> Swing {
-        Swing {
+        };
+        let next = Swing {
             fold,
             less: self.less,
             least: self.least.saturating_sub(number),
             greatest: self.greatest.saturating_sub(number),
-        }
+        };
+        Some((fold, next))
     }
 }
 
@@ -75,20 +74,16 @@ impl Kept<Difference> for Swing {
     }
 
     #[inline(always)]
-    fn told(self, number: i64) -> Option<i64> {
-        if number < self.least || self.greatest < number {
+    fn then(self, number: i64) -> Option<(i64, Swing)> {
+        let Some(fold) = with(self, number) else {
             return None;
-        }
-        Some(with(self.fold, self.less, number))
-    }
-
-    #[inline(always)]
-    fn next(self, number: i64, fold: i64) -> Swing {
-        Swing {
+        };
+        let next = Swing {
             fold,
             less: !self.less,
             least: number.saturating_sub(self.greatest),
             greatest: number.saturating_sub(self.least),
-        }
+        };
+        Some((fold, next))
     }
 }

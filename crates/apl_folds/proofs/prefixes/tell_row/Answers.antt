@@ -22,7 +22,7 @@ loop-j-preserved g c =
     let zs : List ℤ = g.L.Lane.numbers c.args.numbers.now in
     let fits : SFits w64 c.number_at-number.result = search rules in
     let here : to_z w64 (of_z w64 c.number_at-number.result) ≡ get_or zs q (pos 0) = to_z-of_z w64 c.number_at-number.result fits ∙ c.number_at-number.ensures in
-    let fits_fold : SFits w64 c.in-Some.fold = search rules in
+    let fits_fold : SFits w64 c.in-Some.told.0 = search rules in
     let column : c.loop-j.j < c.args.axis.up = omega (arith, c.loop-j.invariant.columns, c.requires.columns) in
     let index : index_along c.args.axis q ≡ c.args.row % c.args.axis.length = index_in_row c.args.axis c.args.row q (omega arith) (omega arith) in
     let known : g.K.Kept.knows c.kept_at-kept.result (before zs c.args.axis q) =
@@ -32,21 +32,21 @@ loop-j-preserved g c =
     let P : g.row.K.Denot → Type 0 = λ k. g.K.Kept.knows k (before zs c.args.axis q) in
     subst P (sym (c.kept_at-kept.ensures.later l)) (subst P (sym c.index-all-j.is) (c.loop-j.invariant.left l c.loop-j.j c.index-all-j.result (omega arith) (omega arith))))
     in
-    let Told : ℤ → Type 0 = λ x. fold_by g.F.Scalar.meaning (before zs c.args.axis q ++ x ∷ []) ≡ Ok c.in-Some.fold in
-    let told : prefix_fold g.F.Scalar.meaning zs c.args.axis q ≡ Ok c.in-Some.fold =
-    prefix_told g.F.Scalar.meaning zs c.args.axis q c.in-Some.fold c.requires.whole.forward (subst Told here (c.in-Some.ensures.fold (before zs c.args.axis q) known)) in
-    let Next : ℤ → Type 0 = λ x. g.K.Kept.knows c.next.result (before zs c.args.axis q ++ x ∷ []) in
-    let next : g.K.Kept.knows c.next.result (before zs c.args.axis q ++ get_or zs q (pos 0) ∷ []) = subst Next here (c.next.ensures (before zs c.args.axis q) known) in
+    let Told : ℤ → Type 0 = λ x. fold_by g.F.Scalar.meaning (before zs c.args.axis q ++ x ∷ []) ≡ Ok c.in-Some.told.0 in
+    let told : prefix_fold g.F.Scalar.meaning zs c.args.axis q ≡ Ok c.in-Some.told.0 =
+    prefix_told g.F.Scalar.meaning zs c.args.axis q c.in-Some.told.0 c.requires.whole.forward (subst Told here (c.in-Some.ensures.told (before zs c.args.axis q) known).0) in
+    let Next : ℤ → Type 0 = λ x. g.K.Kept.knows c.in-Some.told.1 (before zs c.args.axis q ++ x ∷ []) in
+    let next : g.K.Kept.knows c.in-Some.told.1 (before zs c.args.axis q ++ get_or zs q (pos 0) ∷ []) = subst Next here (c.in-Some.ensures.told (before zs c.args.axis q) known).1 in
     record {
-      columns = length-set c.loop-j.all c.loop-j.j c.next.result ∙ c.loop-j.invariant.columns;
-      size = length-set c.loop-j.out q (to_z w64 (of_z w64 c.in-Some.fold)) ∙ c.loop-j.invariant.size;
+      columns = length-set c.loop-j.all c.loop-j.j c.in-Some.told.1 ∙ c.loop-j.invariant.columns;
+      size = length-set c.loop-j.out q (to_z w64 (of_z w64 c.in-Some.told.0)) ∙ c.loop-j.invariant.size;
       done = λ i d h.
-          filled_more d (λ i k. g.K.Kept.knows k (before zs c.args.axis (from + i) ++ get_or zs (from + i) (pos 0) ∷ [])) c.loop-j.all c.loop-j.j c.next.result (omega arith) next
+          filled_more d (λ i k. g.K.Kept.knows k (before zs c.args.axis (from + i) ++ get_or zs (from + i) (pos 0) ∷ [])) c.loop-j.all c.loop-j.j c.in-Some.told.1 (omega arith) next
           (λ k l. c.loop-j.invariant.done k d l) i h;
       left = λ l i d a b.
-          other_stays d (λ k. g.K.Kept.knows k (before zs c.args.axis (from + i))) c.loop-j.all c.loop-j.j i c.next.result (omega arith)
-          (c.loop-j.invariant.left l i d (omega arith) (omega (arith, length-set c.loop-j.all c.loop-j.j c.next.result)));
+          other_stays d (λ k. g.K.Kept.knows k (before zs c.args.axis (from + i))) c.loop-j.all c.loop-j.j i c.in-Some.told.1 (omega arith)
+          (c.loop-j.invariant.left l i d (omega arith) (omega (arith, length-set c.loop-j.all c.loop-j.j c.in-Some.told.1)));
       prefixes = λ p h.
-          filled_more (pos 0) (λ i z. prefix_fold g.F.Scalar.meaning zs c.args.axis i ≡ Ok z) c.loop-j.out q (to_z w64 (of_z w64 c.in-Some.fold)) (omega (arith, c.loop-j.invariant.size, c.requires.size, next_row c.args.row c.args.axis.up))
-          (told ∙ ap (λ (z : ℤ). Ok z) (sym (to_z-of_z w64 c.in-Some.fold fits_fold))) c.loop-j.invariant.prefixes p (omega arith);
+          filled_more (pos 0) (λ i z. prefix_fold g.F.Scalar.meaning zs c.args.axis i ≡ Ok z) c.loop-j.out q (to_z w64 (of_z w64 c.in-Some.told.0)) (omega (arith, c.loop-j.invariant.size, c.requires.size, next_row c.args.row c.args.axis.up))
+          (told ∙ ap (λ (z : ℤ). Ok z) (sym (to_z-of_z w64 c.in-Some.told.0 fits_fold))) c.loop-j.invariant.prefixes p (omega arith);
     }
