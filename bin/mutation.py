@@ -193,7 +193,7 @@ def judged(mutant: Mutant, told: dict[str, str], said: str, folder: str) -> Told
         words = own_words(said, name)
         others = [*[it for it in words if not NAMES.match(it)], *noted(said, mutant, folder)]
         if what.startswith(("not proved", "no proof")) and (others or not HIDDEN.match(what)):
-            if words and not others:
+            if words and not others and not re.search(r"(?m)^note: src/\S+: it is not proved that", said):
                 # the whole crate may still have more against it
                 return None
             return Told(Outcome.REFUSED, (others or [f"{name}: {what}"])[0])
