@@ -1,7 +1,7 @@
 // Devices over the streams of std.
 ghost use Rattle.std.specs.Prelude.{◌≡◌, ◌≢◌, ◌==◌, not, ℕ, ◌<◌, ◌≤◌, Bool, true, false, take, length, IfOk, OnOk, OnErr};
 ghost use Rattle.std.specs.Io.{appended_bytes};
-ghost use Rattle.std.specs.Io.KnownBytes.{Consumes, ReadConsumes, WriteAppends};
+ghost use Rattle.std.specs.Io.KnownBytes.{Consumes, IsAtEnd, ReadConsumes, WriteAppends};
 ghost use Rattle.std.specs.List.{list_all};
 ghost use Rattle.apl_devices.specs.Devices.{TakesPiece};
 
@@ -57,6 +57,7 @@ impl<T: BufRead> Source for Device<T> {
     fn take_piece(&mut self, line: &mut Vec<u8>, most: usize) -> Result<bool, Failed>
         ensures piece { TakesPiece most line.old.items line.new.items }
         ensures stream { Consumes (T.remaining self.old.stream) (T.remaining self.new.stream) (appended_bytes line.old.items line.new.items) }
+        ensures end { IfOk result (λ more. more ≡ false → IsAtEnd (T.remaining self.old.stream)) }
         ensures fine { OnOk result (self.new.failed ≡ self.old.failed) }
         ensures failed { OnErr result (self.new.failed ≡ true) }
         ensures none { OnErr result (line.new.items ≡ line.old.items) }
