@@ -72,28 +72,28 @@ magnitudes_more [] x = omega arith
 magnitudes_more (y ∷ ys) x = omega (arith, magnitudes_more ys x)
 
 -- one more number of a block
-small_more : (xs : List ℤ) (x sum next : ℤ) (i bound spread wide : ℕ) → (bound < 2 ^ 55 → (sum ≡ total xs) × (magnitudes xs ≤ i * 2 ^ 54)) →
-    (FitsSigned w64 (sum +ℤ x) → next ≡ sum +ℤ x) → (spread < 2 ^ 55 → unsigned_abs x ≤ 2 ^ 54) → bound ≤ wide → spread ≤ wide → i < 256 → wide < 2 ^ 55 →
-    (next ≡ total (xs ++ x ∷ [])) × (magnitudes (xs ++ x ∷ []) ≤ (i + 1) * 2 ^ 54)
+small_more : (xs : List ℤ) (x sum next : ℤ) (i bound spread wide : ℕ) → (bound < 2 ^ 52 → (sum ≡ total xs) × (magnitudes xs ≤ i * 2 ^ 51)) →
+    (FitsSigned w64 (sum +ℤ x) → next ≡ sum +ℤ x) → (spread < 2 ^ 52 → unsigned_abs x ≤ 2 ^ 51) → bound ≤ wide → spread ≤ wide → i < 2048 → wide < 2 ^ 52 →
+    (next ≡ total (xs ++ x ∷ [])) × (magnitudes (xs ++ x ∷ []) ≤ (i + 1) * 2 ^ 51)
 small_more xs x sum next i bound spread wide before added small hb hs l h =
-    let low : bound < 2 ^ 55 = omega arith in
-    let b : (sum ≡ total xs) × (magnitudes xs ≤ i * 2 ^ 54) = before low in
-    let near : spread < 2 ^ 55 = omega arith in
-    let s : unsigned_abs x ≤ 2 ^ 54 = small near in
-    let m : magnitudes (xs ++ x ∷ []) ≤ (i + 1) * 2 ^ 54 = omega (arith, b.1, magnitudes_more xs x) in
+    let low : bound < 2 ^ 52 = omega arith in
+    let b : (sum ≡ total xs) × (magnitudes xs ≤ i * 2 ^ 51) = before low in
+    let near : spread < 2 ^ 52 = omega arith in
+    let s : unsigned_abs x ≤ 2 ^ 51 = small near in
+    let m : magnitudes (xs ++ x ∷ []) ≤ (i + 1) * 2 ^ 51 = omega (arith, b.1, magnitudes_more xs x) in
     let t : sum +ℤ x ≡ total (xs ++ x ∷ []) = ap (λ (s : ℤ). s +ℤ x) b.0 ∙ sym (total_more xs x) in
     let fits : unsigned_abs (total (xs ++ x ∷ [])) < 2 ^ 63 = omega (arith, total_small (xs ++ x ∷ [])) in
     (added (fits_along (sum +ℤ x) (total (xs ++ x ∷ [])) t fits) ∙ t, m)
 
-pub small_step : (xs : List ℤ) (i : ℕ) (sum next : ℤ) (bound spread wide : ℕ) → (bound < 2 ^ 55 → (sum ≡ total (take i xs)) × (magnitudes (take i xs) ≤ i * 2 ^ 54)) →
-    (FitsSigned w64 (sum +ℤ get_or xs i (pos 0)) → next ≡ sum +ℤ get_or xs i (pos 0)) → (spread < 2 ^ 55 → unsigned_abs (get_or xs i (pos 0)) ≤ 2 ^ 54) → bound ≤ wide → spread ≤ wide →
-    i < length xs → length xs ≤ 256 → wide < 2 ^ 55 → (next ≡ total (take (i + 1) xs)) × (magnitudes (take (i + 1) xs) ≤ (i + 1) * 2 ^ 54)
+pub small_step : (xs : List ℤ) (i : ℕ) (sum next : ℤ) (bound spread wide : ℕ) → (bound < 2 ^ 52 → (sum ≡ total (take i xs)) × (magnitudes (take i xs) ≤ i * 2 ^ 51)) →
+    (FitsSigned w64 (sum +ℤ get_or xs i (pos 0)) → next ≡ sum +ℤ get_or xs i (pos 0)) → (spread < 2 ^ 52 → unsigned_abs (get_or xs i (pos 0)) ≤ 2 ^ 51) → bound ≤ wide → spread ≤ wide →
+    i < length xs → length xs ≤ 2048 → wide < 2 ^ 52 → (next ≡ total (take (i + 1) xs)) × (magnitudes (take (i + 1) xs) ≤ (i + 1) * 2 ^ 51)
 small_step xs i sum next bound spread wide before added small hb hs l n h =
-    let P : List ℤ → Type 0 = λ ys. (next ≡ total ys) × (magnitudes ys ≤ (i + 1) * 2 ^ 54) in
+    let P : List ℤ → Type 0 = λ ys. (next ≡ total ys) × (magnitudes ys ≤ (i + 1) * 2 ^ 51) in
     subst P (sym (take_more xs i (pos 0) l)) (small_more (take i xs) (get_or xs i (pos 0)) sum next i bound spread wide before added small hb hs (omega arith) h)
 
 -- a block that is small before numbers of which the fold is no more than 2 ^ 62
-pub small_block : (xs rest : List ℤ) (z sum next : ℤ) → (sum ≡ total xs) × (magnitudes xs ≤ length xs * 2 ^ 54) → length xs ≤ 256 → unsigned_abs z < 2 ^ 62 →
+pub small_block : (xs rest : List ℤ) (z sum next : ℤ) → (sum ≡ total xs) × (magnitudes xs ≤ length xs * 2 ^ 51) → length xs ≤ 2048 → unsigned_abs z < 2 ^ 62 →
     (FitsSigned w64 (z +ℤ sum) → next ≡ z +ℤ sum) → fold_by (dyadic_of two.Plus) rest ≡ Ok z → fold_by (dyadic_of two.Plus) (xs ++ rest) ≡ Ok next
 small_block xs rest z sum next b n near added e =
     let room : unsigned_abs z + magnitudes xs < 2 ^ 63 = omega (arith, b.1) in

@@ -11,8 +11,8 @@ use apl_arrays::{Lane, NumberSlice};
 use apl_faults::Fault;
 use apl_scalar::{Sum, wider};
 
-/// So many numbers of a magnitude of at most 2^54 have a sum of at most 2^62.
-const BLOCK: usize = 256;
+/// So many numbers of a magnitude of at most 2^51 have a sum of at most 2^62.
+const BLOCK: usize = 2048;
 
 /// Below this many numbers a test at each step costs less than a block.
 const FEW: usize = 16;
@@ -45,18 +45,18 @@ fn sum_in<L: Lane, M: Lane>(numbers: &[L]) -> M
     sum
 }
 
-/// A number that is below 2^55 only where the argument's magnitude is at most 2^54.
+/// A number that is below 2^52 only where the argument's magnitude is at most 2^51.
 #[inline(always)]
 fn spread(number: i64) -> u64
-    ensures { result < 2 ^ 55 → unsigned_abs number ≤ 2 ^ 54 }
+    ensures { result < 2 ^ 52 → unsigned_abs number ≤ 2 ^ 51 }
 {
-    number.wrapping_add(0x40_0000_0000_0000).cast_unsigned()
+    number.wrapping_add(0x8_0000_0000_0000).cast_unsigned()
 }
 
-/// The sum of the numbers, if the second result, by being below 2^55, says that they are small.
+/// The sum of the numbers, if the second result, by being below 2^52, says that they are small.
 fn sum_small(numbers: &[i64]) -> (i64, u64)
     requires { length numbers.now ≤ BLOCK }
-    ensures { result.1 < 2 ^ 55 → (result.0 ≡ total numbers.now) × (magnitudes numbers.now ≤ length numbers.now * 2 ^ 54) }
+    ensures { result.1 < 2 ^ 52 → (result.0 ≡ total numbers.now) × (magnitudes numbers.now ≤ length numbers.now * 2 ^ 51) }
 {
     let mut sum = 0i64;
     let mut bound = 0u64;
@@ -73,7 +73,7 @@ fn sum_block(numbers: &[i64], known: i64) -> Option<i64>
     ensures { IfSome result (λ all. (rest : List ℤ) → sum_of rest ≡ Ok known → sum_of (numbers.now ++ rest) ≡ Ok all) }
 {
     let (sum, bound) = sum_small(numbers);
-    if bound < 0x80_0000_0000_0000 && known.unsigned_abs() < 0x4000_0000_0000_0000 {
+    if bound < 0x10_0000_0000_0000 && known.unsigned_abs() < 0x4000_0000_0000_0000 {
         return Some(add(known, sum));
     }
     None

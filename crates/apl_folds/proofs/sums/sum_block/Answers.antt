@@ -9,7 +9,7 @@ pub returns-then-unsigned_abs-lt4611686018427387904 : goal.returns-then-unsigned
 returns-then-unsigned_abs-lt4611686018427387904 c =
     λ rest e.
     let near : unsigned_abs c.args.known < 2 ^ 62 = omega (arith, (simp (to_z-of_z, c.ranges.known) at c.unsigned_abs.ensures.value)) in
-    let small = c.sum_small-sum.ensures c.if-bound-lt36028797018963968.true in
+    let small = c.sum_small-sum.ensures c.if-bound-lt4503599627370496.true in
     let fits : SFits w64 c.add.result = search rules in
     let fits_sum : SFits w64 c.sum_small-sum.result.0 = search rules in
     let added : FitsSigned w64 (c.args.known +ℤ c.sum_small-sum.result.0) → c.add.result ≡ c.args.known +ℤ c.sum_small-sum.result.0 = simp (to_z-of_z, c.ranges.known, fits_sum) at c.add.ensures in
