@@ -1,19 +1,20 @@
 -- Prefixes that are made one after another.
-use Rattle.std.proofs.Common.{zero, suc, ◌≡◌, ℕ, ℤ, pos, ◌+◌, ◌-◌, ◌*◌, ◌^◌, ◌<◌, ◌≤◌, FitsSigned, List, [], ◌∷◌, ◌++◌, map, length, take, get_or, set, Result, Ok, refl, ap, sym, subst, ◌∙◌, arith, true, Ordering, Less, Equal, Greater}
+use Rattle.std.proofs.Common.{zero, suc, ◌≡◌, ℕ, ℤ, pos, ◌+◌, ◌-◌, ◌*◌, ◌^◌, ◌<◌, ◌≤◌, FitsSigned, List, [], ◌∷◌, ◌++◌, map, length, take, drop, get_or, set, Result, Ok, refl, ap, sym, subst, ◌∙◌, arith, true, Ordering, Less, Equal, Greater}
 use Rattle.std.specs.Int.{Width, w64}
 use Rattle.std.specs.Ordering.{int_eq, int_cmp, is_eq}
 use Rattle.std.proofs.Math.Nat.{mul-le-mul_right}
-use Rattle.std.proofs.Math.Seq.{take-append_seam}
 use Rattle.std.proofs.lemmas.Cmp.{int_ranked}
+use Rattle.std.proofs.lemmas.Grind.{common_steps}
 use Rattle.std.proofs.lemmas.Int.{ints}
+use Rattle.std.proofs.lemmas.List.{length-set}
 use Rattle.apl_faults.specs.declared.fault.Fault.{Fault}
 use Rattle.apl_arrays.specs.declared.axis.Axis.{Axis}
 use Rattle.apl_arrays.proofs.Lanes.{numbers_set}
-use Rattle.apl_folds.specs.inside.Prefixes.{before, index_along, prefix_fold, prefix_folds, AllHaveRoom, AreLater, ArePrefixes, AreWhole, Stays}
+use Rattle.apl_folds.specs.inside.Prefixes.{before, index_along, prefix_fold, AllHaveRoom, AreLater, ArePrefixes, AreWhole, Stays}
 use Rattle.apl_folds.specs.inside.Sums.{total, magnitudes, HasRoom}
 use Rattle.apl_folds.specs.Lines.{fold_by, line_of, IsLine}
 use Rattle.apl_folds.specs.Rooms.{HaveRoom}
-use Rattle.apl_folds.proofs.ByPlaces.{before_first, index_low, line_of_place, one_longer, prefix_told, prefix_before, prefixes_whole}
+use Rattle.apl_folds.proofs.ByPlaces.{before_first, index_low, line_of_place, one_longer, prefix_told, prefix_before}
 use Rattle.apl_folds.proofs.InRooms.{line_magnitudes}
 use Rattle.apl_scalar.proofs.OfLanes.{as_many}
 use Rattle.apl_folds.proofs.Told.{filled_more}
@@ -26,6 +27,20 @@ written_one value numbers each f zs axis q out v h told so_far p l =
     let P : List ℤ → Type 0 = λ ws. prefix_fold f zs axis p ≡ Ok (get_or ws p (pos 0)) in
     subst P (sym (numbers_set value numbers each out q v (value v) refl))
     (filled_more (pos 0) (λ i z. prefix_fold f zs axis i ≡ Ok z) (numbers out) q (value v) (omega (arith, as_many value numbers each out)) told so_far p l)
+
+-- what is left where one is written in a slice of all
+pub written_back : {A : Type 0} (room shown : List A) (q : ℕ) (v : A) (len : ℕ) → shown ≡ room → len ≡ length room → take len (set shown q v ++ drop (length (set shown q v)) room) ≡ set room q v
+written_back {A = A} room shown q v len same size =
+    let all : length (set shown q v) ≡ length room = length-set shown q v ∙ ap length same in
+    let after : take len (set shown q v ++ drop (length (set shown q v)) room) ≡ set shown q v = grind (arith, common_steps) in
+    after ∙ ap (λ (l : List A). set l q v) same
+
+-- one more is written, in a room that was made behind the others
+pub written_in_room : {A : Type 0} (value : A → ℤ) (numbers : List A → List ℤ) → ((xs : List A) → numbers xs ≡ map value xs) → (f : ℤ → ℤ → Result ℤ Fault) (zs : List ℤ) (axis : Axis) (q : ℕ) (old : List ℤ) (room out : List A) (v : A) →
+    out ≡ set room q v → q + 1 ≤ length room → ((p : ℕ) → get_or (numbers room) p (pos 0) ≡ get_or old p (pos 0)) → prefix_fold f zs axis q ≡ Ok (value v) → ArePrefixes f zs axis q old → ArePrefixes f zs axis (q + 1) (numbers out)
+written_in_room {A = A} value numbers each f zs axis q old room out v same h kept told so_far =
+    let Written : List A → Type 0 = λ out. ArePrefixes f zs axis (q + 1) (numbers out) in
+    subst Written (sym same) (written_one value numbers each f zs axis q room v (omega arith) told (λ p i. so_far p i ∙ ap (λ (z : ℤ). Ok z) (sym (kept p))))
 
 -- the first of a line
 pub begun : (f : ℤ → ℤ → Result ℤ Fault) (room : List ℤ → Type 0) (zs : List ℤ) (axis : Axis) (q : ℕ) (x v : ℤ) → AreWhole zs axis → AllHaveRoom room zs axis → q < length zs → index_along axis q ≡ 0 → get_or zs q (pos 0) ≡ x →
@@ -75,14 +90,6 @@ prefixes_room w zs axis bounded whole h q l =
     let all : FitsSigned w64 (pos (axis.length * h.bound)) = bounded (pos (axis.length * h.bound)) (h.fits (pos (axis.length * h.bound)) (omega arith)) in
     let near : axis.length * h.bound < 2 ^ 63 = omega (arith, ints) in
     subst (HasRoom w) (sym (one_longer zs axis q whole.forward)) (record { sum = h.fits (total raw) (omega (arith, total_small raw)); magnitudes = omega arith })
-
--- all are written, in a room that has no more
-pub all_written : {A : Type 0} (value : A → ℤ) (numbers : List A → List ℤ) → ((xs : List A) → numbers xs ≡ map value xs) → (f : ℤ → ℤ → Result ℤ Fault) (zs : List ℤ) (axis : Axis) (n : ℕ) (out rest : List A) →
-    length zs ≡ n → length out ≡ n → ArePrefixes f zs axis n (numbers out) → prefix_folds f zs axis ≡ Ok (numbers (take n (out ++ rest)))
-all_written {A = A} value numbers each f zs axis n out rest count size written =
-    let Written : ℕ → Type 0 = λ k. ArePrefixes f zs axis k (numbers out) in
-    prefixes_whole f zs axis (numbers out) (as_many value numbers each out ∙ size ∙ sym count) (subst Written (sym count) written)
-    ∙ ap (λ (l : List A). Ok (numbers l)) (sym (ap (λ (k : ℕ). take k (out ++ rest)) (sym size) ∙ take-append_seam out rest))
 
 -- what compares as the same number is the same
 pub same_number : (x y : ℤ) → int_eq x y ≡ true → x ≡ y

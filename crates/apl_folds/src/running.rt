@@ -1,5 +1,5 @@
 // Scans of numbers in row-major order, each prefix from the one before it, where all have values.
-ghost use Rattle.std.specs.Prelude.{◌≡◌, ◌<◌, ◌≤◌, ◌+◌, ◌-◌, ◌*◌, ◌∷◌, ◌++◌, [], ℕ, ℤ, List, Result, pos, length, slice_index_or, IfOk, IsTrue, Ok};
+ghost use Rattle.std.specs.Prelude.{◌≡◌, ◌<◌, ◌≤◌, ◌+◌, ◌-◌, ◌*◌, ◌∷◌, ◌++◌, [], ℕ, ℤ, List, Result, pos, length, slice_index_or, IfOk, IsTrue, Ok, OnOk};
 ghost use Rattle.apl_faults.specs.declared.fault.Fault.{Fault};
 ghost use Rattle.apl_arrays.specs.declared.axis.Axis.{Axis};
 ghost use Rattle.apl_arrays.specs.Numbers.{kept_values};
@@ -12,6 +12,7 @@ ghost use Rattle.apl_folds.specs.inside.Sums.{HasRoom};
 use crate::choice::Choice;
 use crate::sums::plus;
 use apl_arrays::{Axis, Lane, NumberVec};
+use apl_scalar::grow;
 use std::alloc::{AllocError, Global};
 use std::marker::PhantomData;
 
@@ -92,6 +93,27 @@ impl<L: Lane, M: Lane> Running<L, M> for Total {
 /// How many prefixes are looked at together.
 const BLOCK: usize = 128;
 
+/// For up to this many prefixes room is made at once, since all of it stays in cache.
+const FEW: usize = 4096;
+
+/// Makes room for the prefixes before a place, of so many in all. Where there is too little, zeros are appended for a block or more, as far as
+/// prefixes are left: so few that they are still in cache when the prefixes are written over them.
+#[inline(always)]
+fn make_room<M: Lane>(out: &mut Vec<M>, till: usize, all: usize) -> Result<(), AllocError>
+    requires order { till ≤ all }
+    requires few { length out.old.items ≤ all }
+    ensures enough { OnOk result (till ≤ length out.new.items) }
+    ensures few { OnOk result (length out.new.items ≤ all) }
+    ensures kept { OnOk result ((q : ℕ) → slice_index_or (M.numbers out.new.items) q (pos 0) ≡ slice_index_or (M.numbers out.old.items) q (pos 0)) }
+{
+    let before = out.len();
+    if till <= before {
+        return Ok(());
+    }
+    grow(out, (till - before).max(BLOCK).min(all - before))?;
+    Ok(())
+}
+
 /// Writes the same prefix at each place from one to another.
 fn repeat<M: Lane>(out: &mut [M], from: usize, till: usize, fold: M)
     requires order { from ≤ till }
@@ -121,7 +143,7 @@ fn run_block<R: Running<L, M>, L: Lane, M: Lane>(
     requires order { from ≤ till }
     requires later { AreLater axis from till }
     requires within { till ≤ length numbers.now }
-    requires size { length out.old ≡ length numbers.now }
+    requires size { till ≤ length out.old }
     requires told { prefix_fold R.meaning (L.numbers numbers.now) axis (from - 1) ≡ Ok (M.value before) }
     requires so_far { ArePrefixes R.meaning (L.numbers numbers.now) axis from (M.numbers out.old) }
     ensures size { length out.new ≡ length out.old }
@@ -145,41 +167,49 @@ fn run_line<R: Running<L, M>, L: Lane, M: Lane>(
     numbers: &[L],
     axis: Axis,
     from: usize,
-    out: &mut [M],
-)
+    out: &mut Vec<M>,
+) -> Result<(), AllocError>
     requires whole { AreWhole (L.numbers numbers.now) axis }
     requires room { AllHaveRoom R.room (L.numbers numbers.now) axis }
     requires beside { axis.up ≡ 1 }
     requires line { index_along axis from ≡ 0 }
     requires within { from + axis.length ≤ length numbers.now }
-    requires size { length out.old ≡ length numbers.now }
-    requires so_far { ArePrefixes R.meaning (L.numbers numbers.now) axis from (M.numbers out.old) }
-    ensures size { length out.new ≡ length out.old }
-    ensures prefixes { ArePrefixes R.meaning (L.numbers numbers.now) axis (from + axis.length) (M.numbers out.new) }
+    requires few { length out.old.items ≤ length numbers.now }
+    requires so_far { ArePrefixes R.meaning (L.numbers numbers.now) axis from (M.numbers out.old.items) }
+    ensures enough { OnOk result (from + axis.length ≤ length out.new.items) }
+    ensures few { OnOk result (length out.new.items ≤ length numbers.now) }
+    ensures prefixes { OnOk result (ArePrefixes R.meaning (L.numbers numbers.now) axis (from + axis.length) (M.numbers out.new.items)) }
 {
+    make_room(out, from + 1, numbers.len())?;
     let mut fold = R::first(numbers[from]);
-    out[from] = fold;
+    out.as_mut_slice()[from] = fold;
     let end = from + axis.length;
     let mut at = from + 1;
     while at < end {
         let next = at + (end - at).min(BLOCK);
-        fold = run_block::<R, L, M>(numbers, axis, at, next, fold, out);
+        make_room(out, next, numbers.len())?;
+        fold = run_block::<R, L, M>(numbers, axis, at, next, fold, out.as_mut_slice());
         at = next;
     }
+    Ok(())
 }
 
 /// The same line by line.
-fn run_lines<R: Running<L, M>, L: Lane, M: Lane>(numbers: &[L], axis: Axis, out: &mut [M])
+fn run_lines<R: Running<L, M>, L: Lane, M: Lane>(
+    numbers: &[L],
+    axis: Axis,
+    out: &mut Vec<M>,
+) -> Result<(), AllocError>
     requires whole { AreWhole (L.numbers numbers.now) axis }
     requires room { AllHaveRoom R.room (L.numbers numbers.now) axis }
     requires beside { axis.up ≡ 1 }
-    requires size { length out.old ≡ length numbers.now }
-    ensures size { length out.new ≡ length out.old }
-    ensures prefixes { ArePrefixes R.meaning (L.numbers numbers.now) axis (length numbers.now) (M.numbers out.new) }
+    requires few { length out.old.items ≤ length numbers.now }
+    ensures { OnOk result (prefix_folds R.meaning (L.numbers numbers.now) axis ≡ Ok (M.numbers out.new.items)) }
 {
     for line in 0..numbers.len() / axis.length {
-        run_line::<R, L, M>(numbers, axis, line * axis.length, out);
+        run_line::<R, L, M>(numbers, axis, line * axis.length, out)?;
     }
+    Ok(())
 }
 
 /// The prefix at a place, by those before it.
@@ -195,7 +225,7 @@ fn prefix_at<R: Running<L, M>, L: Lane, M: Lane>(
     requires room { AllHaveRoom R.room (L.numbers numbers.now) axis }
     requires index { index_along axis at ≡ index }
     requires within { at < length numbers.now }
-    requires size { length out.now ≡ length numbers.now }
+    requires size { at ≤ length out.now }
     requires so_far { ArePrefixes R.meaning (L.numbers numbers.now) axis at (M.numbers out.now) }
     ensures { prefix_fold R.meaning (L.numbers numbers.now) axis at ≡ Ok (M.value result) }
 {
@@ -211,7 +241,7 @@ fn run_row<R: Running<L, M>, L: Lane, M: Lane>(numbers: &[L], axis: Axis, row: u
     requires whole { AreWhole (L.numbers numbers.now) axis }
     requires room { AllHaveRoom R.room (L.numbers numbers.now) axis }
     requires within { row * axis.up + axis.up ≤ length numbers.now }
-    requires size { length out.old ≡ length numbers.now }
+    requires size { row * axis.up + axis.up ≤ length out.old }
     requires so_far { ArePrefixes R.meaning (L.numbers numbers.now) axis (row * axis.up) (M.numbers out.old) }
     ensures size { length out.new ≡ length out.old }
     ensures prefixes { ArePrefixes R.meaning (L.numbers numbers.now) axis (row * axis.up + axis.up) (M.numbers out.new) }
@@ -225,16 +255,21 @@ fn run_row<R: Running<L, M>, L: Lane, M: Lane>(numbers: &[L], axis: Axis, row: u
 }
 
 /// The same row by row.
-fn run_rows<R: Running<L, M>, L: Lane, M: Lane>(numbers: &[L], axis: Axis, out: &mut [M])
+fn run_rows<R: Running<L, M>, L: Lane, M: Lane>(
+    numbers: &[L],
+    axis: Axis,
+    out: &mut Vec<M>,
+) -> Result<(), AllocError>
     requires whole { AreWhole (L.numbers numbers.now) axis }
     requires room { AllHaveRoom R.room (L.numbers numbers.now) axis }
-    requires size { length out.old ≡ length numbers.now }
-    ensures size { length out.new ≡ length out.old }
-    ensures prefixes { ArePrefixes R.meaning (L.numbers numbers.now) axis (length numbers.now) (M.numbers out.new) }
+    requires few { length out.old.items ≤ length numbers.now }
+    ensures { OnOk result (prefix_folds R.meaning (L.numbers numbers.now) axis ≡ Ok (M.numbers out.new.items)) }
 {
     for row in 0..numbers.len() / axis.up {
-        run_row::<R, L, M>(numbers, axis, row, out);
+        make_room(out, row * axis.up + axis.up, numbers.len())?;
+        run_row::<R, L, M>(numbers, axis, row, out.as_mut_slice());
     }
+    Ok(())
 }
 
 /// All prefixes.
@@ -247,11 +282,12 @@ pub(crate) fn run<R: Running<L, M>, L: Lane, M: Lane>(
     requires room { AllHaveRoom R.room (L.numbers numbers.now) axis }
     ensures { IfOk result (λ out. prefix_folds R.meaning (L.numbers numbers.now) axis ≡ Ok (kept_values out)) }
 {
-    let mut out = vec![in alloc; M::low(0); numbers.len()]?;
+    let mut out = Vec::with_capacity(alloc, numbers.len())?;
+    grow(&mut out, numbers.len().min(FEW))?;
     if axis.up == 1 {
-        run_lines::<R, L, M>(numbers, axis, out.as_mut_slice());
+        run_lines::<R, L, M>(numbers, axis, &mut out)?;
         return Ok(M::kept(out));
     }
-    run_rows::<R, L, M>(numbers, axis, out.as_mut_slice());
+    run_rows::<R, L, M>(numbers, axis, &mut out)?;
     Ok(M::kept(out))
 }

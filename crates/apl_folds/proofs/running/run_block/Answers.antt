@@ -21,7 +21,7 @@ loop-at-preserved g c =
     record {
       size = length-set c.loop-at.out at c.then-fold.result ∙ c.loop-at.invariant.size;
       told = ap (prefix_fold f zs c.args.axis) (behind at) ∙ told;
-      prefixes = written_one g.M.Lane.value g.M.Lane.numbers g.met.M.Lane.each f zs c.args.axis at c.loop-at.out c.then-fold.result (omega (arith, c.loop-at.invariant.size, c.requires.size)) told c.loop-at.invariant.prefixes;
+      prefixes = written_one g.M.Lane.value g.M.Lane.numbers g.met.M.Lane.each f zs c.args.axis at c.loop-at.out c.then-fold.result (omega (arith, c.loop-at.invariant.size, c.requires.size, c.loop-at-test.true)) told c.loop-at.invariant.prefixes;
     }
 
 pub returns-then-stays : goal.returns-then-stays

@@ -1,9 +1,9 @@
-use Rattle.std.proofs.Common.{◌≡◌, ◌<◌, ◌+◌, ◌-◌, ℕ, length, Ok, ap, subst, ◌∙◌, arith}
+use Rattle.std.proofs.Common.{rules, ◌≡◌, ◌<◌, ◌+◌, ◌-◌, ℕ, length, Ok, ap, subst, ◌∙◌, arith}
 use Rattle.std.proofs.lemmas.List.{length-set}
 use Rattle.apl_folds.specs.inside.Prefixes.{index_along, prefix_fold}
 use Rattle.apl_folds.proofs.ByPlaces.{index_beside}
 use Rattle.apl_scalar.proofs.OfLanes.{as_many, number_of_item}
-use Rattle.apl_folds.proofs.Runs.{behind, begun, written_one}
+use Rattle.apl_folds.proofs.Runs.{behind, begun, written_back, written_in_room}
 use Rattle.apl_folds.proofs.running.run_line.Goals as goal
 
 pub loop-at-init : goal.loop-at-init
@@ -18,12 +18,18 @@ loop-at-init g c =
     let told : prefix_fold f zs c.args.axis from ≡ Ok fold =
     begun f g.R.Running.room zs c.args.axis from (g.L.Lane.value c.index-numbers-from.result) fold c.requires.whole c.requires.room within c.requires.line
     (number_of_item g.L.Lane.value g.L.Lane.numbers g.met.L.Lane.each raw from c.index-numbers-from.result there c.index-numbers-from.is) c.first-fold.ensures in
+    let room = c.make_room.new.out.items in
+    let made = c.in_ok-make_room.ensures in
+    let back = written_back room c.as_mut_slice.result.now from c.first-fold.result c.make_room.new.out.len c.as_mut_slice.ensures.value (search rules) in
+    let size = ap length back ∙ length-set room from c.first-fold.result in
     record {
       begun = omega arith;
       within = omega (arith, c.requires.whole.long);
-      size = length-set c.args.out.now from c.first-fold.result;
+      enough = omega (arith, size, made.enough);
+      few = omega (arith, size, made.few);
       told = ap (prefix_fold f zs c.args.axis) (behind from) ∙ told;
-      prefixes = written_one g.M.Lane.value g.M.Lane.numbers g.met.M.Lane.each f zs c.args.axis from c.args.out.now c.first-fold.result (omega (arith, c.requires.size)) told c.requires.so_far;
+      prefixes =
+          written_in_room g.M.Lane.value g.M.Lane.numbers g.met.M.Lane.each f zs c.args.axis from (g.M.Lane.numbers c.args.out.now.items) room _ c.first-fold.result back made.enough made.kept told c.requires.so_far;
     }
 
 pub run_block-fold-requires-clause-later : goal.run_block-fold-requires-clause-later

@@ -10,9 +10,10 @@ invariant-loop-at g l =
     record {
       begun : l.from < l.at;
       within : l.at ≤ l.from + l.axis.length;
-      size : length l.out ≡ length l.fn.out;
+      enough : l.at ≤ length l.out.items;
+      few : length l.out.items ≤ length l.numbers;
       told : prefix_fold f zs l.axis (l.at - 1) ≡ Ok (g.M.Lane.value l.fold);
-      prefixes : ArePrefixes f zs l.axis l.at (g.M.Lane.numbers l.out);
+      prefixes : ArePrefixes f zs l.axis l.at (g.M.Lane.numbers l.out.items);
     }
 
 abbrev pub decreases-loop-at : goal.decreases-loop-at
