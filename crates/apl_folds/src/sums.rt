@@ -14,6 +14,9 @@ use apl_scalar::{Sum, wider};
 /// So many numbers of a magnitude of at most 2^51 have a sum of at most 2^62.
 const BLOCK: usize = 2048;
 
+/// How many numbers are in the first block: few, since its sum is of no use where they are not small.
+const FIRST: usize = 256;
+
 /// Below this many numbers a test at each step costs less than a block.
 const FEW: usize = 16;
 
@@ -79,7 +82,8 @@ fn sum_block(numbers: &[i64], known: i64) -> Option<i64>
     None
 }
 
-/// The sum of one or more numbers from the right: block by block while they are small, and from then on with each step tested.
+/// The sum of one or more numbers from the right: block by block while they are small, and from then on with each step tested. But for the first, no
+/// block is longer than what was summed before it.
 fn sum_blocks(numbers: &[i64]) -> Result<i64, Fault>
     requires { 0 < length numbers.now }
     ensures { result ≡ sum_of numbers.now }
@@ -90,7 +94,8 @@ fn sum_blocks(numbers: &[i64]) -> Result<i64, Fault>
     let mut left = numbers.len() - 1;
     let mut all = numbers[left];
     while 0 < left {
-        let from = left.saturating_sub(BLOCK);
+        let summed = numbers.len() - left;
+        let from = left.saturating_sub(summed.max(FIRST).min(BLOCK));
         match sum_block(&numbers[from..left], all) {
             Some(sum) => {
                 all = sum;
