@@ -20,6 +20,9 @@ const LONG: usize = 4096;
 /// narrower ones as many more fit there.
 const PIECE: usize = 128;
 
+/// Fewer products than these are made one by one, since to make room for them and write over it costs more.
+const FEW: usize = 8;
+
 /// Writes the products of a number with others.
 #[inline(never)]
 fn multiply<L: Lane, M: Lane>(x: i64, ys: &[L], out: &mut [M])
@@ -30,6 +33,17 @@ fn multiply<L: Lane, M: Lane>(x: i64, ys: &[L], out: &mut [M])
     for k in 0..out.len() {
         out[k] = M::low(times(x, ys[k].wide()));
     }
+}
+
+/// Appends the products of a number with few others.
+fn push_few<L: Lane, M: Lane>(out: &mut Vec<M>, x: i64, ys: &[L]) -> Result<(), AllocError>
+    requires { (k : ℕ) → k < length ys.now → FitsSigned M.width (x *ℤ slice_index_or (L.numbers ys.now) k (pos 0)) }
+    ensures { OnOk result (AddsProducts x (L.numbers ys.now) (M.numbers out.old.items) (M.numbers out.new.items)) }
+{
+    for k in 0..ys.len() {
+        out.push(M::low(times(x, ys[k].wide())))?;
+    }
+    Ok(())
 }
 
 /// Appends the products of a number with others, which are written over as many zeros.
@@ -53,6 +67,9 @@ fn push_products<L: Lane, M: Lane>(
     requires fits { (k : ℕ) → k < length ys.now → FitsSigned M.width (x *ℤ slice_index_or (L.numbers ys.now) k (pos 0)) }
     ensures { OnOk result (AddsProducts x (L.numbers ys.now) (M.numbers out.old.items) (M.numbers out.new.items)) }
 {
+    if ys.len() < FEW {
+        return push_few(out, x, ys);
+    }
     let mut from = 0usize;
     while from < ys.len() {
         let till = from + (ys.len() - from).min(piece);
