@@ -23,6 +23,14 @@ const PIECE: usize = 128;
 /// Fewer products than these are made one by one, since to make room for them and write over it costs more.
 const FEW: usize = 8;
 
+/// A product in a type that holds it.
+#[inline(always)]
+fn product<L: Lane, M: Lane>(x: i64, y: L) -> M
+    ensures { FitsSigned M.width (x *ℤ L.value y) → M.value result ≡ x *ℤ L.value y }
+{
+    M::low(times(x, y.wide()))
+}
+
 /// Writes the products of a number with others.
 #[inline(never)]
 fn multiply<L: Lane, M: Lane>(x: i64, ys: &[L], out: &mut [M])
@@ -31,7 +39,7 @@ fn multiply<L: Lane, M: Lane>(x: i64, ys: &[L], out: &mut [M])
     ensures { (k : ℕ) → k < length ys.now → slice_index_or (M.numbers out.new) k (pos 0) ≡ x *ℤ slice_index_or (L.numbers ys.now) k (pos 0) }
 {
     for k in 0..out.len() {
-        out[k] = M::low(times(x, ys[k].wide()));
+        out[k] = product(x, ys[k]);
     }
 }
 
@@ -41,7 +49,7 @@ fn push_few<L: Lane, M: Lane>(out: &mut Vec<M>, x: i64, ys: &[L]) -> Result<(), 
     ensures { OnOk result (AddsProducts x (L.numbers ys.now) (M.numbers out.old.items) (M.numbers out.new.items)) }
 {
     for k in 0..ys.len() {
-        out.push(M::low(times(x, ys[k].wide())))?;
+        out.push(product(x, ys[k]))?;
     }
     Ok(())
 }
