@@ -10,6 +10,7 @@ use crate::bounds::{fit_together, largest};
 use crate::joint::Joint;
 use crate::small::times;
 use apl_arrays::{Both, Lane, NumberSlice, NumberVec};
+use apl_scalar::grow;
 use std::alloc::{AllocError, Global};
 
 /// Below this many columns a row is so short that a sum of each place costs less.
@@ -70,24 +71,14 @@ fn add_rows<L: Lane, M: Lane>(xs: &[L], ys: &[L], from: usize, count: usize, sum
     }
 }
 
-/// Makes each sum 0.
-#[inline(always)]
-fn clear<M: Lane>(sums: &mut [M])
-    ensures { (q : ℕ) → q < length sums.old → slice_index_or (M.numbers sums.new) q (pos 0) ≡ pos 0 }
-{
-    for q in 0..sums.len() {
-        sums[q] = M::low(0);
-    }
-}
-
-/// Makes each sum that of the products of numbers with those of a column of a table, whole rows of this at a time unless they are short.
+/// Makes of each 0 the sum of the products of numbers with those of a column of a table, whole rows of this at a time unless they are short.
 #[inline(never)]
 fn sum_row<L: Lane, M: Lane>(xs: &[L], ys: &[L], few: usize, sums: &mut [M])
     requires whole { length ys.now ≡ length xs.now * length sums.old }
+    requires none { (q : ℕ) → q < length sums.old → slice_index_or (M.numbers sums.old) q (pos 0) ≡ pos 0 }
     requires small { FitTogether M.width (L.numbers xs.now) (L.numbers ys.now) (length xs.now) }
     ensures { AreRowSums (L.numbers xs.now) (L.numbers ys.now) (length sums.old) (length xs.now) 0 (M.numbers sums.new) }
 {
-    clear(sums);
     let mut k = xs.len();
     if sums.len() < few {
         add_rows(xs, ys, 0, k, sums);
@@ -101,26 +92,6 @@ fn sum_row<L: Lane, M: Lane>(xs: &[L], ys: &[L], few: usize, sums: &mut [M])
             k -= GROUP;
             add_rows(xs, ys, k, GROUP, sums);
         }
-    }
-}
-
-/// Makes each sum that of the products of a row of one table with those of a column of another.
-fn sum_table<L: Lane, M: Lane>(xs: &[L], ys: &[L], joint: &Joint, few: usize, sums: &mut [M])
-    requires left { length xs.now ≡ joint.now.rows * joint.now.joined }
-    requires right { length ys.now ≡ joint.now.joined * joint.now.columns }
-    requires size { length sums.old ≡ joint.now.rows * joint.now.columns }
-    requires small { FitTogether M.width (L.numbers xs.now) (L.numbers ys.now) joint.now.joined }
-    ensures { AreSums (L.numbers xs.now) (L.numbers ys.now) joint.now joint.now.rows (M.numbers sums.new) }
-{
-    for r in 0..joint.rows {
-        let from = r * joint.joined;
-        let at = r * joint.columns;
-        sum_row(
-            &xs[from..from + joint.joined],
-            ys,
-            few,
-            &mut sums[at..at + joint.columns],
-        );
     }
 }
 
@@ -138,8 +109,17 @@ fn sums_in<L: Lane, M: Lane>(
     requires small { FitTogether M.width (L.numbers xs.now) (L.numbers ys.now) joint.now.joined }
     ensures { IfOk result (λ v. AreSums (L.numbers xs.now) (L.numbers ys.now) joint.now joint.now.rows (M.numbers v.items)) }
 {
-    let mut sums = vec![in alloc; M::low(0); joint.rows * joint.columns]?;
-    sum_table(xs, ys, joint, few, sums.as_mut_slice());
+    let mut sums = Vec::with_capacity(alloc, joint.rows * joint.columns)?;
+    for r in 0..joint.rows {
+        let from = r * joint.joined;
+        let before = grow(&mut sums, joint.columns)?;
+        sum_row(
+            &xs[from..from + joint.joined],
+            ys,
+            few,
+            sums.as_mut_slice().split_at_mut(before).1,
+        );
+    }
     Ok(sums)
 }
 

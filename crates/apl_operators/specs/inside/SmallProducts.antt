@@ -1,7 +1,10 @@
--- The products of each number with each of others, row by row.
-use Rattle.std.specs.Prelude.{◌≡◌, ◌*ℤ◌, ℕ, ℤ, pos, List, slice_index_or}
-use Rattle.apl_operators.specs.inside.Tables.{AreRows}
+-- The products of numbers with others, row by row.
+use Rattle.std.specs.Prelude.{◌≡◌, ◌++◌, ℤ, List, Ok}
+use Rattle.apl_arrays.specs.Results.{ok_map}
+use Rattle.apl_scalar.specs.declared.function.Dyadic.TheVariants as two
+use Rattle.apl_scalar.specs.Functions.{dyadic_of}
+use Rattle.apl_operators.specs.Places.{row_of}
 
--- those of so many numbers are known
-abbrev pub AreProducts : List ℤ → List ℤ → ℕ → ℕ → ℕ → List ℤ → Type 0
-AreProducts xs ys rows columns done zs = AreRows (λ r q z. z ≡ slice_index_or xs r (pos 0) *ℤ slice_index_or ys q (pos 0)) rows columns done zs
+-- those of one number with each of others are appended
+abbrev pub AddsProducts : ℤ → List ℤ → List ℤ → List ℤ → Type 0
+AddsProducts x ys old new = ok_map (λ row. old ++ row) (row_of (dyadic_of two.Times) x ys) ≡ Ok new

@@ -40,4 +40,4 @@ row_in xs j r = slice_range xs (r * j.joined) (r * j.joined + j.joined)
 
 -- the sums of so many rows of one table and each column of another are known
 abbrev pub AreSums : List ℤ → List ℤ → Joint → ℕ → List ℤ → Type 0
-AreSums xs ys j done sums = AreRows (λ r q z. z ≡ sum_from (product_of (row_in xs j r) ys j.columns q) 0 j.joined) j.rows j.columns done sums
+AreSums xs ys j done sums = AreRows (λ r q z. z ≡ sum_from (product_of (row_in xs j r) ys j.columns q) 0 j.joined) j.columns done sums
