@@ -336,8 +336,7 @@ impl Session {
         Ok(made)
     }
 
-    /// At most `count` steps, until the machine is idle, and where it stands after them. Out of
-    /// memory it stands after the steps that are done.
+    /// At most `count` steps, until the machine is idle, and where it stands after them. Out of memory it stands after the steps that are done.
     pub fn advance(&mut self, count: u64) -> Result<Progress, AllocError>
         ensures ok { OnOk result (self.new ≡ steps count self.old) }
         ensures progress { IfOk result (λ p. p ≡ steps_progress count self.old) }
