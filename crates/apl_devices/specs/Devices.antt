@@ -8,6 +8,12 @@ TakesFirst old (Ok None) new = (old ≡ []) × (new ≡ [])
 TakesFirst old (Ok (Some b)) new = old ≡ b ∷ new
 TakesFirst old (Err e) new = new ≡ old
 
+-- the byte that was taken, if one was
+abbrev pub taken_byte : {E : Type 0} → Result (Option ℕ) E → List ℕ
+taken_byte (Ok (Some b)) = b ∷ []
+taken_byte (Ok None) = []
+taken_byte (Err e) = []
+
 -- a piece of a line was added, of at most so many bytes and without a line feed
 pub record TakesPiece (most : ℕ) (old new : List ℕ) : Type 0 where
   pub piece : List ℕ

@@ -42,6 +42,19 @@ pub trait Source {
     {
         Ok(true)
     }
+
+    /// Reads one byte; None is the end.
+    fn take_byte(&mut self) -> Result<Option<u8>, Failed>
+        ensures bytes { IsTrue tells → TakesFirst (left self.old) result (left self.new) }
+        ensures fine { OnOk result (failed self.new ≡ failed self.old) }
+        ensures failed { OnErr result (failed self.new ≡ true) }
+    {
+        let mut buffer = [0u8; 1];
+        match self.read(&mut buffer)? {
+            0 => Ok(None),
+            _ => Ok(Some(buffer[0])),
+        }
+    }
 }
 
 /// A writer, which may tell its bytes.
@@ -73,11 +86,7 @@ pub fn read_byte<R: Source>(reader: &mut R) -> Result<Option<u8>, Failed>
     ensures fine { OnOk result (R.failed reader.new ≡ R.failed reader.old) }
     ensures failed { OnErr result (R.failed reader.new ≡ true) }
 {
-    let mut buffer = [0u8; 1];
-    match reader.read(&mut buffer)? {
-        0 => Ok(None),
-        _ => Ok(Some(buffer[0])),
-    }
+    reader.take_byte()
 }
 
 /// Writes a prefix of the bytes, and gives the others.

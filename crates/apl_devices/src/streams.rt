@@ -1,9 +1,9 @@
 // Devices over the streams of std.
-ghost use Rattle.std.specs.Prelude.{◌≡◌, ◌≢◌, ◌==◌, not, ℕ, ◌<◌, ◌≤◌, Bool, true, false, take, length, IfOk, OnOk, OnErr};
+ghost use Rattle.std.specs.Prelude.{◌≡◌, ◌≢◌, ◌==◌, not, ℕ, ◌<◌, ◌≤◌, Bool, true, false, take, length, None, IfOk, OnOk, OnErr};
 ghost use Rattle.std.specs.Io.{appended_bytes};
 ghost use Rattle.std.specs.Io.KnownBytes.{Consumes, IsAtEnd, ReadConsumes, WriteAppends};
 ghost use Rattle.std.specs.List.{list_all};
-ghost use Rattle.apl_devices.specs.Devices.{TakesPiece};
+ghost use Rattle.apl_devices.specs.Devices.{TakesPiece, taken_byte};
 
 use crate::devices::{Failed, Sink, Source};
 use std::io::{BufRead, Write};
@@ -74,6 +74,24 @@ impl<T: BufRead> Source for Device<T> {
             self.stream.consume(count);
         }
         Ok(true)
+    }
+
+    /// The first that the stream has at hand; where that is nothing, one read of it.
+    fn take_byte(&mut self) -> Result<Option<u8>, Failed>
+        ensures stream { Consumes (T.remaining self.old.stream) (T.remaining self.new.stream) (taken_byte result) }
+        ensures end { IfOk result (λ byte. byte ≡ None → IsAtEnd (T.remaining self.old.stream)) }
+        ensures fine { OnOk result (self.new.failed ≡ self.old.failed) }
+        ensures failed { OnErr result (self.new.failed ≡ true) }
+    {
+        let Ok(front) = self.stream.fill_buf() else {
+            self.failed = true;
+            return Err(Failed);
+        };
+        let Some(byte) = front.first().copied() else {
+            return Ok(None);
+        };
+        self.stream.consume(1);
+        Ok(Some(byte))
     }
 }
 

@@ -3,6 +3,7 @@
 #![tactic(auto)]
 
 mod commands;
+mod decoding;
 mod definition;
 mod session;
 mod words;

@@ -10,6 +10,7 @@ ghost use Rattle.apl_session.specs.Refusals.{feed_number};
 ghost use Rattle.apl_session.specs.Views.{event as event_view, event_list};
 
 use crate::commands::obey;
+use crate::decoding::decode_into;
 use crate::definition::{OpenDefinition, behind_mark, close, is_close, refuse, show_or_open};
 use apl_charset::{Ch, CharFault, Text, decode_line};
 use apl_defn::trimmed;
@@ -17,6 +18,7 @@ use apl_faults::Fault;
 use apl_machine::{BeginError, Machine, Made, OutLine, Progress};
 use std::alloc::{AllocError, Global};
 use std::marker::Model;
+use std::mem;
 use thiserror::Error;
 
 /// The bytes of a line, without its end.
@@ -105,6 +107,8 @@ pub struct Session {
     alloc: Global,
     machine: Machine,
     definition: Option<OpenDefinition>,
+    /// What the line before was decoded into; it says nothing.
+    text: Vec<Ch>,
 }
 
 // Written out, so that no crate above proves again what it does.
@@ -114,9 +118,11 @@ impl Drop for Session {
             alloc: _,
             machine,
             definition,
+            text,
         } = self;
         drop(machine);
         drop(definition);
+        drop(text);
     }
 }
 
@@ -144,6 +150,7 @@ impl Session {
             alloc,
             machine,
             definition: None,
+            text: Vec::new(alloc),
         }
     }
 
@@ -155,6 +162,7 @@ impl Session {
             alloc: _,
             machine,
             definition: _,
+            text: _,
         } = self;
         machine.opens_no_definition();
         machine
@@ -288,6 +296,24 @@ impl Session {
         if !self.machine.is_idle() {
             return Err(FeedError::Busy);
         }
+        let mut text = mem::replace(&mut self.text, Vec::new(self.alloc));
+        let fed = if decode_into(&mut text, bytes) {
+            self.feed_text(&text)
+        } else {
+            self.feed_apart(bytes)
+        };
+        self.text = text;
+        fed
+    }
+
+    /// The same of any line on an idle machine. It stands apart, since most lines have no fault.
+    #[inline(never)]
+    fn feed_apart(&mut self, bytes: &[u8]) -> Result<(), FeedError>
+        requires { is_idle self.old ≡ true }
+        ensures busy { IsErrOf result FeedError.Busy → IsFalse (is_idle self.old) }
+        ensures ok { OnOk result (self.new ≡ model.typed self.old bytes.now) }
+        ensures err { OnErr result (self.new ≡ self.old) }
+    {
         match decode_line(self.alloc, bytes) {
             Ok(text) => self.feed_text(&text),
             Err(CharFault::Memory) => Err(FeedError::Memory),
@@ -310,8 +336,7 @@ impl Session {
         Ok(made)
     }
 
-    /// At most `count` steps, until the machine is idle, and where it stands after them. Out of
-    /// memory it stands after the steps that are done.
+    /// At most `count` steps, until the machine is idle, and where it stands after them. Out of memory it stands after the steps that are done.
     pub fn advance(&mut self, count: u64) -> Result<Progress, AllocError>
         ensures ok { OnOk result (self.new ≡ steps count self.old) }
         ensures progress { IfOk result (λ p. p ≡ steps_progress count self.old) }
