@@ -9,13 +9,14 @@ from collections.abc import Iterable, Iterator
 @dataclasses.dataclass(frozen=True)
 class Body:
     """The body of a function in a text that rt fmt has laid out: where it begins and ends, and the function's name with that of the type and of
-    the trait whose impl it stands in."""
+    the trait whose impl it stands in, and whether the compiler may work it out."""
 
     begins: int
     ends: int
     name: str
     type: str = ""
     trait: str = ""
+    is_const: bool = False
 
 
 def bodies(text: str) -> Iterator[Body]:
@@ -35,7 +36,20 @@ def bodies(text: str) -> Iterator[Body]:
         if margin:
             headers = re.findall(r"(?m)^(?:pub(?:\([^)]*\))? )?(?:impl|trait)\b[^{]*", text[: found.start()])
             owner = headers[-1] if headers else ""
-        yield Body(found.start() + opened.start(), end.end(), found[2], *owner_of(owner))
+        is_const = "const fn" in found[0]
+        yield Body(found.start() + opened.start(), end.end(), found[2], *owner_of(owner), is_const)
+
+
+def emptied(text: str, gone: Iterable[Body]) -> str:
+    """Returns the text in which some bodies are never reached, so that they make no call and need no loans. No line moves."""
+    parts, at = [], 0
+    for body in sorted(gone, key=lambda it: it.begins):
+        # (not one within another)
+        if body.begins >= at:
+            lines = text.count("\n", body.begins, body.ends)
+            parts += [text[at : body.begins], "{ unreachable!()", "\n" * lines, "}"]
+            at = body.ends
+    return "".join([*parts, text[at:]])
 
 
 def owner_of(header: str) -> tuple[str, str]:

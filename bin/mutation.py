@@ -12,6 +12,7 @@ import enum
 import functools
 import glob
 import hashlib
+import json
 import os
 import re
 import shutil
@@ -24,7 +25,7 @@ from types import ModuleType
 from typing import Any
 
 import crates
-from bodies import Body, bodies, names_of
+from bodies import Body, bodies, emptied, names_of
 from definitions import functions_of, functions_on
 
 # What gives a check a lower priority than proofs have, which others wait for.
@@ -258,19 +259,30 @@ pub {name}_spec : {{M : Type 1}} → statement M
 """
 
 
-def leave_open(folder: str, crate: str, function: str) -> None:
+def leave_open(folder: str, crate: str, function: str) -> bool:
     """Replaces the proof of a function, in a copy of a crate, by one that is left open: the proofs of those that call it are then looked at
-    without it. One that calls itself keeps its own, since it has a form of its own."""
+    without it. One that calls itself keeps its own, since it has a form of its own. Returns whether the proof is open."""
     parts = function.split("::")
     at = f"{folder}/proofs/{'/'.join(parts)}"
     if os.path.isdir(f"{os.path.dirname(at)}/+{parts[-1]}"):
-        return
+        return False
     os.makedirs(at, exist_ok=True)
     for name in ("Answers.antt", "Invariants.antt"):
         if os.path.exists(f"{at}/{name}"):
             os.remove(f"{at}/{name}")
     with open(f"{at}/Proof.antt", "w", encoding="utf-8") as to:
         to.write(OPEN.format(crate=crate, path=".".join(parts), name=parts[-1]))
+    return True
+
+
+def empty_bodies(folder: str, functions: set[str], known: list[str]) -> None:
+    """Empties the bodies of functions whose proofs are open, in a copy of a crate: a check then looks at no call and no loan in them."""
+    for path in glob.glob(f"{glob.escape(folder)}/src/**/*.rt", recursive=True):
+        text, file = text_of(path), os.path.relpath(path, folder)
+        gone = [it for it in bodies(text) if not it.is_const and (names := names_of(it, file, known)) and names <= functions]
+        if gone:
+            with open(path, "w", encoding="utf-8") as to:
+                to.write(emptied(text, gone))
 
 
 class Trial:
@@ -304,8 +316,8 @@ class Trial:
         return [os.path.basename(it)[len(start) : -len(end)].replace(".", "::") for it in files]
 
     def check(self, texts: dict[str, str], words: list[str], open_ones: Iterable[str] = ()) -> tuple[int, str]:
-        """Checks a copy of the crate with these texts, in which the proofs of some functions are left open, and returns the status and what was
-        said."""
+        """Checks a copy of the crate with these texts, in which the bodies of some functions are empty and their proofs left open, and returns the
+        status and what was said."""
         with tempfile.TemporaryDirectory(dir=self.room) as room:
             for part in self.rt.rtlib.PARTS:
                 if os.path.isdir(f"{self.crate.folder}/{part}"):
@@ -313,8 +325,8 @@ class Trial:
             for file, text in texts.items():
                 with open(f"{room}/{file}", "w", encoding="utf-8") as to:
                     to.write(text)
-            for function in open_ones:
-                leave_open(room, self.crate.name, function)
+            opened = {it for it in open_ones if leave_open(room, self.crate.name, it)}
+            empty_bodies(room, opened, self.functions)
             return check(self.rt, self.crate, room, ["--incremental", self.over, *words])
 
     def alone(self, mutant: Mutant) -> Told:
@@ -432,19 +444,74 @@ def sum_of(folders: Iterable[str]) -> str:
     return found.hexdigest()
 
 
+# The modules that a built library has of a function beside its contract: they follow from its body, or from what is read beside them.
+OF_BODY = (*"Answers Code Given Invariants Kinds Layout Lts Met Mir Named Proof Reads Statement Symbol TheLink".split(),)
+
+
+def is_seen(module: str, functions: set[str], names_lemmas: bool) -> bool:
+    """Whether a check of a crate reads a module that a library below it has. functions: the names of the library's public functions, of which
+    it reads the contracts, which stay the same with other bodies. names_lemmas: whether the crate names lemmas of the library's."""
+    library, *parts = module.removeprefix("part/").split(".")
+    if not library.endswith(("-proofs", "-specs")):
+        # what the library passes on
+        return names_lemmas or "proofs" not in parts
+    if library.endswith("-proofs"):
+        if parts[1:] and parts[-1] in OF_BODY or "TheLinks" in parts:
+            return False
+        # (what begins with The is the toolchain's own)
+        return any(it.startswith("The") for it in parts) or names_lemmas and bool(parts)
+    owner = parts[-2:][0] if parts[-1:] == ["Key"] else parts[-1] if parts[:1] == ["contracts"] else ""
+    # (a type's module has a great letter)
+    return not owner[:1].islower() or owner in functions
+
+
+def constants_in(texts: Iterable[str], functions: set[str]) -> list[bytes]:
+    """Returns the constants that stand in the contracts of these functions, in a library's source without bodies."""
+    heads = [it for text in texts for it in re.split(r"\bfn (?=\w)", text)[1:]]
+    return [name.encode() for it in heads if re.match(r"\w+", it)[0] in functions for name in re.findall(r"\b[A-Z][A-Z0-9_]+\b", it)]
+
+
+@functools.cache
+def seen_of(rlib: str, names_lemmas: bool) -> str:
+    """Returns a sum of what a check of a crate reads of a built library: what it declares, what its public functions promise, its definitions,
+    and its lemmas where the crate names any."""
+    found = hashlib.sha256()
+    inside = lambda folder: sorted(glob.glob(f"{glob.escape(rlib)}/{folder}/**/*.rt", recursive=True))
+    declared = {os.path.relpath(it, rlib): text_of(it) for it in inside("interface/lang/src")}
+    functions = {name for text in declared.values() for name in re.findall(r"\bfn (\w+)", text)}
+    constants = constants_in(map(text_of, inside("lang/src")), functions)
+    found.update(repr(declared).encode())
+    own = f"Rattle-{os.path.basename(rlib).removesuffix('.rlib')}"
+    with open(f"{rlib}/toolchain/checked.json", encoding="utf-8") as index, open(f"{rlib}/toolchain/checked.a", "rb") as modules:
+        for name, at, length in map(json.loads, index):
+            if name.removeprefix("part/").startswith((f"{own}-", f"{own}.")) and is_seen(name, functions, names_lemmas):
+                modules.seek(at)
+                module = modules.read(length)
+                # (a private constant counts where a contract names it; the value of a public one is declared)
+                if not name.endswith(".TheConstants") or any(it in module for it in constants):
+                    found.update(repr((name, module)).encode())
+    return found.hexdigest()
+
+
 class Kept:
     """What passed on this machine before, by the sum of all that it stands on: the mutant, the crate's files, and of each library below it
-    the definitions, the proof files and the functions without their bodies, since a check reads no more of a library."""
+    what a check of the crate reads of it."""
 
     def __init__(self, rt: ModuleType) -> None:
         self.rt, self.folder = rt, f"{store(rt)}/mutants"
-        self.below = functools.cache(lambda folder, rlib: sum_of([f"{folder}/specs", f"{folder}/proofs", f"{rlib}/lang/src"]))
+        self.below = functools.cache(self.libraries_of)
+
+    def libraries_of(self, crate: Any) -> list[tuple[str, str]]:
+        """Returns the names of the libraries below a crate, with the sums of what it reads of them."""
+        texts = [text_of(f"{at}/{it}") for part in self.rt.rtlib.PARTS for at, _, files in os.walk(f"{crate.folder}/{part}") for it in files]
+        named = {it[0] for text in texts for it in re.findall(r"\b(\w+)(\.|::)proofs\b", text)}
+        return [(it.name, seen_of(it.rlib, it.name in named)) for it in crate.below()]
 
     def place(self, *stands_on: object) -> str:
         return f"{self.folder}/{hashlib.sha256(repr((FORM, *stands_on)).encode()).hexdigest()}"
 
     def place_of(self, crate: Any, path: str) -> str:
-        libraries = [(it.name, self.below(it.folder, it.rlib)) for it in crate.below()]
+        libraries = self.below(crate)
         with open(path, "rb") as it:
             return self.place(own_sum(self.rt, crate), libraries, os.path.basename(path), it.read())
 
